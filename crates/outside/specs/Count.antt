@@ -1,5 +1,6 @@
 -- Counts of what went wrong: each is a counter of 64 bits that stops at its last value and never falls.
 use Rattle.std.specs.Prelude.{ℕ, ◌+◌, ◌-◌, ◌^◌, ◌≤◌, min}
+use Rattle.std.proofs.Common.{arith}
 
 -- a counter's next value, and at the last value that value
 abbrev pub next_count : ℕ → ℕ
@@ -13,6 +14,3 @@ Rose before now = next_count before ≤ now
 pub Rose-wider : {first before now last : ℕ} → first ≤ before → Rose before now → now ≤ last → Rose first last
 Rose-wider earlier rose later = omega arith
 
--- what a rise means
-pub Rose-cases : (before now : ℕ) → Rose before now → (before < now) ⊎ (2 ^ 64 - 1 ≤ now)
-Rose-cases before now rose = first_of (inr (omega arith), inl (omega arith))
