@@ -106,8 +106,8 @@ held_under-set name files i file d found same asked = by_name (bytes_eq name ask
     by_name false e =
         ap (option_map (λ f. f.bytes.items))
         (find-set_other (has_name asked) files i file d
-            (ap (λ n. bytes_eq n asked) named ∙ e)
-            (ap (λ n. bytes_eq n asked) (sym same ∙ named) ∙ e))
+        (ap (λ n. bytes_eq n asked) named ∙ e)
+        (ap (λ n. bytes_eq n asked) (sym same ∙ named) ∙ e))
 
 -- what is held after a file of a new name was put behind the others
 pub held_under-push : (name : List ℕ) (files : List HeldFile) (file : HeldFile) → position (has_name name) files ≡ None
@@ -119,8 +119,8 @@ held_under-push name files file absent named asked = by_name (bytes_eq name aske
     at_name =
         ap (option_map (λ f. f.bytes.items))
         (find-push_same (has_name name) files file
-            ((bytes_eq-Decides (string_bytes file.name) name).1 named)
-            (find-position (has_name name) files ∙ ap (option_and_then (slice_get files)) absent))
+        ((bytes_eq-Decides (string_bytes file.name) name).1 named)
+        (find-position (has_name name) files ∙ ap (option_and_then (slice_get files)) absent))
 
     by_name : (b : Bool) → bytes_eq name asked ≡ b
         → held_under (files ++ file ∷ []) asked ≡ (if b then Some file.bytes.items else held_under files asked)
@@ -141,7 +141,7 @@ held_under-found name files place found = by_file (slice_get_cases files place).
         ap (option_map (λ f. f.bytes.items)) (find-position (has_name name) files ∙ ap (option_and_then (slice_get files)) found)
 
     by_file : ((file : HeldFile) × (place < length files) × (slice_get files place ≡ Some file) × (get_or files place file ≡ file))
-            ⊎ ((length files ≤ place) × (slice_get files place ≡ None))
+        ⊎ ((length files ≤ place) × (slice_get files place ≡ None))
         → IsPlaceOf files name place
     by_file (inl there) =
         let file = there.0 in
@@ -180,7 +180,7 @@ open_name-within files opened file is_open within none = by_file (slice_get_case
     named = ap (open_name files) (sym is_open) ∙ none
 
     by_file : ((f : HeldFile) × (file.place < length files) × (slice_get files file.place ≡ Some f) × (get_or files file.place f ≡ f))
-            ⊎ ((length files ≤ file.place) × (slice_get files file.place ≡ None)) → ⊥
+        ⊎ ((length files ≤ file.place) × (slice_get files file.place ≡ None)) → ⊥
     by_file (inl there) =
         let e : Some (string_bytes there.0.name) ≡ None = ap (option_map (λ f. string_bytes f.name)) (sym there.2) ∙ named in cc
     by_file (inr past) = omega (arith, past.0)

@@ -29,10 +29,10 @@ pub Progress-write : {S : Type 0} {written : S → Option (List ℕ)} {faults su
 Progress-write {written} {first} {now} {bytes} {done} count rest is_rest so_far more within appended counts faultless spent = record {
   within = omega (arith, length-drop done bytes, ap length is_rest);
   appended =
-    appended
-    ∙ ap (λ known. append_known known (take count rest)) so_far.appended
-    ∙ append_known-append (written first) (take done bytes) (take count rest)
-    ∙ ap (append_known (written first)) (ap (λ part. take done bytes ++ take count part) is_rest ∙ sym (take-add done count bytes));
+      appended
+      ∙ ap (λ known. append_known known (take count rest)) so_far.appended
+      ∙ append_known-append (written first) (take done bytes) (take count rest)
+      ∙ ap (append_known (written first)) (ap (λ part. take done bytes ++ take count part) is_rest ∙ sym (take-add done count bytes));
   counts = omega (arith, so_far.counts);
   faultless = λ enough. faultless (omega (arith, so_far.spent)) ∙ so_far.faultless enough;
   spent = omega (arith, so_far.spent);

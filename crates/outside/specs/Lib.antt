@@ -4,3 +4,4 @@ pub mod HeldFiles
 pub mod MemFiles
 pub mod MemSink
 pub mod Sink
+pub mod Taken

@@ -1,5 +1,5 @@
 //! Files in memory, for tests: reads come in pieces, and the calls that a list names fail.
-ghost use Rattle.std.specs.Prelude.{◌≡◌, ◌≢◌, ℕ, ◌<◌, ◌≤◌, List, [], length, take, IsSome, IfSome, IfOk, OnOk, OnErr, IsOk, IsErrOf, Some, None, if◌then◌else◌};
+ghost use Rattle.std.specs.Prelude.{◌≡◌, ◌≢◌, ℕ, ◌<◌, ◌≤◌, List, [], ◌++◌, length, take, IsSome, IfSome, IfOk, OnOk, OnErr, IsOk, IsErrOf, Some, None, if◌then◌else◌};
 ghost use Rattle.std.specs.Option.{ForSome};
 ghost use Rattle.std.specs.Io.KnownBytes.{prepend_known, IsAtEnd};
 ghost use Rattle.std.specs.Str.{bytes_eq};
@@ -34,14 +34,15 @@ pub struct MemFiles {
 }
 
 impl MemFiles {
-    ghost use Rattle.outside.specs.MemFiles.{held_in, rest_in, name_in, blamed_in, FailsNever, KeepsCalls, IsUnchanged};
+    ghost use Rattle.outside.specs.MemFiles.{held_in, rest_in, name_in, FailsNever, IsFresh, HasLimits, KeepsCalls, IsUnchanged};
 
     /// No file is held, and nothing has failed. It takes no memory.
     pub fn new(alloc: Global, cap: usize, fail_opens: Vec<u64>, fail_reads: Vec<u64>) -> MemFiles
         requires { 1 ≤ cap }
         ensures held { (name : List ℕ) → held_in result name ≡ None }
         ensures closed { (name_in result ≡ None) × (rest_in result ≡ []) }
-        ensures counts { (result.faults ≡ 0) × (result.misses ≡ 0) × (blamed_in result ≡ None) }
+        ensures fresh { IsFresh result }
+        ensures limits { HasLimits result cap fail_opens.items fail_reads.items }
         ensures reliable { fail_opens.items ≡ [] → fail_reads.items ≡ [] → FailsNever result }
     {
         MemFiles {
@@ -76,7 +77,7 @@ impl MemFiles {
 }
 
 impl Files for MemFiles {
-    ghost use Rattle.outside.specs.MemFiles.{held_in, rest_in, name_in, blamed_in, FailsNever, is_next, open_answer, read_answer};
+    ghost use Rattle.outside.specs.MemFiles.{held_in, rest_in, name_in, blamed_in, faults_in, misses_in, FailsNever, OpensAs, ReadsAs};
 
     ghost held = { λ files. Some (held_in files) };
 
@@ -86,13 +87,19 @@ impl Files for MemFiles {
 
     ghost blamed = { blamed_in };
 
-    ghost faults = { λ files. files.faults };
+    ghost faults = { faults_in };
 
-    ghost misses = { λ files. files.misses };
+    ghost misses = { misses_in };
 
     ghost reliable = { FailsNever };
 
-    fn open_file(&mut self, name: &str) -> Result<(), OpenFault> {
+    fn open_file(&mut self, name: &str) -> Result<(), OpenFault>
+        ensures exact { OpensAs self.old name.now result self.new }
+        ensures opened { OnOk result (Opens (Some (held_in self.old)) name.now (name_in self.new) (Some (rest_in self.new))) }
+        ensures blame { BlamesOpen result name.now (blamed_in self.old) (blamed_in self.new) }
+        ensures closed { OnErr result ((name_in self.new ≡ None) × (rest_in self.new ≡ [])) }
+        ensures counts { (faults_in self.old ≤ faults_in self.new) × (misses_in self.old ≤ misses_in self.new) }
+    {
         self.opened = None;
         self.opens = next(self.opens);
         let place = place_of(&self.files, name);
@@ -113,7 +120,15 @@ impl Files for MemFiles {
         }
     }
 
-    fn read(&mut self, buf: &mut [u8]) -> Result<usize, Failed> {
+    fn read(&mut self, buf: &mut [u8]) -> Result<usize, Failed>
+        ensures exact { ReadsAs self.old (length buf.old) result self.new }
+        ensures taken { IfOk result (λ m. rest_in self.old ≡ take m buf.new ++ rest_in self.new) }
+        ensures stays_open { OnOk result ((name_in self.new ≡ name_in self.old) × (blamed_in self.new ≡ blamed_in self.old)) }
+        ensures none_open { name_in self.old ≡ None → result ≡ Ok 0 }
+        ensures closed { OnErr result ((name_in self.new ≡ None) × (rest_in self.new ≡ [])) }
+        ensures blame { OnErr result (IfSome (blamed_in self.new) (λ blamed. name_in self.old ≡ Some blamed)) }
+        ensures counts { (faults_in self.old ≤ faults_in self.new) × (misses_in self.old ≤ misses_in self.new) }
+    {
         let Some(file) = self.opened else {
             return Ok(0);
         };

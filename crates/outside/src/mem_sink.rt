@@ -1,5 +1,5 @@
 //! A sink in memory, for tests: writes are taken in pieces, and the calls that a list names fail.
-ghost use Rattle.std.specs.Prelude.{◌≡◌, ℕ, ◌+◌, ◌<◌, ◌≤◌, [], length, take, IfOk, OnErr, IsOk, Some};
+ghost use Rattle.std.specs.Prelude.{◌≡◌, ℕ, ◌+◌, ◌++◌, ◌<◌, ◌≤◌, [], length, take, IfOk, OnErr, IsOk, Some};
 ghost use Rattle.std.specs.Vec.{vec_capacity};
 ghost use Rattle.std.specs.Io.KnownBytes.{append_known};
 ghost use Rattle.outside.specs.Count.{next_count, Rose};
@@ -24,7 +24,7 @@ pub struct MemSink {
 }
 
 impl MemSink {
-    ghost use Rattle.outside.specs.MemSink.{bytes_in, sure_in};
+    ghost use Rattle.outside.specs.MemSink.{bytes_in, sure_in, IsFresh, HasLimits};
 
     /// Nothing is written, and nothing has failed.
     pub fn new(
@@ -35,7 +35,8 @@ impl MemSink {
     ) -> Result<MemSink, NoMemory>
         requires { 1 ≤ cap }
         ensures empty { IfOk result (λ sink. bytes_in sink ≡ []) }
-        ensures counts { IfOk result (λ sink. sink.faults ≡ 0) }
+        ensures fresh { IfOk result IsFresh }
+        ensures limits { IfOk result (λ sink. HasLimits sink room cap fail_writes.items) }
         ensures sure { fail_writes.items ≡ [] → IfOk result (λ sink. sure_in sink ≡ room) }
     {
         Ok(MemSink {
@@ -57,15 +58,21 @@ impl MemSink {
 }
 
 impl Sink for MemSink {
-    ghost use Rattle.outside.specs.MemSink.{bytes_in, sure_in, write_answer};
+    ghost use Rattle.outside.specs.MemSink.{bytes_in, faults_in, sure_in, WritesAs};
 
     ghost written = { λ sink. Some (bytes_in sink) };
 
-    ghost faults = { λ sink. sink.faults };
+    ghost faults = { faults_in };
 
     ghost sure = { sure_in };
 
-    fn write(&mut self, bytes: &[u8]) -> Result<usize, Failed> {
+    fn write(&mut self, bytes: &[u8]) -> Result<usize, Failed>
+        ensures exact { WritesAs self.old (length bytes.now) result self.new }
+        ensures amount { IfOk result (λ m. (m ≤ length bytes.now) × (0 < length bytes.now → 0 < m)) }
+        ensures appended { IfOk result (λ m. bytes_in self.new ≡ bytes_in self.old ++ take m bytes.now) }
+        ensures failed { OnErr result (Rose (faults_in self.old) (faults_in self.new) × (bytes_in self.new ≡ bytes_in self.old)) }
+        ensures counts { faults_in self.old ≤ faults_in self.new }
+    {
         self.writes = next(self.writes);
         let room = self.room - self.bytes.len();
         let is_full = room == 0 && !bytes.is_empty();

@@ -20,9 +20,9 @@ pub returns-in_ok-push-in-None-clause-held : goal.returns-in_ok-push-in-None-cla
 returns-in_ok-push-in-None-clause-held c asked =
     rw c.in_ok-push-in-None.ensures.items
     (held_under-push c.args.name.now c.args.files.now.items _
-        (ap (position _) (sym c.deref.ensures.value) ∙ sym c.place_of.ensures.first ∙ c.in-None.is)
-        c.in_ok-name-in-None.ensures.ok
-        asked)
+    (ap (position _) (sym c.deref.ensures.value) ∙ sym c.place_of.ensures.first ∙ c.in-None.is)
+    c.in_ok-name-in-None.ensures.ok
+    asked)
 
 pub returns-in_ok-push-in-None-clause-names : goal.returns-in_ok-push-in-None-clause-names
 returns-in_ok-push-in-None-clause-names c place within =

@@ -6,7 +6,7 @@ use Rattle.outside.proofs.held_files.take_piece.Goals as goal
 pub returns-clause-taken : goal.returns-clause-taken
 returns-clause-taken c =
     let here : bytes_at c.args.files.now c.args.file.place ≡ c.deref.result.now =
-      bytes_at-get_or c.args.files.now c.args.file.place c.index-files-file.result c.requires.0 ∙ sym c.deref.ensures.value in
+    bytes_at-get_or c.args.files.now c.args.file.place c.index-files-file.result c.requires.0 ∙ sym c.deref.ensures.value in
     pieces_of-rest _ c.deref.result.now c.args.file.taken c.min-count.result c.copy_from_slice.new.self _ here
     c.copy_from_slice.ensures.after
     (omega (arith, length-drop c.args.file.taken c.deref.result.now))
@@ -14,5 +14,5 @@ returns-clause-taken c =
 pub returns-clause-among_held : goal.returns-clause-among_held
 returns-clause-among_held c =
     let here : bytes_at c.args.files.now c.args.file.place ≡ c.deref.result.now =
-      bytes_at-get_or c.args.files.now c.args.file.place c.index-files-file.result c.requires.0 ∙ sym c.deref.ensures.value in
+    bytes_at-get_or c.args.files.now c.args.file.place c.index-files-file.result c.requires.0 ∙ sym c.deref.ensures.value in
     (c.requires.0, omega (arith, ap length here, c.requires.1, length-drop c.args.file.taken c.deref.result.now))

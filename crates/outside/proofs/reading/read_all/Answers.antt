@@ -1,6 +1,6 @@
 use Rattle.std.proofs.Common.{◌≡◌, ℕ, ◌+◌, ◌≤◌, ◌++◌, length, take, arith, length-append}
 use Rattle.std.proofs.lemmas.List.{length-take, length-take-le}
-use Rattle.outside.proofs.Gathering.{taken_then, longer-prepend, TakesAtMost-prepend}
+use Rattle.outside.specs.Taken.{taken_then, longer-prepend, TakesAtMost-prepend}
 use Rattle.outside.proofs.reading.read_all.Goals as goal
 
 pub returns-then-count-within-clause-longer : goal.returns-then-count-within-clause-longer
