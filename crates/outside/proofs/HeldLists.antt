@@ -1,5 +1,5 @@
 -- Lists of held files: what is found by name, at a place, and after a file was put.
-use Rattle.std.proofs.Common.{◌≡◌, ℕ, Bool, true, false, suc, zero, cond, ◌+◌, ◌-◌, ◌<◌, ◌≤◌, ◌⊎◌, inl, inr, List, [], ◌∷◌, ◌++◌, length, take, drop, Option, Some, None, ap, sym, ◌∙◌, refl, arith, get_or, if◌then◌else◌, subst, Decides, ltb, nat_lt}
+use Rattle.std.proofs.Common.{◌≡◌, ℕ, Bool, true, false, suc, zero, cond, ◌+◌, ◌-◌, ◌<◌, ◌≤◌, ◌⊎◌, inl, inr, List, [], ◌∷◌, ◌++◌, length, take, drop, Option, Some, None, ap, sym, ◌∙◌, refl, arith, get_or, if◌then◌else◌, subst, nat_lt}
 use Rattle.std.proofs.Math.ListN.{set}
 use Rattle.std.specs.List.{find, position, position_or_len, slice_get}
 use Rattle.std.specs.Option.{option_map, option_map_or, option_and_then, IfSome, IfNone}

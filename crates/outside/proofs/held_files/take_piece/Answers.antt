@@ -1,4 +1,4 @@
-use Rattle.std.proofs.Common.{◌≡◌, ◌≤◌, ◌∙◌, ap, sym, length, arith, length-drop}
+use Rattle.std.proofs.Common.{◌≡◌, ◌∙◌, ap, sym, length, arith, length-drop}
 use Rattle.outside.proofs.HeldLists.{bytes_at-get_or, pieces_of-rest}
 use Rattle.outside.specs.HeldFiles.{bytes_at}
 use Rattle.outside.proofs.held_files.take_piece.Goals as goal

@@ -1,4 +1,4 @@
-use Rattle.std.proofs.Common.{◌≡◌, ◌<◌, length, subst, Some, ℕ}
+use Rattle.std.proofs.Common.{◌≡◌, ◌<◌, length, subst, ℕ}
 use Rattle.outside.proofs.HeldLists.{open_name-within}
 use Rattle.outside.proofs.mem_files.MemFilesFiles.read.Goals as goal
 
