@@ -21,7 +21,8 @@ abbrev pub Blames : Option (List ℕ) → Option (List ℕ) → Type 0
 Blames name now = IfSome now (λ blamed. name ≡ Some blamed)
 
 -- the blamed name after opening a file: where that failed its name, if told, and else the one before
-abbrev pub BlamesOpen : {T : Type 0} → Result T OpenFault → List ℕ → Option (List ℕ) → Option (List ℕ) → Type 0
+abbrev pub BlamesOpen : {T : Type 0} → Result T OpenFault → List ℕ → Option (List ℕ)
+    → Option (List ℕ) → Type 0
 BlamesOpen (Err Failed) name before now = IfSome now (λ blamed. blamed ≡ name)
 BlamesOpen _ name before now = now ≡ before
 

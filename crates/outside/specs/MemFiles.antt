@@ -69,7 +69,7 @@ open_answer files name =
     if is_next files.opens files.fail_opens.items then Err OpenFailed
     else (if is_some (held_in files name) then Ok tt else Err Absent)
 
--- A read of the open file fails where it is listed; else it gives the least of the cap, the room and what is left.
+-- A read of the open file fails where it is listed; else it gives the least of cap, room and what is left.
 abbrev pub read_answer : MemFiles → ℕ → Result ℕ Failed
 read_answer files room =
     if is_none files.opened then Ok 0
@@ -84,18 +84,22 @@ pub record SameFiles (old new : MemFiles) : Type 0 where
   pub fail_reads : new.fail_reads.items ≡ old.fail_reads.items
 
 -- opening a file answers as it must, and is counted
-pub record OpensAs (old : MemFiles) (name : List ℕ) (result : Result (Unit {0}) OpenFault) (new : MemFiles) : Type 0 where
+pub record OpensAs (old : MemFiles) (name : List ℕ) (result : Result (Unit {0}) OpenFault)
+    (new : MemFiles) : Type 0 where
   pub answer : result ≡ open_answer old name
   pub counted : (new.opens ≡ next_count old.opens) × (new.reads ≡ old.reads)
-  pub faults : new.faults ≡ (if is_next old.opens old.fail_opens.items then next_count old.faults else old.faults)
+  pub faults : new.faults
+      ≡ (if is_next old.opens old.fail_opens.items then next_count old.faults else old.faults)
   pub misses : new.misses ≡ (if is_absent result then next_count old.misses else old.misses)
-  pub blamed : blamed_in new ≡ (if is_next old.opens old.fail_opens.items then held_name old name else blamed_in old)
+  pub blamed : blamed_in new
+      ≡ (if is_next old.opens old.fail_opens.items then held_name old name else blamed_in old)
   pub same : SameFiles old new
 
 -- a read answers as it must, and is counted where a file is open
 pub record ReadsAs (old : MemFiles) (room : ℕ) (result : Result ℕ Failed) (new : MemFiles) : Type 0 where
   pub answer : result ≡ read_answer old room
-  pub counted : (new.opens ≡ old.opens) × (new.reads ≡ (if is_none old.opened then old.reads else next_count old.reads))
+  pub counted : (new.opens ≡ old.opens)
+      × (new.reads ≡ (if is_none old.opened then old.reads else next_count old.reads))
   pub faults : new.faults ≡ (if is_ok result then old.faults else next_count old.faults)
   pub misses : new.misses ≡ old.misses
   pub blamed : blamed_in new ≡ (if is_ok result then blamed_in old else name_in old)
