@@ -1,8 +1,9 @@
 -- The main result is `breakpoint_ascends`: of two places of a table the later holds the greater breakpoint.
-use Rattle.std.proofs.Common.{◌≡◌, ℕ, zero, suc, ◌+◌, ◌-◌, ◌<◌, ◌≤◌, ◌<ℤ◌, Bool, true, false, refl, arith, get_or, length, sym, ◌∙◌, ap, subst}
+use Rattle.std.proofs.Common.{◌≡◌, ℕ, zero, suc, ◌+◌, ◌-◌, ◌<◌, ◌≤◌, pos, neg_ℤ, ◌<ℤ◌, ◌≤ℤ◌, ⊎_elim, Bool, true, false, refl, arith, get_or, length, sym, ◌∙◌, ap, subst}
 use Rattle.std.specs.Prelude.{int_lt}
 use Rattle.std.specs.List.{list_all, range_with_len}
 use Rattle.std.proofs.lemmas.Int.{ints}
+use Rattle.std.proofs.lemmas.Bool.{cases_lt}
 use Rattle.std.proofs.lemmas.List.Folds.{list_all_at}
 use Rattle.std.proofs.lemmas.List.FromFn.{get_or-range_with_len, length-range_with_len}
 use Rattle.breakpoints.specs.declared.table.Table.{Table}
@@ -55,3 +56,21 @@ breakpoint_ascends t i j first before last =
     let there : i + suc (j - suc i) ≡ j = omega arith in
     let above = later_above t i (j - suc i) first (omega arith) in
     subst (λ k. breakpoint t i <ℤ breakpoint t k) there above
+
+-- of two places of a table no earlier one holds a greater breakpoint
+pub breakpoint_rises : (t : Table) (i j : ℕ) → 1 ≤ i → i ≤ j → j ≤ 255 → breakpoint t i ≤ℤ breakpoint t j
+breakpoint_rises t i j first before last =
+    ⊎_elim (λ later. omega (arith, ints, breakpoint_ascends t i j first later last))
+      (λ same. let one : i ≡ j = omega arith in
+        subst (λ k. breakpoint t i ≤ℤ breakpoint t k) one (omega (arith, ints)))
+      (cases_lt i j)
+
+-- the breakpoints of a table lie from -32512 to 32512
+pub breakpoint_within : (t : Table) (i : ℕ) → 1 ≤ i → i ≤ 255
+    → (neg_ℤ (pos 32512) ≤ℤ breakpoint t i) × (breakpoint t i ≤ℤ pos 32512)
+breakpoint_within Flat i first last =
+    (omega (arith, ints, breakpoint_rises Flat 1 i (omega arith) first last),
+      omega (arith, ints, breakpoint_rises Flat i 255 first last (omega arith)))
+breakpoint_within Bent i first last =
+    (omega (arith, ints, breakpoint_rises Bent 1 i (omega arith) first last),
+      omega (arith, ints, breakpoint_rises Bent i 255 first last (omega arith)))

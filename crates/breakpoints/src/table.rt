@@ -1,5 +1,5 @@
 //! The two tables, the breakpoint at a place, and the law that each table ascends.
-ghost use Rattle.std.specs.Prelude.{ℕ, ◌≡◌, ◌<◌, ◌≤◌, ◌<ℤ◌};
+ghost use Rattle.std.specs.Prelude.{◌≡◌, ◌<◌, ◌≤◌, pos, neg_ℤ, ◌≤ℤ◌, ◌<ℤ◌};
 ghost use Rattle.breakpoints.specs.Breakpoint.{breakpoint};
 
 /// Which of the two tables of breakpoints. Its places run from 1 to 255 and place 128 holds 0.
@@ -12,11 +12,13 @@ pub enum Table {
 }
 
 impl Table {
-    /// The breakpoint at place `i`, a value of a series.
+    /// The breakpoint at place `i`, which lies from -32512 to 32512.
     pub fn at(self, i: u32) -> i32
         requires first { 1 ≤ i }
         requires last { i ≤ 255 }
-        ensures { result ≡ breakpoint self i }
+        ensures value { result ≡ breakpoint self i }
+        ensures not_low { neg_ℤ (pos 32512) ≤ℤ result }
+        ensures not_high { result ≤ℤ pos 32512 }
     {
         let from_middle = i as i32 - 128;
         match self {

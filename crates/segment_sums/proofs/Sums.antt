@@ -1,13 +1,14 @@
 -- Sums of the values of a segment: one of l values of 16 bits lies from -32768 * l to 32767 * l (`segment_sum_within`).
-use Rattle.std.proofs.Common.{◌≡◌, ℕ, ◌+◌, ◌*◌, ◌<◌, ◌≤◌, ℤ, pos, neg_ℤ, ◌≤ℤ◌, arith, List, [], ◌∷◌, length, drop, subst}
+use Rattle.std.proofs.Common.{◌≡◌, ℕ, ◌+◌, ◌*◌, ◌<◌, ◌≤◌, ℤ, pos, neg_ℤ, ◌≤ℤ◌, arith, List, [], ◌∷◌, ◌++◌, length, drop, get_or, replicate, ap, ◌∙◌, subst}
 use Rattle.std.specs.Prelude.{FitsSigned}
 use Rattle.std.specs.Int.{w16}
 use Rattle.std.specs.List.{All}
 use Rattle.std.proofs.lemmas.Int.{ints}
-use Rattle.std.proofs.lemmas.List.{length-take-le, length-drop}
+use Rattle.std.proofs.lemmas.List.{length-take-le, length-drop, get_or_append_left}
+use Rattle.std.proofs.lemmas.List.FromFn.{length-map-range_with_len, get_or-map-range_with_len}
 use Rattle.std.proofs.lemmas.List.Elements.{All-take, All-drop, All-head, All-tail}
 use Rattle.segment_sums.specs.Division.{Division, IsDivision, cut_place, segment_length}
-use Rattle.segment_sums.specs.Sum.{signed_sum, segment_values, segment_sum}
+use Rattle.segment_sums.specs.Sum.{signed_sum, segment_values, segment_sum, segment_sums}
 use Rattle.segment_sums.proofs.Places.{cut_place_inside}
 
 -- a sum of values of 16 bits lies within the number of values times the least and the greatest value
@@ -39,3 +40,12 @@ segment_sum_within d row j is whole fit used =
     let long : length values ≡ segment_length d j = length-segment_values d row j is whole used in
     subst (λ n. (neg_ℤ (pos (32768 * n)) ≤ℤ segment_sum d row j) × (segment_sum d row j ≤ℤ pos (32767 * n)))
     long (signed_sum_within values fits)
+
+-- the sums of all segments with a padding behind them hold at each segment its sum
+pub segment_sums_at : (d : Division) (row sums : List ℤ) (n j : ℕ) → sums ≡ segment_sums d row ++ replicate n (pos 0)
+    → j < d.segments → get_or sums j (pos 0) ≡ segment_sum d row j
+segment_sums_at d row sums n j are used =
+    let long : length (segment_sums d row) ≡ d.segments = length-map-range_with_len (segment_sum d row) 0 d.segments in
+    ap (λ l. get_or l j (pos 0)) are
+      ∙ get_or_append_left (segment_sums d row) (replicate n (pos 0)) (pos 0) j (omega (arith, long))
+      ∙ get_or-map-range_with_len (segment_sum d row) 0 d.segments j j (pos 0) used (omega arith)
