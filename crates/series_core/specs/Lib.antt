@@ -1,0 +1,8 @@
+-- What a search speaks of, from one series to a whole answer.
+pub mod Collection
+pub mod Distance
+pub mod Pairs
+pub mod Order
+pub mod Answer
+pub mod Flat
+pub mod Best
