@@ -61,16 +61,18 @@ breakpoint_ascends t i j first before last =
 pub breakpoint_rises : (t : Table) (i j : ℕ) → 1 ≤ i → i ≤ j → j ≤ 255 → breakpoint t i ≤ℤ breakpoint t j
 breakpoint_rises t i j first before last =
     ⊎_elim (λ later. omega (arith, ints, breakpoint_ascends t i j first later last))
-      (λ same. let one : i ≡ j = omega arith in
-        subst (λ k. breakpoint t i ≤ℤ breakpoint t k) one (omega (arith, ints)))
-      (cases_lt i j)
+    (λ same. let one : i ≡ j = omega arith in
+    subst (λ k. breakpoint t i ≤ℤ breakpoint t k) one (omega (arith, ints)))
+    (cases_lt i j)
 
 -- the breakpoints of a table lie from -32512 to 32512
 pub breakpoint_within : (t : Table) (i : ℕ) → 1 ≤ i → i ≤ 255
     → (neg_ℤ (pos 32512) ≤ℤ breakpoint t i) × (breakpoint t i ≤ℤ pos 32512)
-breakpoint_within Flat i first last =
-    (omega (arith, ints, breakpoint_rises Flat 1 i (omega arith) first last),
-      omega (arith, ints, breakpoint_rises Flat i 255 first last (omega arith)))
-breakpoint_within Bent i first last =
-    (omega (arith, ints, breakpoint_rises Bent 1 i (omega arith) first last),
-      omega (arith, ints, breakpoint_rises Bent i 255 first last (omega arith)))
+breakpoint_within Flat i first last = (
+  omega (arith, ints, breakpoint_rises Flat 1 i (omega arith) first last),
+  omega (arith, ints, breakpoint_rises Flat i 255 first last (omega arith)),
+)
+breakpoint_within Bent i first last = (
+  omega (arith, ints, breakpoint_rises Bent 1 i (omega arith) first last),
+  omega (arith, ints, breakpoint_rises Bent i 255 first last (omega arith)),
+)

@@ -21,7 +21,7 @@ pub cut_place_first : (d : Division) → cut_place d 0 ≡ 0
 cut_place_first d = omega (arith, div-mul-le_self (0 * d.row_length) d.segments)
 
 -- a quotient by a number that is not 0 rises with what is divided
-quotient_rises : (m n w : ℕ) → 0 < w → m ≤ n → m / w ≤ n / w
+pub quotient_rises : (m n w : ℕ) → 0 < w → m ≤ n → m / w ≤ n / w
 quotient_rises m n w some below =
     le-div (m / w) n w some (omega (arith, div-mul-le_self m w))
 

@@ -47,5 +47,5 @@ pub segment_sums_at : (d : Division) (row sums : List ℤ) (n j : ℕ) → sums 
 segment_sums_at d row sums n j are used =
     let long : length (segment_sums d row) ≡ d.segments = length-map-range_with_len (segment_sum d row) 0 d.segments in
     ap (λ l. get_or l j (pos 0)) are
-      ∙ get_or_append_left (segment_sums d row) (replicate n (pos 0)) (pos 0) j (omega (arith, long))
-      ∙ get_or-map-range_with_len (segment_sum d row) 0 d.segments j j (pos 0) used (omega arith)
+    ∙ get_or_append_left (segment_sums d row) (replicate n (pos 0)) (pos 0) j (omega (arith, long))
+    ∙ get_or-map-range_with_len (segment_sum d row) 0 d.segments j j (pos 0) used (omega arith)
