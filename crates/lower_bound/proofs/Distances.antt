@@ -21,10 +21,11 @@ twice_product a b = ⊎_elim (λ less. more a b (omega arith)) (λ least. omega 
   where
     by_excess : (a k : ℕ) → 2 * (a * (a + k)) ≤ a * a + (a + k) * (a + k)
     by_excess a k = omega arith
+
     more : (a b : ℕ) → a ≤ b → 2 * (a * b) ≤ a * a + b * b
     more a b less =
-      let is : a + (b - a) ≡ b = omega arith in
-      subst (λ n. 2 * (a * n) ≤ a * a + n * n) is (by_excess a (b - a))
+        let is : a + (b - a) ≡ b = omega arith in
+        subst (λ n. 2 * (a * n) ≤ a * a + n * n) is (by_excess a (b - a))
 
 -- twice the products of one number with all differences are at most their squares and as many of its square
 twice_products : (a : ℕ) (xs ys : List ℤ) → length xs ≡ length ys
@@ -33,7 +34,7 @@ twice_products a [] ys same = omega arith
 twice_products a (x ∷ xs) [] same = absurd (omega arith)
 twice_products a (x ∷ xs) (y ∷ ys) same =
     let here : 2 * (a * unsigned_abs (x -ℤ y)) ≤ a * a + unsigned_abs (x -ℤ y) * unsigned_abs (x -ℤ y)
-          = twice_product a (unsigned_abs (x -ℤ y)) in
+    = twice_product a (unsigned_abs (x -ℤ y)) in
     let rest = twice_products a xs ys (omega arith) in
     by_parts a (unsigned_abs (x -ℤ y)) (apart xs ys) (squared_distance xs ys) (length xs) here rest
   where
@@ -48,7 +49,7 @@ apart_squared [] ys same = omega arith
 apart_squared (x ∷ xs) [] same = absurd (omega arith)
 apart_squared (x ∷ xs) (y ∷ ys) same =
     by_parts (unsigned_abs (x -ℤ y)) (apart xs ys) (squared_distance xs ys) (length xs)
-      (twice_products (unsigned_abs (x -ℤ y)) xs ys (omega arith)) (apart_squared xs ys (omega arith))
+    (twice_products (unsigned_abs (x -ℤ y)) xs ys (omega arith)) (apart_squared xs ys (omega arith))
   where
     by_parts : (u v e n : ℕ) → 2 * (u * v) ≤ e + n * (u * u) → v * v ≤ n * e
         → (u + v) * (u + v) ≤ suc n * (u * u + e)
@@ -66,9 +67,13 @@ sums_apart [] (y ∷ ys) same = absurd (omega arith)
 sums_apart (x ∷ xs) [] same = absurd (omega arith)
 sums_apart (x ∷ xs) (y ∷ ys) same =
     let parts : (x +ℤ signed_sum xs) -ℤ (y +ℤ signed_sum ys) ≡ (x -ℤ y) +ℤ (signed_sum xs -ℤ signed_sum ys)
-          = omega (arith, ints) in
-    omega (arith, ap (λ z. unsigned_abs z) parts, abs_sum (x -ℤ y) (signed_sum xs -ℤ signed_sum ys),
-      sums_apart xs ys (omega arith))
+    = omega (arith, ints) in
+    omega (
+      arith,
+      ap (λ z. unsigned_abs z) parts,
+      abs_sum (x -ℤ y) (signed_sum xs -ℤ signed_sum ys),
+      sums_apart xs ys (omega arith),
+    )
 
 -- a number below the difference of two sums has a square of at most their length times the distance
 pub difference_of_sums : (g : ℕ) (xs ys : List ℤ) → length xs ≡ length ys

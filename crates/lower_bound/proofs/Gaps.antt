@@ -15,7 +15,7 @@ use Rattle.isax_word.specs.Symbol.{symbol_of}
 use Rattle.isax_word.specs.Word.{IsPart}
 use Rattle.isax_word.proofs.Scaled.{scaled_rises}
 use Rattle.isax_word.proofs.Symbols.{symbol-le, symbol_reached, symbol_unreached}
-use Rattle.lower_bound.specs.Gap.{excess, gap_below, gap_above, gap, cost_of_gap, first_symbol, end_symbol, part_cost, symbol_cost}
+use Rattle.lower_bound.specs.Gap.{excess, gap_below, gap_above, gap, cost_of_gap, first_symbol, end_symbol, part_cost, symbol_cost, nearest_symbol}
 use borrow.Author.Differences.{up, down}
 
 -- an excess is a difference that stops at 0
@@ -49,18 +49,18 @@ pub gap_below_none : (t : Table) (l : ℕ) (s : ℤ) (a : ℕ) → a ≤ symbol_
 gap_below_none t l s zero inside = refl
 gap_below_none t l s (suc a) inside =
     gap_below_at t l s (suc a) (omega arith)
-      ∙ excess_none (scaled t l (suc a)) s (symbol_reached t l s (suc a) (omega arith) inside)
+    ∙ excess_none (scaled t l (suc a)) s (symbol_reached t l s (suc a) (omega arith) inside)
 
 -- no gap lies above a sum whose symbol is before the end
 pub gap_above_none : (t : Table) (l : ℕ) (s : ℤ) (b : ℕ) → symbol_of t l s < b → b ≤ 256 → gap_above t l s b ≡ 0
 gap_above_none t l s b inside last =
     ⊎_elim
-      (λ closed.
-        let beyond : s <ℤ scaled t l b = symbol_unreached t l s b inside (omega arith) in
-        gap_above_at t l s b (omega arith)
-          ∙ excess_none s (scaled t l b -ℤ pos 1) (omega (arith, ints, beyond)))
-      (λ open_end. let end : b ≡ 256 = omega arith in ap (λ k. gap_above t l s k) end)
-      (cases_lt b 256)
+    (λ closed.
+    let beyond : s <ℤ scaled t l b = symbol_unreached t l s b inside (omega arith) in
+    gap_above_at t l s b (omega arith)
+    ∙ excess_none s (scaled t l b -ℤ pos 1) (omega (arith, ints, beyond)))
+    (λ open_end. let end : b ≡ 256 = omega arith in ap (λ k. gap_above t l s k) end)
+    (cases_lt b 256)
 
 -- the gap below does not fall where the first symbol rises
 pub gap_below_rises : (t : Table) (l : ℕ) (s : ℤ) (a a' : ℕ) → a ≤ a' → a' ≤ 255
@@ -68,25 +68,33 @@ pub gap_below_rises : (t : Table) (l : ℕ) (s : ℤ) (a a' : ℕ) → a ≤ a' 
 gap_below_rises t l s zero a' before last = omega arith
 gap_below_rises t l s (suc a) a' before last =
     let more = scaled_rises l (breakpoint t (suc a)) (breakpoint t a') (breakpoint_rises t (suc a) a' (omega arith) before last) in
-    omega (arith, gap_below_at t l s (suc a) (omega arith), gap_below_at t l s a' (omega arith),
-      excess_rises (scaled t l (suc a)) s (scaled t l a') s more (omega (arith, ints)))
+    omega (
+      arith,
+      gap_below_at t l s (suc a) (omega arith),
+      gap_below_at t l s a' (omega arith),
+      excess_rises (scaled t l (suc a)) s (scaled t l a') s more (omega (arith, ints)),
+    )
 
 -- the gap above does not fall where the end falls
 pub gap_above_falls : (t : Table) (l : ℕ) (s : ℤ) (b b' : ℕ) → 1 ≤ b' → b' ≤ b → b ≤ 256
     → gap_above t l s b ≤ gap_above t l s b'
 gap_above_falls t l s b b' some before last =
     ⊎_elim
-      (λ closed.
-        let more : scaled t l b' ≤ℤ scaled t l b
-              = scaled_rises l (breakpoint t b') (breakpoint t b) (breakpoint_rises t b' b some before (omega arith)) in
-        let less : (scaled t l b' -ℤ pos 1) ≤ℤ (scaled t l b -ℤ pos 1) = omega (arith, ints, more) in
-        omega (arith, gap_above_at t l s b (omega arith), gap_above_at t l s b' (omega arith),
-          excess_rises s (scaled t l b -ℤ pos 1) s (scaled t l b' -ℤ pos 1) (omega (arith, ints)) less))
-      (λ open_end.
-        let end : b ≡ 256 = omega arith in
-        let none : gap_above t l s b ≡ 0 = ap (λ k. gap_above t l s k) end in
-        omega (arith, none))
-      (cases_lt b 256)
+    (λ closed.
+    let more : scaled t l b' ≤ℤ scaled t l b
+    = scaled_rises l (breakpoint t b') (breakpoint t b) (breakpoint_rises t b' b some before (omega arith)) in
+    let less : (scaled t l b' -ℤ pos 1) ≤ℤ (scaled t l b -ℤ pos 1) = omega (arith, ints, more) in
+    omega (
+      arith,
+      gap_above_at t l s b (omega arith),
+      gap_above_at t l s b' (omega arith),
+      excess_rises s (scaled t l b -ℤ pos 1) s (scaled t l b' -ℤ pos 1) (omega (arith, ints)) less,
+    ))
+    (λ open_end.
+    let end : b ≡ 256 = omega arith in
+    let none : gap_above t l s b ≡ 0 = ap (λ k. gap_above t l s k) end in
+    omega (arith, none))
+    (cases_lt b 256)
 
 -- a prefix within another has no smaller gap
 pub gap_rises : (t : Table) (l : ℕ) (s : ℤ) (a b a' b' : ℕ) → a ≤ a' → a' < b' → b' ≤ b → b ≤ 256
@@ -94,7 +102,7 @@ pub gap_rises : (t : Table) (l : ℕ) (s : ℤ) (a b a' b' : ℕ) → a ≤ a' �
 gap_rises t l s a b a' b' first some end last =
     omega (arith, gap_below_rises t l s a a' first (omega arith), gap_above_falls t l s b b' (omega arith) end last)
 
--- the symbol of a prefix that is nearest to another symbol
+-- the nearest to a symbol from one up to another, the latter left out
 abbrev pub nearest : ℕ → ℕ → ℕ → ℕ
 nearest first end symbol = max first (min (end - 1) symbol)
 
@@ -104,27 +112,31 @@ pub gap_nearest : (t : Table) (l : ℕ) (s : ℤ) (a b : ℕ) → a < b → b �
 gap_nearest t l s a b some last =
     let symbol = symbol_of t l s in
     ⊎_elim
-      (λ before.
-        let is : nearest a b symbol ≡ a = omega arith in
-        let here : gap t l s a b ≡ gap t l s a (a + 1)
-              = omega (arith, gap_above_none t l s b (omega arith) last, gap_above_none t l s (a + 1) (omega arith) (omega arith)) in
-        here ∙ ap (λ k. gap t l s k (k + 1)) (sym is))
-      (λ from. ⊎_elim
-        (λ inside.
-          let is : nearest a b symbol ≡ symbol = omega arith in
-          let here : gap t l s a b ≡ gap t l s symbol (symbol + 1)
-                = omega (arith, gap_above_none t l s b inside last, gap_below_none t l s a from,
-                    gap_above_none t l s (symbol + 1) (omega arith) (omega arith),
-                    gap_below_none t l s symbol (omega arith)) in
-          here ∙ ap (λ k. gap t l s k (k + 1)) (sym is))
-        (λ behind.
-          let is : nearest a b symbol ≡ b - 1 = omega arith in
-          let end : (b - 1) + 1 ≡ b = omega arith in
-          let here : gap t l s a b ≡ gap t l s (b - 1) b
-                = omega (arith, gap_below_none t l s a from, gap_below_none t l s (b - 1) (omega arith)) in
-          here ∙ ap (λ k. gap t l s (b - 1) k) (sym end) ∙ ap (λ k. gap t l s k (k + 1)) (sym is))
-        (cases_lt symbol b))
-      (cases_lt symbol a)
+    (λ before.
+    let is : nearest a b symbol ≡ a = omega arith in
+    let here : gap t l s a b ≡ gap t l s a (a + 1)
+    = omega (arith, gap_above_none t l s b (omega arith) last, gap_above_none t l s (a + 1) (omega arith) (omega arith)) in
+    here ∙ ap (λ k. gap t l s k (k + 1)) (sym is))
+    (λ from. ⊎_elim
+    (λ inside.
+    let is : nearest a b symbol ≡ symbol = omega arith in
+    let here : gap t l s a b ≡ gap t l s symbol (symbol + 1)
+    = omega (
+      arith,
+      gap_above_none t l s b inside last,
+      gap_below_none t l s a from,
+      gap_above_none t l s (symbol + 1) (omega arith) (omega arith),
+      gap_below_none t l s symbol (omega arith),
+    ) in
+    here ∙ ap (λ k. gap t l s k (k + 1)) (sym is))
+    (λ behind.
+    let is : nearest a b symbol ≡ b - 1 = omega arith in
+    let end : (b - 1) + 1 ≡ b = omega arith in
+    let here : gap t l s a b ≡ gap t l s (b - 1) b
+    = omega (arith, gap_below_none t l s a from, gap_below_none t l s (b - 1) (omega arith)) in
+    here ∙ ap (λ k. gap t l s (b - 1) k) (sym end) ∙ ap (λ k. gap t l s k (k + 1)) (sym is))
+    (cases_lt symbol b))
+    (cases_lt symbol a)
 
 -- the gap of one sum to a prefix that holds the symbol of another is at most the distance of the two
 pub gap_within : (t : Table) (l : ℕ) (q s : ℤ) (a b : ℕ) → a ≤ symbol_of t l s → symbol_of t l s < b → b ≤ 256
@@ -137,41 +149,48 @@ gap_within t l q s a b first end last =
     below_is : (a : ℕ) → a ≤ symbol_of t l s → gap_below t l q a ≤ excess (s -ℤ q)
     below_is zero first = omega arith
     below_is (suc a) first =
-      omega (arith, gap_below_at t l q (suc a) (omega arith),
-        excess_rises (scaled t l (suc a)) q s q (symbol_reached t l s (suc a) (omega arith) first) (omega (arith, ints)))
+        omega (
+          arith,
+          gap_below_at t l q (suc a) (omega arith),
+          excess_rises (scaled t l (suc a)) q s q (symbol_reached t l s (suc a) (omega arith) first) (omega (arith, ints)),
+        )
+
     above_is : (b < 256) ⊎ (256 ≤ b) → gap_above t l q b ≤ excess (q -ℤ s)
     above_is (inl closed) =
-      let beyond : s <ℤ scaled t l b = symbol_unreached t l s b end (omega arith) in
-      omega (arith, gap_above_at t l q b (omega arith),
-        excess_rises q (scaled t l b -ℤ pos 1) q s (omega (arith, ints)) (omega (arith, ints, beyond)))
+        let beyond : s <ℤ scaled t l b = symbol_unreached t l s b end (omega arith) in
+        omega (
+          arith,
+          gap_above_at t l q b (omega arith),
+          excess_rises q (scaled t l b -ℤ pos 1) q s (omega (arith, ints)) (omega (arith, ints, beyond)),
+        )
     above_is (inr open_end) =
-      let is : b ≡ 256 = omega arith in
-      let none : gap_above t l q b ≡ 0 = ap (λ k. gap_above t l q k) is in
-      omega (arith, none)
+        let is : b ≡ 256 = omega arith in
+        let none : gap_above t l q b ≡ 0 = ap (λ k. gap_above t l q k) is in
+        omega (arith, none)
 
 -- a sum within the range of its length has a gap of at most 65280 times the length
 pub gap-le : (t : Table) (l : ℕ) (s : ℤ) (a b : ℕ) → 1 ≤ l → a < b → b ≤ 256
     → neg_ℤ (pos (32768 * l)) ≤ℤ s → s ≤ℤ pos (32767 * l) → gap t l s a b ≤ 65280 * l
 gap-le t l s a b some before last low high =
     ⊎_elim
-      (λ unreached.
-        let none = gap_above_none t l s b (omega arith) last in
-        let first : 1 ≤ a = omega arith in
-        let top : scaled t l a ≤ℤ (pos l *ℤ pos 32512)
-              = scaled_rises l (breakpoint t a) (pos 32512) (breakpoint_within t a first (omega arith)).1 in
-        omega (arith, ints, none, gap_below_at t l s a first, excess_is (scaled t l a -ℤ s), top, low))
-      (λ reached. above_is reached (gap_below_none t l s a reached) (cases_lt b 256))
-      (cases_lt (symbol_of t l s) a)
+    (λ unreached.
+    let none = gap_above_none t l s b (omega arith) last in
+    let first : 1 ≤ a = omega arith in
+    let top : scaled t l a ≤ℤ (pos l *ℤ pos 32512)
+    = scaled_rises l (breakpoint t a) (pos 32512) (breakpoint_within t a first (omega arith)).1 in
+    omega (arith, ints, none, gap_below_at t l s a first, excess_is (scaled t l a -ℤ s), top, low))
+    (λ reached. above_is reached (gap_below_none t l s a reached) (cases_lt b 256))
+    (cases_lt (symbol_of t l s) a)
   where
     above_is : a ≤ symbol_of t l s → gap_below t l s a ≡ 0 → (b < 256) ⊎ (256 ≤ b) → gap t l s a b ≤ 65280 * l
     above_is reached none (inl closed) =
-      let bottom : (pos l *ℤ neg_ℤ (pos 32512)) ≤ℤ scaled t l b
-            = scaled_rises l (neg_ℤ (pos 32512)) (breakpoint t b) (breakpoint_within t b (omega arith) (omega arith)).0 in
-      omega (arith, ints, none, gap_above_at t l s b (omega arith), excess_is (s -ℤ (scaled t l b -ℤ pos 1)), bottom, high)
+        let bottom : (pos l *ℤ neg_ℤ (pos 32512)) ≤ℤ scaled t l b
+        = scaled_rises l (neg_ℤ (pos 32512)) (breakpoint t b) (breakpoint_within t b (omega arith) (omega arith)).0 in
+        omega (arith, ints, none, gap_above_at t l s b (omega arith), excess_is (s -ℤ (scaled t l b -ℤ pos 1)), bottom, high)
     above_is reached none (inr open_end) =
-      let is : b ≡ 256 = omega arith in
-      let free : gap_above t l s b ≡ 0 = ap (λ k. gap_above t l s k) is in
-      omega (arith, none, free)
+        let is : b ≡ 256 = omega arith in
+        let free : gap_above t l s b ≡ 0 = ap (λ k. gap_above t l s k) is in
+        omega (arith, none, free)
 
 -- the cost rises with the gap
 pub cost_rises : (l g g' : ℕ) → 1 ≤ l → g ≤ g' → cost_of_gap l g ≤ cost_of_gap l g'
@@ -200,7 +219,7 @@ part_symbols p is =
 
 -- the cost of a part is that of its symbol nearest to the sum's
 pub part_cost_nearest : (t : Table) (l : ℕ) (s : ℤ) (p : Part) → IsPart p
-    → part_cost t l s p ≡ symbol_cost t l s (nearest (first_symbol p) (end_symbol p) (symbol_of t l s))
+    → part_cost t l s p ≡ symbol_cost t l s (nearest_symbol p (symbol_of t l s))
 part_cost_nearest t l s p is =
     let symbols = part_symbols p is in
     ap (λ g. cost_of_gap l g) (gap_nearest t l s (first_symbol p) (end_symbol p) symbols.0 symbols.1)

@@ -10,8 +10,7 @@ fn scaled(table: Table, length: u32, place: u32) -> i32
     requires few_values { length ≤ 65536 }
     requires first { 1 ≤ place }
     requires last { place ≤ 255 }
-    ensures value { result ≡ pos length *ℤ breakpoint table place }
-    ensures not_low { neg_ℤ (pos (32512 * length)) ≤ℤ result }
+    ensures { result ≡ pos length *ℤ breakpoint table place }
 {
     length as i32 * table.at(place)
 }
@@ -20,7 +19,11 @@ fn scaled(table: Table, length: u32, place: u32) -> i32
 fn excess_over(high: i32, low: i32) -> u64
     ensures { result ≡ excess (high -ℤ low) }
 {
-    if low < high { (i64::from(high) - i64::from(low)) as u64 } else { 0 }
+    if low < high {
+        (i64::from(high) - i64::from(low)) as u64
+    } else {
+        0
+    }
 }
 
 /// How far a sum lies below the least sum of the symbols from `first` on.
@@ -29,7 +32,11 @@ fn below(table: Table, length: u32, sum: i32, first: u32) -> u64
     requires last { first ≤ 255 }
     ensures { result ≡ gap_below table length sum first }
 {
-    if first == 0 { 0 } else { excess_over(scaled(table, length, first), sum) }
+    if first == 0 {
+        0
+    } else {
+        excess_over(scaled(table, length, first), sum)
+    }
 }
 
 /// How far a sum lies above the greatest sum of the symbols before `end`.
@@ -39,7 +46,11 @@ fn above(table: Table, length: u32, sum: i32, end: u32) -> u64
     requires last { end ≤ 256 }
     ensures { result ≡ gap_above table length sum end }
 {
-    if end == 256 { 0 } else { excess_over(sum, scaled(table, length, end) - 1) }
+    if end == 256 {
+        0
+    } else {
+        excess_over(sum, scaled(table, length, end) - 1)
+    }
 }
 
 /// How far a sum lies outside the sums of one symbol.

@@ -3,6 +3,10 @@
 #![tactic(auto)]
 
 mod cost;
+mod laws;
+#[cfg(test)]
+mod tests;
 mod view;
 
+pub use laws::{bound_is_below_distance, child_bound_is_no_less};
 pub use view::QueryView;
