@@ -1,10 +1,10 @@
 -- The laws of bounds: a word's bound is at most the distance of each series whose full word it contains
 -- (`bound_below_distance`), and a child's bound is at least its parent's (`child_bound`).
-use Rattle.std.proofs.Common.{◌≡◌, ℕ, zero, suc, ◌+◌, ◌-◌, ◌*◌, ◌^◌, ◌<◌, ◌≤◌, Bool, true, cond, arith, refl, sym, ap, subst, ◌∙◌, ℤ, pos, ◌-ℤ◌, List, [], ◌∷◌, ◌++◌, length, get_or, take, drop, map}
+use Rattle.std.proofs.Common.{◌≡◌, ℕ, zero, suc, ◌+◌, ◌-◌, ◌*◌, ◌^◌, ◌<◌, ◌≤◌, Bool, true, arith, sym, ap, subst, ◌∙◌, ℤ, ◌-ℤ◌, List, [], ◌∷◌, ◌++◌, length, drop, map}
 use Rattle.std.specs.Prelude.{unsigned_abs}
 use Rattle.std.specs.List.{All, range_with_len}
 use Rattle.std.proofs.lemmas.Bool.{and_parts}
-use Rattle.std.proofs.lemmas.Nat.{pow_pos, mul-le}
+use Rattle.std.proofs.lemmas.Nat.{mul-le}
 use Rattle.std.proofs.lemmas.List.{take-append-drop, drop-drop}
 use Rattle.std.proofs.lemmas.List.Elements.{All-head, All-tail}
 use Rattle.segment_sums.specs.Division.{Division, IsDivision, cut_place, segment_length}
@@ -20,7 +20,7 @@ use Rattle.isax_word.specs.Word.{IsPart, part_at, part_contains, word_contains, 
 use Rattle.isax_word.proofs.Roots.{pow_doubles}
 use Rattle.isax_word.proofs.Words.{symbols_of_part, added_bit, added_bit-le, IsPart-child_part}
 use Rattle.series_core.specs.Distance.{squared_distance}
-use Rattle.lower_bound.specs.Gap.{gap, cost_of_gap, first_symbol, end_symbol, part_cost}
+use Rattle.lower_bound.specs.Gap.{gap, first_symbol, end_symbol, part_cost}
 use Rattle.lower_bound.specs.Bound.{View, IsView, view_of, sum_at, length_at, parts_bound, word_bound}
 use Rattle.lower_bound.proofs.Gaps.{gap_within, gap_rises, cost-le, cost_rises, part_symbols}
 use Rattle.lower_bound.proofs.Distances.{difference_of_sums, squared_distance-append}

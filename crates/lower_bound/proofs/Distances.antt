@@ -1,12 +1,12 @@
 -- The square of the difference of two sums is at most their length times the distance (`difference_of_sums`),
 -- by the inequality of Cauchy.
-use Rattle.std.proofs.Common.{◌≡◌, ℕ, zero, suc, ◌+◌, ◌-◌, ◌*◌, ◌<◌, ◌≤◌, arith, refl, sym, ap, subst, ◌∙◌, ⊎_elim, ℤ, pos, ◌+ℤ◌, ◌-ℤ◌, ◌≤ℤ◌, List, [], ◌∷◌, ◌++◌, length}
+use Rattle.std.proofs.Common.{◌≡◌, ℕ, suc, ◌+◌, ◌-◌, ◌*◌, ◌≤◌, arith, ap, subst, ⊎_elim, ℤ, ◌+ℤ◌, ◌-ℤ◌, List, [], ◌∷◌, ◌++◌, length}
 use Rattle.std.specs.Prelude.{unsigned_abs}
 use Rattle.std.proofs.lemmas.Int.{ints}
 use Rattle.std.proofs.lemmas.Bool.{cases_lt}
 use Rattle.std.proofs.lemmas.Nat.{mul-le}
 use Rattle.std.proofs.Math.Nat.{suc-mul}
-use Rattle.series_core.specs.Distance.{squared_difference, squared_distance}
+use Rattle.series_core.specs.Distance.{squared_distance}
 use Rattle.segment_sums.specs.Sum.{signed_sum}
 
 -- the sum of the differences of two lists, place by place, without their signs

@@ -1,6 +1,6 @@
 -- Gaps and costs: the gap to a prefix is that to the nearest symbol (`gap_nearest`), a wider prefix has no greater
 -- gap, and the gap is at most the distance of two sums where the prefix holds the other (`gap_within`).
-use Rattle.std.proofs.Common.{◌≡◌, ℕ, zero, suc, ◌+◌, ◌-◌, ◌*◌, ◌/◌, ◌^◌, ◌<◌, ◌≤◌, true, false, eqb, arith, refl, sym, ap, subst, ◌∙◌, ⊎_elim, ◌⊎◌, inl, inr, ℤ, pos, negsuc, neg_ℤ, ◌-ℤ◌, ◌*ℤ◌, ◌<ℤ◌, ◌≤ℤ◌}
+use Rattle.std.proofs.Common.{◌≡◌, ℕ, zero, suc, ◌+◌, ◌-◌, ◌*◌, ◌^◌, ◌<◌, ◌≤◌, eqb, arith, refl, sym, ap, ◌∙◌, ⊎_elim, ◌⊎◌, inl, inr, ℤ, pos, negsuc, neg_ℤ, ◌-ℤ◌, ◌*ℤ◌, ◌<ℤ◌, ◌≤ℤ◌}
 use Rattle.std.specs.Prelude.{min, max, unsigned_abs}
 use Rattle.std.proofs.lemmas.Int.{ints}
 use Rattle.std.proofs.lemmas.Bool.{ne_eqb, cond-false, cases_lt}
@@ -14,7 +14,7 @@ use Rattle.isax_word.specs.declared.word.Part.{Part}
 use Rattle.isax_word.specs.Symbol.{symbol_of}
 use Rattle.isax_word.specs.Word.{IsPart}
 use Rattle.isax_word.proofs.Scaled.{scaled_rises}
-use Rattle.isax_word.proofs.Symbols.{symbol-le, symbol_reached, symbol_unreached}
+use Rattle.isax_word.proofs.Symbols.{symbol_reached, symbol_unreached}
 use Rattle.lower_bound.specs.Gap.{excess, gap_below, gap_above, gap, cost_of_gap, first_symbol, end_symbol, part_cost, symbol_cost, nearest_symbol}
 use borrow.Author.Differences.{up, down}
 

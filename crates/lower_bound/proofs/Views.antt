@@ -1,20 +1,20 @@
 -- Views of queries: their sums are those of the query's segments (`IsView-view_of`), and the bound of a word of all
 -- their segments is below 2^49 (`word_bound-lt`).
-use Rattle.std.proofs.Common.{◌≡◌, ℕ, zero, suc, ◌+◌, ◌-◌, ◌*◌, ◌^◌, ◌<◌, ◌≤◌, arith, refl, sym, ap, subst, ◌∙◌, ℤ, pos, neg_ℤ, ◌≤ℤ◌, List, [], ◌∷◌, length, get_or, drop, map}
-use Rattle.std.specs.List.{All, range_with_len}
+use Rattle.std.proofs.Common.{◌≡◌, ℕ, ◌+◌, ◌*◌, ◌^◌, ◌<◌, ◌≤◌, arith, sym, ap, subst, ◌∙◌, ℤ, pos, neg_ℤ, ◌≤ℤ◌, List, [], ◌∷◌, length, get_or, drop}
+use Rattle.std.specs.List.{All}
 use Rattle.std.proofs.lemmas.List.{drop_more}
 use Rattle.std.proofs.lemmas.List.Elements.{All-head, All-tail, All-map, All-weaker}
 use Rattle.std.proofs.lemmas.List.FromFn.{length-map-range_with_len, get_or-map-range_with_len}
-use Rattle.segment_sums.specs.Division.{Division, IsDivision, cut_place, segment_length}
+use Rattle.segment_sums.specs.Division.{IsDivision, cut_place, segment_length}
 use Rattle.segment_sums.specs.Sum.{segment_sum, NoSumBelow, NoSumAbove}
 use Rattle.segment_sums.proofs.Places.{cut_place_rises, cut_place_last}
 use Rattle.isax_word.specs.declared.layout.Layout.{Layout}
 use Rattle.isax_word.specs.declared.word.Part.{Part}
 use Rattle.isax_word.specs.Symbol.{symbol_of}
-use Rattle.isax_word.specs.FullWord.{IsFullWord, full_word, segment_symbol}
+use Rattle.isax_word.specs.FullWord.{full_word, segment_symbol}
 use Rattle.isax_word.specs.Word.{IsPart, no_part, part_at}
 use Rattle.lower_bound.specs.Gap.{part_cost, symbol_cost, HoldsCosts, gap, cost_of_gap, first_symbol, end_symbol}
-use Rattle.lower_bound.specs.Bound.{View, IsView, view_of, sum_at, length_at, symbol_at, HoldsView, parts_bound, word_bound, eight_bit_word}
+use Rattle.lower_bound.specs.Bound.{View, IsView, view_of, sum_at, length_at, HoldsView, parts_bound, word_bound, eight_bit_word}
 use Rattle.lower_bound.proofs.Gaps.{gap-le, cost_bound, part_symbols}
 
 -- the sums of a view are those of the query's segments

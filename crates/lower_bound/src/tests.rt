@@ -78,25 +78,45 @@ fn plain_gap(table: Table, length: u32, sum: i64, first: u32, end: u32) -> i64 {
     0
 }
 
-/// Compares the bound of one prefix of a query of one segment with the plain computation.
-fn compare(rt: &impl Abort, table: Table, query: &[i16], view: &QueryView, prefix: u8, bits: u8) {
+/// Compares the bound of one prefix of a query of one segment, of this length and sum, with the plain computation.
+fn compare(rt: &impl Abort, table: Table, view: &QueryView, segment: (u32, i64), part: (u8, u8)) {
+    let (length, sum) = segment;
+    let (prefix, bits) = part;
     let Some(word) = Word::of_parts(&[prefix], &[bits]) else {
         return;
     };
+    if bits <= 8 && view.segments() == word.segments() {
+        let place = 1u32 << (8 - bits);
+        let first = u32::from(prefix) * place;
+        let cost = plain_cost(plain_gap(table, length, sum, first, first + place), length);
+        assert_eq!(rt;
+            view.bound_word(&word),
+            cost,
+            "{prefix} at {bits} bits for {sum} over {length} in {table:?}"
+        );
+    }
+}
+
+/// Compares the bounds of all prefixes of a query of one segment with the plain computation.
+fn compare_all(rt: &impl Abort, table: Table, query: &[i16]) {
+    assert!(rt;
+        1 <= query.len() && query.len() <= 3,
+        "{query:?} is no query of one segment"
+    );
+    let length = query.len() as u32;
+    let layout = Layout {
+        cuts: Cuts::new(length, 1),
+        table,
+    };
+    let view = QueryView::new(&layout, query);
     let mut sum = 0i64;
     for value in query {
         sum = sum.wrapping_add(i64::from(*value));
     }
-    let length = query.len().min(65536) as u32;
-    if bits <= 8 && view.segments() == word.segments() {
-        let place = 1u32 << (8 - bits);
-        let first = u32::from(prefix) * place;
-        let gap = plain_gap(table, length, sum, first, first + place);
-        assert_eq!(rt;
-            view.bound_word(&word),
-            plain_cost(gap, length),
-            "{prefix} at {bits} bits for {query:?}"
-        );
+    for bits in 1..9u8 {
+        for prefix in 0..=255u8 {
+            compare(rt, table, &view, (length, sum), (prefix, bits));
+        }
     }
 }
 
@@ -112,23 +132,9 @@ fn costs_are_those_of_the_interval(rt: HostRuntime) -> Result<(), Fail> {
         &[-24257, -24258, -24257],
         &[100, -7, 3],
     ];
-    for table in [Table::Flat, Table::Bent] {
-        for query in queries {
-            assert!(rt;
-                1 <= query.len() && query.len() <= 3,
-                "a query of one segment"
-            );
-            let layout = Layout {
-                cuts: Cuts::new(query.len() as u32, 1),
-                table,
-            };
-            let view = QueryView::new(&layout, query);
-            for bits in 1..9u8 {
-                for prefix in 0..=255u8 {
-                    compare(&rt, table, query, &view, prefix, bits);
-                }
-            }
-        }
+    for query in queries {
+        compare_all(&rt, Table::Flat, query);
+        compare_all(&rt, Table::Bent, query);
     }
     Ok(())
 }

@@ -1,5 +1,5 @@
 -- A breakpoint times the length is at least -32512 times it, so that one less still fits.
-use Rattle.std.proofs.Common.{rules, ◌≡◌, ℕ, ℤ, ◌*◌, ◌≤◌, pos, neg_ℤ, ◌-ℤ◌, ◌*ℤ◌, ◌≤ℤ◌, arith, ap, sym, ◌∙◌, refl, to_z, of_z}
+use Rattle.std.proofs.Common.{rules, ◌≡◌, ℕ, ℤ, ◌≤◌, pos, neg_ℤ, ◌-ℤ◌, ◌*ℤ◌, arith, ap, sym, ◌∙◌, to_z, of_z}
 use Rattle.std.specs.Prelude.{FitsSigned}
 use Rattle.std.specs.Int.{w32}
 use Rattle.std.proofs.lemmas.Int.{ints, to_z-of_z}
@@ -7,7 +7,7 @@ use Rattle.breakpoints.specs.declared.table.Table.{Table}
 use Rattle.breakpoints.specs.Breakpoint.{breakpoint}
 use Rattle.breakpoints.proofs.Ascending.{breakpoint_within}
 use Rattle.isax_word.proofs.Scaled.{scaled_rises}
-use Rattle.lower_bound.specs.Gap.{excess, gap_above}
+use Rattle.lower_bound.specs.Gap.{excess}
 use Rattle.lower_bound.proofs.Gaps.{gap_above_at}
 use Rattle.lower_bound.proofs.cost.above.Goals as goal
 

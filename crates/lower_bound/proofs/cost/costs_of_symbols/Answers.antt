@@ -1,5 +1,5 @@
 -- The loop writes the cost of each symbol at its place.
-use Rattle.std.proofs.Common.{ℕ, ◌≡◌, ◌≢◌, ◌<◌, ◌+◌, ◌∙◌, arith, ap, subst, length, get_or-set_other, get_or-set_same, below_more, to_z, of_z}
+use Rattle.std.proofs.Common.{◌≢◌, ◌<◌, ◌∙◌, arith, subst, length, get_or-set_other, get_or-set_same, below_more, to_z, of_z}
 use Rattle.std.specs.Int.{w32}
 use Rattle.std.proofs.lemmas.Int.{to_z-of_z}
 use Rattle.std.proofs.lemmas.List.{length-set}

@@ -1,9 +1,9 @@
 -- One more cost is looked up and added, and the whole bound is below 2^49.
-use Rattle.std.proofs.Common.{◌≡◌, ℕ, ◌+◌, ◌<◌, ◌^◌, [], arith, ap, sym, ◌∙◌, subst, get_or, drop, length}
+use Rattle.std.proofs.Common.{◌≡◌, ◌+◌, ◌<◌, [], arith, ap, ◌∙◌, subst, get_or, drop, length}
 use Rattle.std.proofs.lemmas.List.{length-map}
 use Rattle.std.proofs.lemmas.Option.{get_or_from_slice_get}
 use Rattle.lower_bound.specs.Gap.{symbol_cost}
-use Rattle.lower_bound.specs.Bound.{View, IsView, HoldsView, sum_at, length_at, parts_bound, word_bound, eight_bit_word}
+use Rattle.lower_bound.specs.Bound.{IsView, HoldsView, sum_at, length_at, parts_bound, word_bound, eight_bit_word}
 use Rattle.lower_bound.proofs.Views.{parts_bound-drop_full, word_bound-lt, eight_bit_word_parts}
 use Rattle.lower_bound.proofs.view.QueryView.bound_full.Goals as goal
 

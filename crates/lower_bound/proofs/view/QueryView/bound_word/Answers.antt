@@ -1,11 +1,10 @@
 -- One more cost is looked up, that of the nearest symbol, and added; the whole bound is below 2^49.
-use Rattle.std.proofs.Common.{◌≡◌, ℕ, ◌+◌, ◌<◌, ◌^◌, [], arith, ap, sym, ◌∙◌, subst, get_or, drop, length}
+use Rattle.std.proofs.Common.{◌≡◌, ◌+◌, ◌<◌, [], arith, ap, sym, ◌∙◌, subst, get_or, drop, length}
 use Rattle.std.proofs.lemmas.List.Elements.{All-get_or}
 use Rattle.std.proofs.lemmas.Option.{get_or_from_slice_get}
-use Rattle.isax_word.specs.declared.word.Part.{Part}
 use Rattle.isax_word.specs.Word.{IsPart, no_part, part_at}
 use Rattle.lower_bound.specs.Gap.{part_cost, symbol_cost, nearest_symbol}
-use Rattle.lower_bound.specs.Bound.{View, IsView, HoldsView, sum_at, length_at, symbol_at, parts_bound, word_bound}
+use Rattle.lower_bound.specs.Bound.{IsView, HoldsView, sum_at, length_at, symbol_at, parts_bound, word_bound}
 use Rattle.lower_bound.proofs.Gaps.{part_cost_nearest}
 use Rattle.lower_bound.proofs.Views.{parts_bound-drop, word_bound-lt}
 use Rattle.lower_bound.proofs.view.QueryView.bound_word.Goals as goal

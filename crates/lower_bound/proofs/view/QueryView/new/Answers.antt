@@ -1,5 +1,5 @@
 -- The costs of each segment are those of its length and sum.
-use Rattle.std.proofs.Common.{rules, ◌≡◌, ◌≢◌, ℕ, ℤ, pos, ◌+◌, ◌-◌, ◌<◌, List, [], arith, ap, sym, ◌∙◌, subst, get_or, set, take, length, below_more, get_or-set_other, get_or-set_same, to_z, of_z}
+use Rattle.std.proofs.Common.{rules, ◌≡◌, ◌≢◌, pos, ◌-◌, ◌<◌, [], arith, ap, sym, ◌∙◌, subst, get_or, take, length, below_more, get_or-set_other, get_or-set_same}
 use Rattle.std.specs.Prelude.{FitsSigned}
 use Rattle.std.specs.Int.{w32}
 use Rattle.std.proofs.lemmas.Int.{ints, to_z-of_z}
@@ -9,7 +9,7 @@ use Rattle.segment_sums.specs.Division.{cut_place, segment_length}
 use Rattle.segment_sums.specs.Sum.{segment_sum, segment_sums}
 use Rattle.segment_sums.proofs.Sums.{segment_sums_at}
 use Rattle.lower_bound.specs.Gap.{HoldsCosts}
-use Rattle.lower_bound.specs.Bound.{View, IsView, HoldsView, view_of}
+use Rattle.lower_bound.specs.Bound.{IsView, HoldsView, view_of}
 use Rattle.lower_bound.proofs.Views.{IsView-view_of, HoldsView-view_of}
 use Rattle.lower_bound.proofs.view.QueryView.new.Goals as goal
 
