@@ -1,5 +1,5 @@
--- Root numbers and one-bit words correspond: a full word is contained in the one-bit word of its root number
--- (`root_contains_own`) and in no other (`root_contains_one`).
+-- Root numbers and one-bit words correspond: a full word is contained in the one-bit word of its
+-- root number (`root_contains_own`) and in no other (`root_contains_one`).
 use Rattle.std.proofs.Common.{◌≡◌, ℕ, zero, suc, ◌+◌, ◌-◌, ◌*◌, ◌/◌, ◌%◌, ◌^◌, ◌<◌, ◌≤◌, true, arith, refl, sym, ap, ◌∙◌, List, [], ◌∷◌, length, drop, get_or}
 use Rattle.std.specs.List.{All}
 use Rattle.std.proofs.lemmas.Bool.{and_parts, and_from, eqb-true, eq-eqb}
@@ -22,11 +22,13 @@ pub pow_doubles : (n : ℕ) → 2 ^ suc n ≡ 2 * 2 ^ n
 pow_doubles n = let one : suc n ≡ 1 + n = omega arith in ap (λ k. 2 ^ k) one ∙ pow-add 2 1 n
 
 -- a root number has as many bits as there are symbols
-pub root_number-lt : (symbols : List ℕ) → All IsByte symbols → root_number symbols < 2 ^ length symbols
+pub root_number-lt : (symbols : List ℕ) → All IsByte symbols
+    → root_number symbols < 2 ^ length symbols
 root_number-lt [] bytes = omega arith
 root_number-lt (s ∷ symbols) bytes =
     let bit : first_bit s < 2 = first_bit-lt s (All-head IsByte s symbols bytes) in
-    let rest : root_number symbols < 2 ^ length symbols = root_number-lt symbols (All-tail IsByte s symbols bytes) in
+    let rest : root_number symbols < 2 ^ length symbols
+    = root_number-lt symbols (All-tail IsByte s symbols bytes) in
     let high : first_bit s * 2 ^ length symbols ≤ 1 * 2 ^ length symbols
     = mul-le (first_bit s) (2 ^ length symbols) 1 (2 ^ length symbols) (omega arith) (omega arith) in
     omega (arith, pow_doubles (length symbols))
@@ -43,7 +45,8 @@ root_contains_own (s ∷ symbols) bytes =
     let low : root_number (s ∷ symbols) % 2 ^ length symbols ≡ root_number symbols
     = mod_low (first_bit s) (length symbols) (root_number symbols) rest in
     and_from _ _ (eq-eqb (s / 128) (root_number (s ∷ symbols) / 2 ^ length symbols) (sym high))
-    (ap (λ r. word_contains (one_bit_word r (length symbols)) symbols) low ∙ root_contains_own symbols tail)
+    (ap (λ r. word_contains (one_bit_word r (length symbols)) symbols) low
+    ∙ root_contains_own symbols tail)
 
 -- a full word is contained in the one-bit word of no other number
 pub root_contains_one : (root : ℕ) (symbols : List ℕ) → root < 2 ^ length symbols
@@ -76,7 +79,8 @@ length-one_bit_word root zero = refl
 length-one_bit_word root (suc w) = ap (λ n. suc n) (length-one_bit_word (root % 2 ^ w) w)
 
 -- the one-bit word of a number of as many bits is a word
-pub IsWord-one_bit_word : (root w : ℕ) → 1 ≤ w → w ≤ 16 → root < 2 ^ w → IsWord (one_bit_word root w)
+pub IsWord-one_bit_word : (root w : ℕ) → 1 ≤ w → w ≤ 16 → root < 2 ^ w
+    → IsWord (one_bit_word root w)
 IsWord-one_bit_word root w some few small =
     let long : length (one_bit_word root w) ≡ w = length-one_bit_word root w in
     record {
@@ -88,7 +92,8 @@ IsWord-one_bit_word root w some few small =
 -- reading one symbol more moves its first bit from the rest into the number read so far
 pub root_next : (symbols : List ℕ) (root j whole : ℕ) → j < length symbols
     → root * 2 ^ (length symbols - j) + root_number (drop j symbols) ≡ whole
-    → (2 * root + first_bit (get_or symbols j 0)) * 2 ^ (length symbols - (j + 1)) + root_number (drop (j + 1) symbols)
+    → (2 * root + first_bit (get_or symbols j 0)) * 2 ^ (length symbols - (j + 1)) + root_number
+    (drop (j + 1) symbols)
     ≡ whole
 root_next symbols root j whole inside so =
     let s = get_or symbols j 0 in
@@ -100,5 +105,6 @@ root_next symbols root j whole inside so =
     let opened : root_number (drop j symbols) ≡ first_bit s * 2 ^ length rest + root_number rest
     = at_drop_more root_number symbols j 0 inside in
     let scaled : root * 2 ^ (length symbols - j) ≡ root * (2 * place) = ap (λ n. root * n) twice in
-    let bit : first_bit s * 2 ^ length rest ≡ first_bit s * place = ap (λ k. first_bit s * 2 ^ k) long in
+    let bit : first_bit s * 2 ^ length rest ≡ first_bit s * place
+    = ap (λ k. first_bit s * 2 ^ k) long in
     omega (arith, so, opened, scaled, bit)

@@ -1,4 +1,5 @@
--- Symbols: the breakpoint of a symbol, times the length, is at or below the sum, and the next one is above it.
+-- Symbols: the breakpoint of a symbol, times the length, is at or below the sum, and the next one
+-- is above it.
 use Rattle.std.proofs.Common.{◌≡◌, ℕ, ◌+◌, ◌-◌, ◌*◌, ◌/◌, ◌^◌, ◌<◌, ◌≤◌, Bool, true, false, cond, arith, refl, sym, ap, subst, ◌∙◌, ℤ, pos, ◌+ℤ◌, ◌*ℤ◌, ◌<ℤ◌, ◌≤ℤ◌, List, length, get_or}
 use Rattle.std.specs.List.{range_with_len}
 use Rattle.std.proofs.lemmas.Int.{ints}
@@ -38,12 +39,15 @@ unreached_behind t l s i j first before last unreached =
 
 -- the symbol is the place of the last breakpoint that the sum reaches
 pub symbol_is : (t : Table) (l : ℕ) (s : ℤ) (k : ℕ) → k ≤ 255
-    → (1 ≤ k → is_reached t l s k ≡ true) → (k < 255 → is_reached t l s (k + 1) ≡ false) → symbol_of t l s ≡ k
+    → (1 ≤ k → is_reached t l s k ≡ true) → (k < 255 → is_reached t l s (k + 1) ≡ false)
+    → symbol_of t l s ≡ k
 unfolding symbol_of
 symbol_is t l s k last reached unreached =
     count_is (is_reached t l s) 1 255 k last
-    (λ i below. reached_before t l s (1 + i) k (omega arith) (omega arith) last (reached (omega arith)))
-    (λ i from below. unreached_behind t l s (k + 1) (1 + i) (omega arith) (omega arith) (omega arith)
+    (λ i below. reached_before t l s (1 + i) k (omega arith) (omega arith) last
+    (reached (omega arith)))
+    (λ i from below. unreached_behind t l s (k + 1) (1 + i) (omega arith) (omega arith)
+    (omega arith)
     (unreached (omega arith)))
 
 -- a multiple of a flat breakpoint, above the least sum, is a multiple of 256 and the place
@@ -52,12 +56,15 @@ flat_scaled l i =
     let d = from_middle i in
     let b = breakpoint Flat i in
     let places : up d + 128 ≡ down d + i = omega (arith, ints) in
-    let whole : up b + 32768 ≡ down b + 256 * i = omega (arith, ints, product_is (pos 256) d, places) in
+    let whole : up b + 32768 ≡ down b + 256 * i
+    = omega (arith, ints, product_is (pos 256) d, places) in
     let scaled : l * (up b + 32768) ≡ l * (down b + 256 * i) = ap (λ n. l * n) whole in
     omega (arith, ints, product_is (pos l) b, scaled)
 
--- in the flat table the symbol is how many steps of 256 a value fit between the least sum and the sum
-pub flat_symbol_is : (l : ℕ) (s : ℤ) (above : ℕ) → 1 ≤ l → pos above ≡ s +ℤ pos (32768 * l) → above ≤ 65535 * l
+-- in the flat table the symbol is how many steps of 256 a value fit between the least sum and the
+-- sum
+pub flat_symbol_is : (l : ℕ) (s : ℤ) (above : ℕ) → 1 ≤ l → pos above ≡ s +ℤ pos (32768 * l)
+    → above ≤ 65535 * l
     → (above / (256 * l) < 256) × (symbol_of Flat l s ≡ above / (256 * l))
 flat_symbol_is l s above some is bound =
     let k = above / (256 * l) in
@@ -75,7 +82,9 @@ flat_symbol_is l s above some is bound =
 symbol_splits : (t : Table) (l : ℕ) (s : ℤ) → Splits (is_reached t l s) 1 255 (symbol_of t l s)
 unfolding symbol_of
 symbol_splits t l s =
-    count_splits (is_reached t l s) 1 255 (λ i j before last. reached_before t l s (1 + i) (1 + j) (omega arith) (omega arith) (omega arith))
+    count_splits (is_reached t l s) 1 255
+    (λ i j before last. reached_before t l s (1 + i) (1 + j) (omega arith) (omega arith)
+    (omega arith))
 
 -- a symbol is at most 255
 pub symbol-le : (t : Table) (l : ℕ) (s : ℤ) → symbol_of t l s ≤ 255
@@ -86,7 +95,8 @@ pub symbol_reached : (t : Table) (l : ℕ) (s : ℤ) (i : ℕ) → 1 ≤ i → i
     → (pos l *ℤ breakpoint t i) ≤ℤ s
 symbol_reached t l s i first below =
     let place : 1 + (i - 1) ≡ i = omega arith in
-    let passes : is_reached t l s (1 + (i - 1)) ≡ true = (symbol_splits t l s).before (i - 1) (omega arith) in
+    let passes : is_reached t l s (1 + (i - 1)) ≡ true
+    = (symbol_splits t l s).before (i - 1) (omega arith) in
     let here : is_reached t l s i ≡ true = ap (is_reached t l s) (sym place) ∙ passes in
     omega (arith, ints)
 
@@ -100,8 +110,8 @@ symbol_unreached t l s i above last =
     let here : is_reached t l s i ≡ false = ap (is_reached t l s) (sym place) ∙ fails in
     omega (arith, ints)
 
--- a search for the symbol in the bent table: the breakpoint found so far is reached, or none is found, and the
--- one behind the places that are left is not reached, or there is none
+-- a search for the symbol in the bent table: the breakpoint found so far is reached, or none is
+-- found, and the one behind the places that are left is not reached, or there is none
 pub record Narrowed (l : ℕ) (s : ℤ) (found left : ℕ) : Type 0 where
   pub room : found + left ≤ 256
   pub reached : 1 ≤ found → is_reached Bent l s found ≡ true
@@ -109,14 +119,18 @@ pub record Narrowed (l : ℕ) (s : ℤ) (found left : ℕ) : Type 0 where
 
 -- a search of one place has found the symbol
 pub narrowed_is : (l : ℕ) (s : ℤ) (found : ℕ) → Narrowed l s found 1 → symbol_of Bent l s ≡ found
-narrowed_is l s found is = symbol_is Bent l s found (omega (arith, is.room)) is.reached (λ last. is.unreached (omega arith))
+narrowed_is l s found is =
+    symbol_is Bent l s found (omega (arith, is.room)) is.reached
+    (λ last. is.unreached (omega arith))
 
--- a search goes on in the half behind the middle where the middle is reached, and else in the half before it
+-- a search goes on in the half behind the middle where the middle is reached, and else in the half
+-- before it
 pub narrowed_next : (l : ℕ) (s : ℤ) (found step : ℕ) → 1 ≤ step → Narrowed l s found (2 * step)
     → Narrowed l s (found + step * cond (is_reached Bent l s (found + step)) 1 0) step
 narrowed_next l s found step some is = by_test (is_reached Bent l s (found + step)) refl
   where
-    by_test : (b : Bool) → is_reached Bent l s (found + step) ≡ b → Narrowed l s (found + step * cond b 1 0) step
+    by_test : (b : Bool) → is_reached Bent l s (found + step) ≡ b
+        → Narrowed l s (found + step * cond b 1 0) step
     by_test true passes =
         let place : found + step * 1 ≡ found + step = omega arith in
         let end : (found + step) + step ≡ found + 2 * step = omega arith in
@@ -132,7 +146,8 @@ narrowed_next l s found step some is = by_test (is_reached Bent l s (found + ste
         (record { room = omega (arith, is.room); reached = is.reached; unreached = λ last. fails })
 
 -- how many places are left to search after i of the eight rounds, and the step of the next round
-pub halves : (i : ℕ) → i < 8 → (128 / 2 ^ i ≡ 2 ^ (7 - i)) × (2 ^ (8 - i) ≡ 2 * 2 ^ (7 - i)) × (2 ^ (8 - (i + 1)) ≡ 2 ^ (7 - i))
+pub halves : (i : ℕ) → i < 8 → (128 / 2 ^ i ≡ 2 ^ (7 - i)) × (2 ^ (8 - i) ≡ 2 * 2 ^ (7 - i))
+    × (2 ^ (8 - (i + 1)) ≡ 2 ^ (7 - i))
 halves i inside =
     let seven : (7 - i) + i ≡ 7 = omega arith in
     let whole : 128 ≡ 2 ^ (7 - i) * 2 ^ i = sym (ap (λ k. 2 ^ k) seven) ∙ pow-add 2 (7 - i) i in
@@ -144,18 +159,21 @@ halves i inside =
     )
 
 -- the full word of a row is one
-pub IsFullWord-full_word : (layout : Layout) (row : List ℤ) → IsDivision layout.cuts → IsFullWord (full_word layout row)
+pub IsFullWord-full_word : (layout : Layout) (row : List ℤ) → IsDivision layout.cuts
+    → IsFullWord (full_word layout row)
 IsFullWord-full_word layout row is =
     let long : length (full_word layout row) ≡ layout.cuts.segments
     = length-map-range_with_len (segment_symbol layout row) 0 layout.cuts.segments in
     record {
       some_symbols = omega (arith, is.some_segments, long);
       few_symbols = omega (arith, is.few_segments, long);
-      eight_bits = All-map (λ s. s < 256) (segment_symbol layout row) (range_with_len 0 layout.cuts.segments)
+      eight_bits =
+          All-map (λ s. s < 256) (segment_symbol layout row) (range_with_len 0 layout.cuts.segments)
           (All-from_get_or (λ j. segment_symbol layout row j < 256) _ 0 (λ k inside.
           omega (
             arith,
-            symbol-le layout.table (segment_length layout.cuts (get_or (range_with_len 0 layout.cuts.segments) k 0))
+            symbol-le layout.table
+                (segment_length layout.cuts (get_or (range_with_len 0 layout.cuts.segments) k 0))
                 (segment_sum layout.cuts row (get_or (range_with_len 0 layout.cuts.segments) k 0)),
           )));
     }

@@ -1,5 +1,5 @@
--- Words and their children: a full word that a word contains is contained in exactly one child of each split,
--- by its next bit (`child_contains`).
+-- Words and their children: a full word that a word contains is contained in exactly one child of
+-- each split, by its next bit (`child_contains`).
 use Rattle.std.proofs.Common.{◌≡◌, ℕ, zero, suc, ◌+◌, ◌-◌, ◌*◌, ◌/◌, ◌%◌, ◌^◌, ◌<◌, ◌≤◌, Bool, true, false, cond, eqb, arith, refl, sym, ap, ◌∙◌, List, [], ◌∷◌, length, drop, get_or}
 use Rattle.std.specs.Prelude.{◌&&◌}
 use Rattle.std.proofs.lemmas.Bool.{and_parts, and_from, eqb-true, eqb-false, eq-eqb, ne_eqb}
@@ -69,7 +69,8 @@ child_part_within p high s divisible contained =
     eq-eqb (first_bits p.bits s) p.prefix (by_bit high is more bit)
   where
     by_bit : (b : Bool) → first_bits (p.bits + 1) s ≡ 2 * p.prefix + cond b 1 0
-        → first_bits (p.bits + 1) s ≡ 2 * first_bits p.bits s + next_bit p.bits s → next_bit p.bits s < 2
+        → first_bits (p.bits + 1) s ≡ 2 * first_bits p.bits s + next_bit p.bits s
+        → next_bit p.bits s < 2
         → first_bits p.bits s ≡ p.prefix
     by_bit true is more bit = omega arith
     by_bit false is more bit = omega arith
@@ -79,7 +80,8 @@ and_true : (x y : Bool) → y ≡ true → (x && y) ≡ x
 and_true true y e = e
 and_true false y e = refl
 
--- a child of a word that contains a full word contains it where the added bit is the symbol's next bit
+-- a child of a word that contains a full word contains it where the added bit is the symbol's next
+-- bit
 pub child_contains : (word : List Part) (j : ℕ) (high : Bool) (symbols : List ℕ)
     → j < length word → (part_at word j).bits < 8 → word_contains word symbols ≡ true
     → word_contains (child_word word j high) symbols
@@ -88,7 +90,8 @@ child_contains [] j high symbols used divisible contained = absurd (omega arith)
 child_contains (p ∷ word) zero high [] used divisible contained = cc
 child_contains (p ∷ word) zero high (s ∷ symbols) used divisible contained =
     let parts = and_parts _ _ contained in
-    and_true (part_contains (child_part p high) s) _ parts.1 ∙ child_part_contains p high s divisible parts.0
+    and_true (part_contains (child_part p high) s) _ parts.1
+    ∙ child_part_contains p high s divisible parts.0
 child_contains (p ∷ word) (suc j) high [] used divisible contained = cc
 child_contains (p ∷ word) (suc j) high (s ∷ symbols) used divisible contained =
     let parts = and_parts _ _ contained in
@@ -97,7 +100,8 @@ child_contains (p ∷ word) (suc j) high (s ∷ symbols) used divisible containe
 
 -- what a child of a word contains, the word contains
 pub child_within : (word : List Part) (j : ℕ) (high : Bool) (symbols : List ℕ)
-    → j < length word → (part_at word j).bits < 8 → word_contains (child_word word j high) symbols ≡ true
+    → j < length word → (part_at word j).bits < 8
+    → word_contains (child_word word j high) symbols ≡ true
     → word_contains word symbols ≡ true
 child_within [] j high symbols used divisible contained = absurd (omega arith)
 child_within (p ∷ word) zero high [] used divisible contained = cc
@@ -110,13 +114,15 @@ child_within (p ∷ word) (suc j) high (s ∷ symbols) used divisible contained 
     and_from _ _ parts.0 (child_within word j high symbols (omega arith) divisible parts.1)
 
 -- a child of a part is a part
-pub IsPart-child_part : (p : Part) (high : Bool) → IsPart p → p.bits < 8 → IsPart (child_part p high)
+pub IsPart-child_part : (p : Part) (high : Bool) → IsPart p → p.bits < 8
+    → IsPart (child_part p high)
 IsPart-child_part p high is divisible =
     let bit : added_bit high ≤ 1 = added_bit-le high in
     record {
       some_bits = omega arith;
       eight_bits = omega arith;
-      prefix_fits = let twice : 2 ^ (p.bits + 1) ≡ 2 * 2 ^ p.bits = pow-add 2 p.bits 1 ∙ mul_comm _ _ in
+      prefix_fits = let twice : 2 ^ (p.bits + 1) ≡ 2 * 2 ^ p.bits = pow-add 2 p.bits 1
+          ∙ mul_comm _ _ in
           omega (arith, is.prefix_fits, twice);
     }
 
@@ -124,7 +130,8 @@ IsPart-child_part p high is divisible =
 pub prefix-lt : (p : Part) → IsPart p → p.bits < 8 → p.prefix < 128
 prefix-lt p is divisible =
     let few : p.bits ≤ 7 = omega arith in
-    let small : 2 ^ p.bits ≤ 2 ^ 7 = pow-le-pow_right {n = 2} (omega arith) {i = p.bits} {j = 7} few in
+    let small : 2 ^ p.bits ≤ 2 ^ 7
+    = pow-le-pow_right {n = 2} (omega arith) {i = p.bits} {j = 7} few in
     omega (arith, is.prefix_fits, small)
 
 -- a child of a word is a word
@@ -136,34 +143,47 @@ IsWord-child_word word j high is used divisible =
       some_parts = omega (arith, is.some_parts, long);
       few_parts = omega (arith, is.few_parts, long);
       parts = All-set IsPart word j _
-          (IsPart-child_part (part_at word j) high (All-get_or IsPart word j no_part used is.parts) divisible) is.parts;
+          (IsPart-child_part (part_at word j) high
+          (All-get_or IsPart word j no_part used is.parts) divisible) is.parts;
     }
 
 -- what is left of a word and a full word begins with their next segment
-pub contains_next : (word : List Part) (symbols : List ℕ) (j : ℕ) → j < length word → j < length symbols
+pub contains_next : (word : List Part) (symbols : List ℕ) (j : ℕ) → j < length word
+    → j < length symbols
     → word_contains (drop j word) (drop j symbols)
-    ≡ (part_contains (part_at word j) (get_or symbols j 0) && word_contains (drop (j + 1) word) (drop (j + 1) symbols))
+    ≡ (part_contains (part_at word j) (get_or symbols j 0) && word_contains (drop (j + 1) word)
+    (drop (j + 1) symbols))
 contains_next word symbols j in_word in_symbols =
     ap (λ w. word_contains w (drop j symbols)) (drop_more word j no_part in_word)
-    ∙ ap (λ ss. word_contains (part_at word j ∷ drop (j + 1) word) ss) (drop_more symbols j 0 in_symbols)
+    ∙ ap (λ ss. word_contains (part_at word j ∷ drop (j + 1) word) ss)
+    (drop_more symbols j 0 in_symbols)
 
 -- a word of as many prefixes as numbers of bits has as many parts
-pub length-parts_of : (prefixes bits : List ℕ) → length prefixes ≡ length bits → length (parts_of prefixes bits) ≡ length prefixes
+pub length-parts_of : (prefixes bits : List ℕ) → length prefixes ≡ length bits
+    → length (parts_of prefixes bits) ≡ length prefixes
 length-parts_of [] bits same = refl
 length-parts_of (p ∷ prefixes) [] same = absurd (omega arith)
-length-parts_of (p ∷ prefixes) (b ∷ bits) same = ap (λ n. suc n) (length-parts_of prefixes bits (omega arith))
+length-parts_of (p ∷ prefixes) (b ∷ bits) same =
+    ap (λ n. suc n) (length-parts_of prefixes bits (omega arith))
 
 -- what is left of prefixes and numbers of bits makes the next part and the rest
 pub parts_of-drop : (prefixes bits : List ℕ) (j : ℕ) → j < length prefixes → j < length bits
     → parts_of (drop j prefixes) (drop j bits)
-    ≡ record { prefix = get_or prefixes j 0; bits = get_or bits j 0 } ∷ parts_of (drop (j + 1) prefixes) (drop (j + 1) bits)
+    ≡ record {
+      prefix = get_or prefixes j 0;
+      bits = get_or bits j 0;
+    } ∷ parts_of (drop (j + 1) prefixes) (drop (j + 1) bits)
 parts_of-drop prefixes bits j in_prefixes in_bits =
     ap (λ ps. parts_of ps (drop j bits)) (drop_more prefixes j 0 in_prefixes)
-    ∙ ap (λ bs. parts_of (get_or prefixes j 0 ∷ drop (j + 1) prefixes) bs) (drop_more bits j 0 in_bits)
+    ∙ ap (λ bs. parts_of (get_or prefixes j 0 ∷ drop (j + 1) prefixes) bs)
+    (drop_more bits j 0 in_bits)
 
 -- the part of segment j of a word of prefixes and numbers of bits
 pub part_at-parts_of : (prefixes bits : List ℕ) (j : ℕ) → j < length prefixes → j < length bits
-    → part_at (parts_of prefixes bits) j ≡ record { prefix = get_or prefixes j 0; bits = get_or bits j 0 }
+    → part_at (parts_of prefixes bits) j ≡ record {
+      prefix = get_or prefixes j 0;
+      bits = get_or bits j 0;
+    }
 part_at-parts_of [] bits j in_prefixes in_bits = absurd (omega arith)
 part_at-parts_of (p ∷ prefixes) [] j in_prefixes in_bits = absurd (omega arith)
 part_at-parts_of (p ∷ prefixes) (b ∷ bits) zero in_prefixes in_bits = refl

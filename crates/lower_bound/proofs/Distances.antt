@@ -1,5 +1,5 @@
--- The square of the difference of two sums is at most their length times the distance (`difference_of_sums`),
--- by the inequality of Cauchy.
+-- The square of the difference of two sums is at most their length times the distance
+-- (`difference_of_sums`), by the inequality of Cauchy.
 use Rattle.std.proofs.Common.{◌≡◌, ℕ, suc, ◌+◌, ◌-◌, ◌*◌, ◌≤◌, arith, ap, subst, ⊎_elim, ℤ, ◌+ℤ◌, ◌-ℤ◌, List, [], ◌∷◌, ◌++◌, length}
 use Rattle.std.specs.Prelude.{unsigned_abs}
 use Rattle.std.proofs.lemmas.Int.{ints}
@@ -17,7 +17,8 @@ apart (x ∷ xs) (y ∷ ys) = unsigned_abs (x -ℤ y) + apart xs ys
 
 -- twice a product is at most the two squares
 twice_product : (a b : ℕ) → 2 * (a * b) ≤ a * a + b * b
-twice_product a b = ⊎_elim (λ less. more a b (omega arith)) (λ least. omega (arith, more b a least)) (cases_lt a b)
+twice_product a b =
+    ⊎_elim (λ less. more a b (omega arith)) (λ least. omega (arith, more b a least)) (cases_lt a b)
   where
     by_excess : (a k : ℕ) → 2 * (a * (a + k)) ≤ a * a + (a + k) * (a + k)
     by_excess a k = omega arith
@@ -27,13 +28,15 @@ twice_product a b = ⊎_elim (λ less. more a b (omega arith)) (λ least. omega 
         let is : a + (b - a) ≡ b = omega arith in
         subst (λ n. 2 * (a * n) ≤ a * a + n * n) is (by_excess a (b - a))
 
--- twice the products of one number with all differences are at most their squares and as many of its square
+-- twice the products of one number with all differences are at most their squares and as many of
+-- its square
 twice_products : (a : ℕ) (xs ys : List ℤ) → length xs ≡ length ys
     → 2 * (a * apart xs ys) ≤ squared_distance xs ys + length xs * (a * a)
 twice_products a [] ys same = omega arith
 twice_products a (x ∷ xs) [] same = absurd (omega arith)
 twice_products a (x ∷ xs) (y ∷ ys) same =
-    let here : 2 * (a * unsigned_abs (x -ℤ y)) ≤ a * a + unsigned_abs (x -ℤ y) * unsigned_abs (x -ℤ y)
+    let here : 2 * (a * unsigned_abs (x -ℤ y))
+    ≤ a * a + unsigned_abs (x -ℤ y) * unsigned_abs (x -ℤ y)
     = twice_product a (unsigned_abs (x -ℤ y)) in
     let rest = twice_products a xs ys (omega arith) in
     by_parts a (unsigned_abs (x -ℤ y)) (apart xs ys) (squared_distance xs ys) (length xs) here rest
@@ -66,7 +69,8 @@ sums_apart [] [] same = omega arith
 sums_apart [] (y ∷ ys) same = absurd (omega arith)
 sums_apart (x ∷ xs) [] same = absurd (omega arith)
 sums_apart (x ∷ xs) (y ∷ ys) same =
-    let parts : (x +ℤ signed_sum xs) -ℤ (y +ℤ signed_sum ys) ≡ (x -ℤ y) +ℤ (signed_sum xs -ℤ signed_sum ys)
+    let parts : (x +ℤ signed_sum xs) -ℤ (y +ℤ signed_sum ys)
+    ≡ (x -ℤ y) +ℤ (signed_sum xs -ℤ signed_sum ys)
     = omega (arith, ints) in
     omega (
       arith,

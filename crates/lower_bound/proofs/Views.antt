@@ -1,5 +1,5 @@
--- Views of queries: their sums are those of the query's segments (`IsView-view_of`), and the bound of a word of all
--- their segments is below 2^49 (`word_bound-lt`).
+-- Views of queries: their sums are those of the query's segments (`IsView-view_of`), and the bound
+-- of a word of all their segments is below 2^49 (`word_bound-lt`).
 use Rattle.std.proofs.Common.{◌≡◌, ℕ, ◌+◌, ◌*◌, ◌^◌, ◌<◌, ◌≤◌, arith, sym, ap, subst, ◌∙◌, ℤ, pos, neg_ℤ, ◌≤ℤ◌, List, [], ◌∷◌, length, get_or, drop}
 use Rattle.std.specs.List.{All}
 use Rattle.std.proofs.lemmas.List.{drop_more}
@@ -21,11 +21,13 @@ use Rattle.lower_bound.proofs.Gaps.{gap-le, cost_bound, part_symbols}
 pub sum_at-view_of : (layout : Layout) (query : List ℤ) (j : ℕ) → j < layout.cuts.segments
     → sum_at (view_of layout query) j ≡ segment_sum layout.cuts query j
 sum_at-view_of layout query j used =
-    get_or-map-range_with_len (segment_sum layout.cuts query) 0 layout.cuts.segments j j (pos 0) used (omega arith)
+    get_or-map-range_with_len (segment_sum layout.cuts query) 0 layout.cuts.segments j j
+    (pos 0) used (omega arith)
 
 -- the view of a query whose sums are within their bounds is a view
 pub IsView-view_of : (layout : Layout) (query : List ℤ) → IsDivision layout.cuts
-    → NoSumBelow layout.cuts query layout.cuts.segments → NoSumAbove layout.cuts query layout.cuts.segments
+    → NoSumBelow layout.cuts query layout.cuts.segments
+    → NoSumAbove layout.cuts query layout.cuts.segments
     → IsView (view_of layout query)
 IsView-view_of layout query is low high =
     record {
@@ -40,15 +42,20 @@ IsView-view_of layout query is low high =
 -- the symbols of a query and the costs of all symbols for its segments are what its view holds
 pub HoldsView-view_of : (layout : Layout) (query : List ℤ) (costs : List (List ℕ))
     → ((j : ℕ) → j < layout.cuts.segments
-    → HoldsCosts layout.table (segment_length layout.cuts j) (segment_sum layout.cuts query j) (get_or costs j []))
+    → HoldsCosts layout.table (segment_length layout.cuts j) (segment_sum layout.cuts query j)
+    (get_or costs j []))
     → HoldsView (view_of layout query) (full_word layout query) costs
 HoldsView-view_of layout query costs each =
     record {
       as_many = length-map-range_with_len (segment_symbol layout query) 0 layout.cuts.segments;
       symbols_of = λ j used.
-          get_or-map-range_with_len (segment_symbol layout query) 0 layout.cuts.segments j j 0 used (omega arith)
-          ∙ ap (λ s. symbol_of layout.table (segment_length layout.cuts j) s) (sym (sum_at-view_of layout query j used));
-      costs_of = λ j used. subst (λ s. HoldsCosts layout.table (segment_length layout.cuts j) s (get_or costs j []))
+          get_or-map-range_with_len (segment_symbol layout query) 0 layout.cuts.segments j j 0 used
+          (omega arith)
+          ∙ ap (λ s. symbol_of layout.table (segment_length layout.cuts j) s)
+          (sym (sum_at-view_of layout query j used));
+      costs_of =
+          λ j used. subst
+          (λ s. HoldsCosts layout.table (segment_length layout.cuts j) s (get_or costs j []))
           (sym (sum_at-view_of layout query j used)) (each j used);
     }
 
@@ -56,23 +63,31 @@ HoldsView-view_of layout query costs each =
 pub length_at-pos : (view : View) (j : ℕ) → IsView view → 1 ≤ length_at view j
 length_at-pos view j is = omega (arith, cut_place_rises view.layout.cuts j is.division)
 
--- the costs of parts from a segment to the last are at most 4261478400 times the values of these segments
+-- the costs of parts from a segment to the last are at most 4261478400 times the values of these
+-- segments
 pub parts_bound-le : (view : View) (j : ℕ) (parts : List Part) → IsView view → All IsPart parts
     → j + length parts ≡ view.layout.cuts.segments
-    → parts_bound view j parts + 4261478400 * cut_place view.layout.cuts j ≤ 4261478400 * view.layout.cuts.row_length
+    → parts_bound view j parts + 4261478400 * cut_place view.layout.cuts j
+    ≤ 4261478400 * view.layout.cuts.row_length
 parts_bound-le view j [] is parts end =
     let last : cut_place view.layout.cuts j ≡ view.layout.cuts.row_length
-    = ap (cut_place view.layout.cuts) (omega (arith, end)) ∙ cut_place_last view.layout.cuts is.division in
+    = ap (cut_place view.layout.cuts) (omega (arith, end))
+    ∙ cut_place_last view.layout.cuts is.division in
     omega (arith, last)
 parts_bound-le view j (p ∷ rest) is parts end =
     let used : j < view.layout.cuts.segments = omega (arith, end) in
     let long = length_at-pos view j is in
     let symbols = part_symbols p (All-head IsPart p rest parts) in
-    let small = gap-le view.layout.table (length_at view j) (sum_at view j) (first_symbol p) (end_symbol p) long
+    let small
+    =
+    gap-le view.layout.table (length_at view j) (sum_at view j) (first_symbol p)
+    (end_symbol p) long
     symbols.0 symbols.1 (is.not_low j used) (is.not_high j used) in
-    let here : part_cost view.layout.table (length_at view j) (sum_at view j) p ≤ 4261478400 * length_at view j
+    let here : part_cost view.layout.table (length_at view j) (sum_at view j) p
+    ≤ 4261478400 * length_at view j
     = cost_bound (length_at view j) _ long small in
-    let behind = parts_bound-le view (j + 1) rest is (All-tail IsPart p rest parts) (omega (arith, end)) in
+    let behind
+    = parts_bound-le view (j + 1) rest is (All-tail IsPart p rest parts) (omega (arith, end)) in
     omega (arith, here, behind, cut_place_rises view.layout.cuts j is.division)
 
 -- the bound of a word is below 2^49
@@ -83,23 +98,29 @@ word_bound-lt view word is parts whole =
 
 -- the part of all eight bits of a symbol is one
 eight_bits_part : (s : ℕ) → s < 256 → IsPart (record { prefix = s; bits = 8 })
-eight_bits_part s small = record { some_bits = omega arith; eight_bits = omega arith; prefix_fits = omega arith }
+eight_bits_part s small =
+    record { some_bits = omega arith; eight_bits = omega arith; prefix_fits = omega arith }
 
 -- the parts of the word of all eight bits are parts
-pub eight_bit_word_parts : (symbols : List ℕ) → All (λ s. s < 256) symbols → All IsPart (eight_bit_word symbols)
+pub eight_bit_word_parts : (symbols : List ℕ) → All (λ s. s < 256) symbols
+    → All IsPart (eight_bit_word symbols)
 eight_bit_word_parts symbols bytes =
     All-map IsPart (λ s. record { prefix = s; bits = 8 }) symbols
-    (All-weaker (λ s. s < 256) (λ s. IsPart (record { prefix = s; bits = 8 })) eight_bits_part symbols bytes)
+    (All-weaker (λ s. s < 256)
+    (λ s. IsPart (record { prefix = s; bits = 8 })) eight_bits_part symbols bytes)
 
 -- the cost of a part of all eight bits is that of its symbol
 pub part_cost-eight_bits : (view : View) (j s : ℕ)
-    → part_cost view.layout.table (length_at view j) (sum_at view j) (record { prefix = s; bits = 8 })
+    → part_cost view.layout.table (length_at view j) (sum_at view j)
+    (record { prefix = s; bits = 8 })
     ≡ symbol_cost view.layout.table (length_at view j) (sum_at view j) s
 part_cost-eight_bits view j s =
     let first : s * 1 ≡ s = omega arith in
     let end : (s + 1) * 1 ≡ s + 1 = omega arith in
     ap (λ k. cost_of_gap (length_at view j) (gap view.layout.table (length_at view j) (sum_at view j) k ((s + 1) * 1))) first
-    ∙ ap (λ k. cost_of_gap (length_at view j) (gap view.layout.table (length_at view j) (sum_at view j) s k)) end
+    ∙ ap
+    (λ k. cost_of_gap (length_at view j)
+    (gap view.layout.table (length_at view j) (sum_at view j) s k)) end
 
 -- the costs of what is left of a word begin with that of its next part
 pub parts_bound-drop : (view : View) (word : List Part) (j : ℕ) → j < length word

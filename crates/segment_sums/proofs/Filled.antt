@@ -16,8 +16,10 @@ fill_next {X} f padding n k xs y inside so value =
     let behind = replicate (n - (k + 1)) padding in
     let one_less : n - k ≡ suc (n - (k + 1)) = omega arith in
     let long : length front ≡ k = length-map-range_with_len f 0 k in
-    let split : xs ≡ front ++ padding ∷ behind = so ∙ ap (λ m. front ++ replicate m padding) one_less in
-    let more : map f (range_with_len 0 (k + 1)) ≡ front ++ f k ∷ [] = map-range_with_len_more f 0 k k (omega arith) in
+    let split : xs ≡ front ++ padding ∷ behind = so
+    ∙ ap (λ m. front ++ replicate m padding) one_less in
+    let more : map f (range_with_len 0 (k + 1)) ≡ front ++ f k ∷ []
+    = map-range_with_len_more f 0 k k (omega arith) in
     ap (λ (l : List X). set l k y) split
     ∙ set_at front padding behind y k long
     ∙ ap (λ v. front ++ v ∷ behind) value

@@ -9,7 +9,8 @@ use Rattle.isax_word.proofs.Words.{contains_next}
 use Rattle.isax_word.proofs.word.contains.Goals as goal
 
 -- the test of a part and its symbol, from what was read of them
-test_is : (word : List Part) (full : List ℕ) (j symbol bits prefix : ℕ) → slice_get full j ≡ Some symbol
+test_is : (word : List Part) (full : List ℕ) (j symbol bits prefix : ℕ)
+    → slice_get full j ≡ Some symbol
     → bits ≡ (part_at word j).bits → prefix ≡ (part_at word j).prefix
     → part_contains (part_at word j) (get_or full j 0) ≡ eqb (symbol / 2 ^ (8 - bits)) prefix
 test_is word full j symbol bits prefix read of_bits of_prefix =
@@ -40,4 +41,5 @@ loop-j-preserved c =
     let passes : part_contains (part_at word j) (get_or full j 0) ≡ true
     = test_is word full j c.symbol.result c.bits.result c.prefix.result c.symbol.ensures c.bits.ensures.value
     c.prefix.ensures.value ∙ eq-eqb _ _ c.if-symbol-bits.false in
-    sym (next ∙ ap (λ b. b && word_contains (drop (j + 1) word) (drop (j + 1) full)) passes) ∙ c.loop-j.invariant
+    sym (next ∙ ap (λ b. b && word_contains (drop (j + 1) word) (drop (j + 1) full)) passes)
+    ∙ c.loop-j.invariant

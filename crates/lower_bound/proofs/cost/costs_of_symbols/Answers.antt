@@ -8,7 +8,8 @@ use Rattle.lower_bound.proofs.cost.costs_of_symbols.Goals as goal
 
 pub loop-symbol-preserved : goal.loop-symbol-preserved
 loop-symbol-preserved c =
-    let inside : c.loop-symbol.symbol < length c.loop-symbol.costs = omega (arith, c.loop-symbol.invariant.whole) in
+    let inside : c.loop-symbol.symbol < length c.loop-symbol.costs
+    = omega (arith, c.loop-symbol.invariant.whole) in
     record {
       whole = length-set _ _ _ ∙ c.loop-symbol.invariant.whole;
       each = below_more _ _
@@ -19,9 +20,11 @@ loop-symbol-preserved c =
 
 pub returns : goal.returns
 returns c =
-    let held : HoldsCosts c.args.table c.args.length (to_z w32 (of_z w32 c.args.sum)) c.loop-symbol.costs
+    let held : HoldsCosts c.args.table c.args.length
+    (to_z w32 (of_z w32 c.args.sum)) c.loop-symbol.costs
     = record {
       whole = c.loop-symbol.invariant.whole;
       each = λ s inside. c.loop-symbol.invariant.each s (omega arith);
     } in
-    subst (λ z. HoldsCosts c.args.table c.args.length z c.loop-symbol.costs) (to_z-of_z w32 c.args.sum c.ranges.sum) held
+    subst (λ z. HoldsCosts c.args.table c.args.length z c.loop-symbol.costs)
+    (to_z-of_z w32 c.args.sum c.ranges.sum) held

@@ -10,9 +10,11 @@ pub returns-clause-bound : goal.returns-clause-bound
 returns-clause-bound c =
     let sum = to_z w32 (of_z w32 c.args.sum) in
     let here : sum ≡ c.args.sum = to_z-of_z w32 c.args.sum c.ranges.sum in
-    let total : gap c.args.table c.args.length sum c.args.symbol (c.args.symbol + 1) ≤ 65280 * c.args.length
+    let total : gap c.args.table c.args.length sum c.args.symbol (c.args.symbol + 1)
+    ≤ 65280 * c.args.length
     = gap-le c.args.table c.args.length sum c.args.symbol (c.args.symbol + 1) c.requires.some_values
-    (omega arith) (omega (arith, c.requires.eight_bits)) (omega (arith, ints, here, c.requires.not_low))
+    (omega arith) (omega (arith, c.requires.eight_bits))
+    (omega (arith, ints, here, c.requires.not_low))
     (omega (arith, ints, here, c.requires.not_high)) in
     omega (arith, total, c.below.ensures, c.above.ensures, c.requires.few_values)
 

@@ -8,4 +8,13 @@ returns-clause-eight_bits c =
     let symbols = part_symbols (record { prefix = c.args.prefix; bits = c.args.bits }) c.requires in
     let first : c.from.result * 2 ^ (8 - c.args.bits) ≡ c.args.prefix * 2 ^ (8 - c.args.bits)
     = ap (λ n. n * 2 ^ (8 - c.args.bits)) c.from.ensures in
-    omega (arith, c.max.ensures, c.min.ensures, c.from-2.ensures, symbols.0, symbols.1, first, c.ranges.symbol)
+    omega (
+      arith,
+      c.max.ensures,
+      c.min.ensures,
+      c.from-2.ensures,
+      symbols.0,
+      symbols.1,
+      first,
+      c.ranges.symbol,
+    )

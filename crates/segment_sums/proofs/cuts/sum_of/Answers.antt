@@ -9,6 +9,11 @@ pub loop-value-preserved : goal.loop-value-preserved
 loop-value-preserved c =
     let values = c.args.values.now in
     let i = c.loop-value.value-index in
-    let rest : signed_sum (drop i values) ≡ get_or values i (pos 0) +ℤ signed_sum (drop (i + 1) values)
+    let rest : signed_sum (drop i values)
+    ≡ get_or values i (pos 0) +ℤ signed_sum (drop (i + 1) values)
     = at_drop_more signed_sum values i (pos 0) (omega arith) in
-    record { whole = omega (arith, ints); not_low = omega (arith, ints); not_high = omega (arith, ints) }
+    record {
+      whole = omega (arith, ints);
+      not_low = omega (arith, ints);
+      not_high = omega (arith, ints);
+    }

@@ -1,4 +1,5 @@
--- The sum so far and the sum of the rest make the whole sum, and each value adds at most 2^15 to its size.
+-- The sum so far and the sum of the rest make the whole sum, and each value adds at most 2^15 to
+-- its size.
 use Rattle.std.proofs.Common.{◌≡◌, ◌*◌, drop, pos, ◌+ℤ◌, neg_ℤ, ◌≤ℤ◌}
 use Rattle.segment_sums.specs.Sum.{signed_sum}
 use Rattle.segment_sums.proofs.cuts.sum_of.Given as goal

@@ -21,7 +21,9 @@ symbol_of_sum-requires-clause-not_low c =
     let j = c.loop-j.j in
     let used : j < cuts.segments = omega (arith, c.segments-count.ensures.value) in
     let fits : FitsSigned w32 (get_or c.sums.new.into j (pos 0)) = search rules in
-    let sum = segment_sums_at cuts row c.sums.new.into (16 - cuts.segments) j c.sums.ensures.sums used in
+    let sum
+    =
+    segment_sums_at cuts row c.sums.new.into (16 - cuts.segments) j c.sums.ensures.sums used in
     let low = c.sums.ensures.not_low j used in
     omega (arith, ints, sum, low, c.cut-from.ensures.from, c.cut-from.ensures.to)
 
@@ -32,7 +34,9 @@ symbol_of_sum-requires-clause-not_high c =
     let j = c.loop-j.j in
     let used : j < cuts.segments = omega (arith, c.segments-count.ensures.value) in
     let fits : FitsSigned w32 (get_or c.sums.new.into j (pos 0)) = search rules in
-    let sum = segment_sums_at cuts row c.sums.new.into (16 - cuts.segments) j c.sums.ensures.sums used in
+    let sum
+    =
+    segment_sums_at cuts row c.sums.new.into (16 - cuts.segments) j c.sums.ensures.sums used in
     let high = c.sums.ensures.not_high j used in
     omega (arith, ints, sum, high, c.cut-from.ensures.from, c.cut-from.ensures.to)
 
@@ -56,7 +60,8 @@ loop-j-preserved c =
     = c.symbol_of_sum.ensures
     ∙ ap (λ s. symbol_of layout.table (c.cut-from.result.1 - c.cut-from.result.0) s) sum
     ∙ ap (λ n. symbol_of layout.table n (segment_sum cuts row j)) long in
-    let next = padded_next 0 c.loop-j.symbols j c.symbol_of_sum.result inside c.loop-j.invariant.kept in
+    let next
+    = padded_next 0 c.loop-j.symbols j c.symbol_of_sum.result inside c.loop-j.invariant.kept in
     record {
       kept = next.0;
       are = next.1 ∙ ap (λ l. l ++ c.symbol_of_sum.result ∷ []) c.loop-j.invariant.are
@@ -70,10 +75,18 @@ invariant_of-result c =
     let row = c.args.row.now in
     let count = c.segments-count.result in
     let end : c.loop-j.j ≡ count = omega (arith, c.loop-j-test.false, c.loop-j.auto.j-end) in
-    let kept : IsKept 0 c.loop-j.symbols count = subst (IsKept 0 c.loop-j.symbols) end c.loop-j.invariant.kept in
+    let kept : IsKept 0 c.loop-j.symbols count
+    = subst (IsKept 0 c.loop-j.symbols) end c.loop-j.invariant.kept in
     let are : take count c.loop-j.symbols ≡ map (segment_symbol layout row) (range_with_len 0 count)
     = subst (λ k. take k c.loop-j.symbols ≡ map (segment_symbol layout row) (range_with_len 0 k)) end
     c.loop-j.invariant.are in
     let whole : take count c.loop-j.symbols ≡ full_word layout row
-    = are ∙ ap (λ k. map (segment_symbol layout row) (range_with_len 0 k)) c.segments-count.ensures.value in
-    (subst IsFullWord (sym whole) (IsFullWord-full_word layout row c.segments-count.ensures.divides), kept.long, kept.kept)
+    = are
+    ∙ ap
+    (λ k. map (segment_symbol layout row) (range_with_len 0 k))
+    c.segments-count.ensures.value in (
+      subst IsFullWord (sym whole)
+          (IsFullWord-full_word layout row c.segments-count.ensures.divides),
+      kept.long,
+      kept.kept,
+    )

@@ -17,7 +17,8 @@ returns-then-prefixes-bits-clause-accepted c = (
   λ make.
       let long = length-parts_of c.args.prefixes.now c.args.bits.now make.same_length in
       elim c.then-prefixes-bits.branch [
-        | then-prefixes-bits-via-then-prefixes-bits w ↦ absurd (w.if-prefixes-bits.true make.same_length)
+        | then-prefixes-bits-via-then-prefixes-bits w ↦ absurd
+            (w.if-prefixes-bits.true make.same_length)
         | then-prefixes-bits-via-else-prefixes-bits+then-is_empty w ↦
             let none : length c.args.prefixes.now ≡ 0
             = eqb-true (length c.args.prefixes.now) 0 (sym w.is_empty.ensures ∙ w.if-is_empty.true) in
@@ -36,7 +37,8 @@ returns-then-not-is_part-clause-accepted c = (
       let j = c.loop-j.j in
       let in_prefixes : j < length prefixes = c.loop-j-test.true in
       let in_bits : j < length bits = omega (arith, make.same_length) in
-      let long : length (parts_of prefixes bits) ≡ length prefixes = length-parts_of prefixes bits make.same_length in
+      let long : length (parts_of prefixes bits) ≡ length prefixes
+      = length-parts_of prefixes bits make.same_length in
       let is : IsPart (record { prefix = get_or prefixes j 0; bits = get_or bits j 0 })
       = subst IsPart (part_at-parts_of prefixes bits j in_prefixes in_bits)
       (make.is_word.parts j no_part (omega (arith, long))) in
@@ -62,7 +64,8 @@ loop-j-preserved c =
           ∙ ap (λ l. take j parts ++ l) (sym (parts_of-drop prefixes bits j in_prefixes in_bits))
           ∙ c.loop-j.invariant.whole;
       parts = subst (All IsPart) (sym next.1)
-          (All-push IsPart (take j parts) part c.loop-j.invariant.parts (c.is_part.ensures.0 c.if-not-is_part.false));
+          (All-push IsPart (take j parts) part c.loop-j.invariant.parts
+          (c.is_part.ensures.0 c.if-not-is_part.false));
     }
 
 pub returns-clause-accepted : goal.returns-clause-accepted
@@ -72,14 +75,16 @@ returns-clause-accepted c = (
       let bits = c.args.bits.now in
       let j = c.loop-j.j in
       let same : length prefixes ≡ length bits = c.if-prefixes-bits.false in
-      let long : length (parts_of prefixes bits) ≡ length prefixes = length-parts_of prefixes bits same in
+      let long : length (parts_of prefixes bits) ≡ length prefixes
+      = length-parts_of prefixes bits same in
       let end : j ≡ length prefixes = omega (arith, c.loop-j-test.false, c.loop-j.auto.j-end) in
       let not_none = eqb-false (length prefixes) 0 (sym c.is_empty.ensures ∙ c.if-is_empty.false) in
       let some : 1 ≤ length prefixes = omega (arith, not_none) in
       let none : parts_of (drop j prefixes) (drop j bits) ≡ []
       = ap (λ ps. parts_of ps (drop j bits)) (drop_all j prefixes (omega arith)) in
       let whole : take j c.loop-j.parts ≡ parts_of prefixes bits
-      = sym (append-nil _) ∙ ap (λ l. take j c.loop-j.parts ++ l) (sym none) ∙ c.loop-j.invariant.whole in
+      = sym (append-nil _) ∙ ap (λ l. take j c.loop-j.parts ++ l) (sym none)
+      ∙ c.loop-j.invariant.whole in
       record {
         same_length = same;
         is_word = record {

@@ -8,6 +8,7 @@ use Rattle.isax_word.proofs.word.Word.of_parts.Given as goal
 abbrev pub invariant-loop-j : goal.invariant-loop-j
 invariant-loop-j l = record {
   kept : IsKept no_part l.parts l.j;
-  whole : take l.j l.parts ++ parts_of (drop l.j l.prefixes) (drop l.j l.bits) ≡ parts_of l.prefixes l.bits;
+  whole : take l.j l.parts ++ parts_of (drop l.j l.prefixes) (drop l.j l.bits)
+      ≡ parts_of l.prefixes l.bits;
   parts : All IsPart (take l.j l.parts);
 }

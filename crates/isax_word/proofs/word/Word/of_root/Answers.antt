@@ -24,7 +24,9 @@ loop-j-preserved c =
     let inside : j < 16 = omega (arith, c.loop-j-test.true, c.requires.few_segments) in
     let one_less : c.args.w - j ≡ suc m = omega (arith, c.loop-j-test.true) in
     let same : c.args.w - 1 - j ≡ m = omega arith in
-    let is_place : place ≡ 2 ^ m = one_shl (c.args.w - 1 - j) 32 (omega (arith, c.requires.few_segments)) ∙ ap (λ k. 2 ^ k) same in
+    let is_place : place ≡ 2 ^ m
+    = one_shl (c.args.w - 1 - j) 32 (omega (arith, c.requires.few_segments))
+    ∙ ap (λ k. 2 ^ k) same in
     let y = one_bit (rest / 2 ^ (c.args.w - 1 - j)) in
     let next = padded_next no_part parts j y inside c.loop-j.invariant.kept in
     let behind = one_bit_word (rest % place) m in
@@ -51,7 +53,9 @@ invariant_of-result c =
     ∙ sym (append-nil (take c.loop-j.j parts))
     ∙ ap (λ k. take c.loop-j.j parts ++ one_bit_word c.loop-j.rest k) (sym none)
     ∙ c.loop-j.invariant.whole in (
-      subst IsWord (sym whole) (IsWord-one_bit_word c.args.root w c.requires.some_segments c.requires.few_segments c.requires.bits),
+      subst IsWord (sym whole)
+          (IsWord-one_bit_word c.args.root w c.requires.some_segments c.requires.few_segments
+          c.requires.bits),
       kept.long,
       kept.kept,
     )

@@ -16,7 +16,8 @@ returns-clause-small c =
       arith,
       c.loop-j.invariant,
       word_bound-lt view (eight_bit_word full) is
-          (eight_bit_word_parts full c.segments-j-end.ensures.is_full_word.eight_bits) (length-map full _ ∙ c.requires),
+          (eight_bit_word_parts full c.segments-j-end.ensures.is_full_word.eight_bits)
+          (length-map full _ ∙ c.requires),
     )
 
 pub loop-j-preserved : goal.loop-j-preserved
@@ -48,5 +49,6 @@ overflow_add-bound c =
       arith,
       loop-j-preserved c,
       word_bound-lt view (eight_bit_word full) is
-          (eight_bit_word_parts full c.segments-j-end.ensures.is_full_word.eight_bits) (length-map full _ ∙ c.requires),
+          (eight_bit_word_parts full c.segments-j-end.ensures.is_full_word.eight_bits)
+          (length-map full _ ∙ c.requires),
     )

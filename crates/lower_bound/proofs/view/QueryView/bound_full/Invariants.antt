@@ -5,4 +5,5 @@ use Rattle.lower_bound.proofs.view.QueryView.bound_full.Given as goal
 
 abbrev pub invariant-loop-j : goal.invariant-loop-j
 invariant-loop-j l =
-    l.bound + parts_bound l.self l.j (eight_bit_word (drop l.j l.full)) ≡ word_bound l.self (eight_bit_word l.full)
+    l.bound + parts_bound l.self l.j (eight_bit_word (drop l.j l.full))
+    ≡ word_bound l.self (eight_bit_word l.full)

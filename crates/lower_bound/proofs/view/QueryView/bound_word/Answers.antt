@@ -14,7 +14,11 @@ returns-clause-small c =
     let view = c.args.self.now in
     let word = c.args.word.now in
     let is : IsView view = subst IsView c.self.view_is c.self.invariant.0 in
-    omega (arith, c.loop-j.invariant, word_bound-lt view word is c.segments-j-end.ensures.is_word.parts c.requires)
+    omega (
+      arith,
+      c.loop-j.invariant,
+      word_bound-lt view word is c.segments-j-end.ensures.is_word.parts c.requires,
+    )
 
 pub loop-j-preserved : goal.loop-j-preserved
 loop-j-preserved c =
@@ -34,16 +38,20 @@ loop-j-preserved c =
     = ap (λ p. record { prefix = p; bits = c.bits.result }) c.prefix.ensures.value
     ∙ ap (λ b. record { prefix = (part_at word j).prefix; bits = b }) c.bits.ensures.value in
     let symbol : c.symbol.result ≡ symbol_at view j
-    = sym (get_or_from_slice_get c.self.inside.full j c.symbol.result 0 c.symbol.ensures) ∙ holds.symbols_of j used in
+    = sym (get_or_from_slice_get c.self.inside.full j c.symbol.result 0 c.symbol.ensures)
+    ∙ holds.symbols_of j used in
     let nearest : near ≡ nearest_symbol (part_at word j) (symbol_at view j)
     = c.nearest_to-symbol.ensures.value
     ∙ ap (λ p. nearest_symbol p c.symbol.result) part
     ∙ ap (λ s. nearest_symbol (part_at word j) s) symbol in
-    let is : IsPart (part_at word j) = All-get_or IsPart word j no_part in_word c.segments-j-end.ensures.is_word.parts in
-    let here : part_cost view.layout.table (length_at view j) (sum_at view j) (part_at word j) ≡ cost near
+    let is : IsPart (part_at word j)
+    = All-get_or IsPart word j no_part in_word c.segments-j-end.ensures.is_word.parts in
+    let here : part_cost view.layout.table (length_at view j) (sum_at view j) (part_at word j)
+    ≡ cost near
     = part_cost_nearest view.layout.table (length_at view j) (sum_at view j) (part_at word j) is
     ∙ ap cost (sym nearest) in
-    let next : c.loop-j.bound + get_or (get_or costs j []) near 0 + parts_bound view (j + 1) (drop (j + 1) word)
+    let next : c.loop-j.bound + get_or (get_or costs j []) near 0 + parts_bound view (j + 1)
+    (drop (j + 1) word)
     ≡ word_bound view word
     = omega (arith, c.loop-j.invariant, parts_bound-drop view word j in_word, read, here) in
     next
@@ -53,4 +61,8 @@ overflow_add-bound c =
     let view = c.args.self.now in
     let word = c.args.word.now in
     let is : IsView view = subst IsView c.self.view_is c.self.invariant.0 in
-    omega (arith, loop-j-preserved c, word_bound-lt view word is c.segments-j-end.ensures.is_word.parts c.requires)
+    omega (
+      arith,
+      loop-j-preserved c,
+      word_bound-lt view word is c.segments-j-end.ensures.is_word.parts c.requires,
+    )

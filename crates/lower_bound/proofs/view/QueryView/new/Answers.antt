@@ -19,7 +19,10 @@ costs_of_symbols-requires-clause-not_low c =
     let j = c.loop-j.j in
     let used : j < cuts.segments = omega (arith, c.segments-j-end.ensures.value) in
     let fits : FitsSigned w32 (get_or c.sums.new.into j (pos 0)) = search rules in
-    let sum = segment_sums_at cuts c.args.query.now c.sums.new.into (16 - cuts.segments) j c.sums.ensures.sums used in
+    let sum
+    =
+    segment_sums_at cuts c.args.query.now c.sums.new.into
+    (16 - cuts.segments) j c.sums.ensures.sums used in
     let low = c.sums.ensures.not_low j used in
     omega (arith, ints, sum, low, c.cut-from.ensures.from, c.cut-from.ensures.to)
 
@@ -29,7 +32,10 @@ costs_of_symbols-requires-clause-not_high c =
     let j = c.loop-j.j in
     let used : j < cuts.segments = omega (arith, c.segments-j-end.ensures.value) in
     let fits : FitsSigned w32 (get_or c.sums.new.into j (pos 0)) = search rules in
-    let sum = segment_sums_at cuts c.args.query.now c.sums.new.into (16 - cuts.segments) j c.sums.ensures.sums used in
+    let sum
+    =
+    segment_sums_at cuts c.args.query.now c.sums.new.into
+    (16 - cuts.segments) j c.sums.ensures.sums used in
     let high = c.sums.ensures.not_high j used in
     omega (arith, ints, sum, high, c.cut-from.ensures.from, c.cut-from.ensures.to)
 
@@ -42,7 +48,14 @@ loop-j-preserved c =
     let costs = c.loop-j.costs in
     let made = c.costs_of_symbols.result in
     let used : j < cuts.segments = omega (arith, c.segments-j-end.ensures.value) in
-    let inside : j < length costs = omega (arith, c.loop-j.invariant.whole, used, c.segments-j-end.ensures.divides.few_segments) in
+    let inside : j < length costs
+    =
+    omega (
+      arith,
+      c.loop-j.invariant.whole,
+      used,
+      c.segments-j-end.ensures.divides.few_segments,
+    ) in
     let fits : FitsSigned w32 (get_or c.sums.new.into j (pos 0)) = search rules in
     let sum = to_z-of_z w32 (get_or c.sums.new.into j (pos 0)) fits
     ∙ segment_sums_at cuts query c.sums.new.into (16 - cuts.segments) j c.sums.ensures.sums used in
@@ -71,13 +84,18 @@ invariant_of-result c =
     let costs = c.loop-j.costs in
     let sums : take segments c.sums.new.into ≡ segment_sums layout.cuts query
     = ap (λ l. take segments l) c.sums.ensures.sums
-    ∙ take_at (segment_sums layout.cuts query) _ segments (length-map-range_with_len _ 0 segments) in
-    let same : record { layout = layout; sums = take segments c.sums.new.into } ≡ view_of layout query
+    ∙ take_at (segment_sums layout.cuts query) _ segments
+    (length-map-range_with_len _ 0 segments) in
+    let same : record {
+      layout = layout;
+      sums = take segments c.sums.new.into;
+    } ≡ view_of layout query
     = ap (λ s. record { layout = layout; sums = s }) sums in
     let is : IsView (view_of layout query)
     = IsView-view_of layout query c.segments-j-end.ensures.divides c.sums.ensures.not_low c.sums.ensures.not_high in
     let holds = HoldsView-view_of layout query costs
-    (λ k used. c.loop-j.invariant.each k (omega (arith, used, c.segments-j-end.ensures.value, c.loop-j-test.false))) in (
+    (λ k used. c.loop-j.invariant.each k
+    (omega (arith, used, c.segments-j-end.ensures.value, c.loop-j-test.false))) in (
       subst IsView (sym same) is,
       subst (λ v. HoldsView v c.of-full.result costs) (sym same)
           (subst (λ f. HoldsView (view_of layout query) f costs) (sym c.of-full.ensures) holds),

@@ -8,6 +8,8 @@ use Rattle.lower_bound.proofs.view.QueryView.new.Given as goal
 abbrev pub invariant-loop-j : goal.invariant-loop-j
 invariant-loop-j l = record {
   whole : length l.costs ≡ 16;
-  each : (k : ℕ) → k < l.j → HoldsCosts l.layout.table (segment_length l.layout.cuts k) (segment_sum l.layout.cuts l.query k)
+  each : (k : ℕ) → k < l.j
+      → HoldsCosts l.layout.table (segment_length l.layout.cuts k)
+      (segment_sum l.layout.cuts l.query k)
       (get_or l.costs k []);
 }

@@ -11,7 +11,8 @@ loop-j-preserved c =
     record {
       whole = length-set _ _ _ ∙ c.loop-j.invariant.whole;
       written = below_more _ _
-          (λ k before. let other : k ≢ c.loop-j.j = omega arith in rw get_or-set_other (c.loop-j.invariant.written k before))
+          (λ k before. let other : k ≢ c.loop-j.j =
+          omega arith in rw get_or-set_other (c.loop-j.invariant.written k before))
           (rw get_or-set_same);
     }
 

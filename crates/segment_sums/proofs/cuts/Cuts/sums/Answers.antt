@@ -20,8 +20,10 @@ loop-j-preserved c =
     let values : slice_range row c.cut-from.result.0 c.cut-from.result.1 ≡ segment_values cuts row j
     = ap (λ a. slice_range row a c.cut-from.result.1) c.cut-from.ensures.from
     ∙ ap (λ b. slice_range row (cut_place cuts j) b) c.cut-from.ensures.to in
-    let sum : c.sum_of.result ≡ segment_sum cuts row j = c.sum_of.ensures.value ∙ ap signed_sum values in
-    let long : length (slice_range row c.cut-from.result.0 c.cut-from.result.1) ≡ segment_length cuts j
+    let sum : c.sum_of.result ≡ segment_sum cuts row j = c.sum_of.ensures.value
+    ∙ ap signed_sum values in
+    let long : length (slice_range row c.cut-from.result.0 c.cut-from.result.1)
+    ≡ segment_length cuts j
     = ap (λ xs. length xs) values ∙ length-segment_values cuts row j is c.requires used in
     let low : neg_ℤ (pos (32768 * segment_length cuts j)) ≤ℤ segment_sum cuts row j
     = subst (λ z. neg_ℤ (pos (32768 * segment_length cuts j)) ≤ℤ z) sum
@@ -30,7 +32,9 @@ loop-j-preserved c =
     = subst (λ z. z ≤ℤ pos (32767 * segment_length cuts j)) sum
     (subst (λ n. c.sum_of.result ≤ℤ pos (32767 * n)) long c.sum_of.ensures.not_high) in
     record {
-      sums = fill_next (segment_sum cuts row) (pos 0) 16 j c.loop-j.into _ (omega (arith, is.few_segments))
+      sums =
+          fill_next (segment_sum cuts row) (pos 0) 16 j c.loop-j.into _
+          (omega (arith, is.few_segments))
           c.loop-j.invariant.sums (to_z-of_z w32 c.sum_of.result fits ∙ sum);
       not_low = below_more _ _ c.loop-j.invariant.not_low low;
       not_high = below_more _ _ c.loop-j.invariant.not_high high;
