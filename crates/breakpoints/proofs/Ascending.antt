@@ -22,6 +22,7 @@ passes_at : (p : ℕ → Bool) (a n i : ℕ) → list_all p (range_with_len a n)
     → p (a + i) ≡ true
 passes_at p a n i whole inside = by_test (p (a + i)) refl
   where
+    -- the test at this place cannot fail
     by_test : (b : Bool) → p (a + i) ≡ b → b ≡ true
     by_test true e = refl
     by_test false e =

@@ -129,6 +129,7 @@ pub narrowed_next : (l : ℕ) (s : ℤ) (found step : ℕ) → 1 ≤ step → Na
     → Narrowed l s (found + step * cond (is_reached Bent l s (found + step)) 1 0) step
 narrowed_next l s found step some is = by_test (is_reached Bent l s (found + step)) refl
   where
+    -- where the middle is reached the half behind it is left, else the half before
     by_test : (b : Bool) → is_reached Bent l s (found + step) ≡ b
         → Narrowed l s (found + step * cond b 1 0) step
     by_test true passes =

@@ -35,6 +35,7 @@ first_bits_next c s inside =
 eqb-add : (a x y : ℕ) → eqb (a + x) (a + y) ≡ eqb x y
 eqb-add a x y = by_test (eqb x y) refl
   where
+    -- both tests have the one answer
     by_test : (b : Bool) → eqb x y ≡ b → eqb (a + x) (a + y) ≡ b
     by_test true same = eq-eqb (a + x) (a + y) (ap (λ n. a + n) (eqb-true x y same))
     by_test false apart = ne_eqb (a + x) (a + y) (λ same. eqb-false x y apart (omega arith))
@@ -68,6 +69,7 @@ child_part_within p high s divisible contained =
     let bit : next_bit p.bits s < 2 = mod_below (first_bits (p.bits + 1) s) 2 (omega arith) in
     eq-eqb (first_bits p.bits s) p.prefix (by_bit high is more bit)
   where
+    -- an added bit is the remainder of a division by 2
     by_bit : (b : Bool) → first_bits (p.bits + 1) s ≡ 2 * p.prefix + cond b 1 0
         → first_bits (p.bits + 1) s ≡ 2 * first_bits p.bits s + next_bit p.bits s
         → next_bit p.bits s < 2

@@ -1,5 +1,5 @@
 -- Words: for each segment the first bits of its symbol, and how many bits these are, from 1 to 8.
-use Rattle.std.specs.Prelude.{ℕ, zero, suc, ◌≡◌, ◌+◌, ◌-◌, ◌*◌, ◌/◌, ◌%◌, ◌^◌, ◌<◌, ◌≤◌, ◌==◌, ◌&&◌, Bool, true, false, if◌then◌else◌, List, [], ◌∷◌, length, slice_index_or, slice_set}
+use Rattle.std.specs.Prelude.{ℕ, zero, suc, ◌≡◌, ◌+◌, ◌-◌, ◌*◌, ◌/◌, ◌%◌, ◌^◌, ◌<◌, ◌≤◌, ◌==◌, ◌&&◌, Bool, true, false, if◌then◌else◌, List, [], ◌∷◌, length, slice_index, slice_index_or, slice_set}
 use Rattle.std.specs.List.{All}
 use Rattle.isax_word.specs.declared.word.Part.{Part}
 
@@ -60,6 +60,10 @@ child_word word j high = slice_set word j (child_part (part_at word j) high)
 -- the bit of a symbol that follows its first bits
 abbrev pub next_bit : ℕ → ℕ → ℕ
 next_bit bits symbol = first_bits (bits + 1) symbol % 2
+
+-- the bit of segment j's symbol that follows those that a word has
+abbrev pub next_bit_at : List Part → List ℕ → ℕ → ℕ
+next_bit_at word symbols j = next_bit (part_at word j).bits (slice_index symbols j)
 
 -- the word of w parts of one bit that are the bits of a number below 2^w, the most significant first
 abbrev pub one_bit_word : ℕ → ℕ → List Part

@@ -1,8 +1,8 @@
 //! Laws of symbols and words that other crates rest on. Each is proved of the definitions alone.
-ghost use Rattle.std.specs.Prelude.{◌≡◌, ◌+◌, ◌-◌, ◌*◌, ◌^◌, ◌<◌, ◌≤◌, ◌↔◌, true, false, not, length, slice_index, IsTrue, pos, ◌*ℤ◌, ◌<ℤ◌, ◌≤ℤ◌};
+ghost use Rattle.std.specs.Prelude.{◌≡◌, ◌+◌, ◌-◌, ◌*◌, ◌^◌, ◌<◌, ◌≤◌, ◌↔◌, true, false, not, length, IsTrue, pos, ◌*ℤ◌, ◌<ℤ◌, ◌≤ℤ◌};
 ghost use Rattle.isax_word.specs.Symbol.{symbol_of};
 ghost use Rattle.isax_word.specs.FullWord.{root_number};
-ghost use Rattle.isax_word.specs.Word.{part_at, part_contains, word_contains, child_word, next_bit, one_bit_word};
+ghost use Rattle.isax_word.specs.Word.{part_at, part_contains, word_contains, child_word, next_bit_at, one_bit_word};
 ghost use Rattle.breakpoints.specs.Breakpoint.{breakpoint};
 
 use crate::full::Full;
@@ -13,8 +13,10 @@ use breakpoints::Table;
 /// there is no breakpoint below the symbol 0 and none above the symbol 255.
 pub fn symbol_bracket(table: Table, length: u32, sum: i32)
     ensures last { symbol_of table length sum ≤ 255 }
-    ensures at_least { 1 ≤ symbol_of table length sum → (pos length *ℤ breakpoint table (symbol_of table length sum)) ≤ℤ sum }
-    ensures below { symbol_of table length sum < 255 → sum <ℤ (pos length *ℤ breakpoint table (symbol_of table length sum + 1)) }
+    ensures at_least { let symbol = symbol_of table length sum in
+        1 ≤ symbol → (pos length *ℤ breakpoint table symbol) ≤ℤ sum }
+    ensures below { let symbol = symbol_of table length sum in
+        symbol < 255 → sum <ℤ (pos length *ℤ breakpoint table (symbol + 1)) }
 {}
 
 /// The law that a symbol that a part contains lies from `p * 2^(8-c)` up to `(p+1) * 2^(8-c)`, the latter
@@ -31,10 +33,10 @@ pub fn one_child_contains(word: &Word, segment: u32, full: &Full)
     requires used { segment < length word.now }
     requires divisible { (part_at word.now segment).bits < 8 }
     requires contained { word_contains word.now full.now ≡ true }
-    ensures exactly_one { word_contains (child_word word.now segment true) full.now
-        ≡ not (word_contains (child_word word.now segment false) full.now) }
-    ensures by_the_next_bit { IsTrue (word_contains (child_word word.now segment true) full.now)
-        ↔ (next_bit (part_at word.now segment).bits (slice_index full.now segment) ≡ 1) }
+    ensures exactly_one { let high = word_contains (child_word word.now segment true) full.now in
+        high ≡ not (word_contains (child_word word.now segment false) full.now) }
+    ensures by_the_next_bit { let high = word_contains (child_word word.now segment true) full.now in
+        IsTrue high ↔ (next_bit_at word.now full.now segment ≡ 1) }
 {}
 
 /// The law that a full word that a word's child contains is contained in the word.
@@ -51,7 +53,8 @@ pub fn child_is_within(word: &Word, segment: u32, high: bool, full: &Full)
 pub fn one_root_contains(full: &Full, root: u32)
     requires { root < 2 ^ length full.now }
     ensures root_is_below { root_number full.now < 2 ^ length full.now }
-    ensures that_one_alone { IsTrue (word_contains (one_bit_word root (length full.now)) full.now) ↔ (root ≡ root_number full.now) }
+    ensures that_one_alone { let contained = word_contains (one_bit_word root (length full.now)) full.now in
+        IsTrue contained ↔ (root ≡ root_number full.now) }
 {
     let _segments = full.segments();
 }

@@ -59,9 +59,11 @@ rest_splits d x q j is whole_x whole_q used =
     (split q)
     ∙ squared_distance-append (segment_values d x j) (segment_values d q j) _ _ same
   where
+    -- the segment ends where the next begins
     end : cut_place d j + segment_length d j ≡ cut_place d (j + 1)
     end = omega (arith, cut_place_rises d j is)
 
+    -- what is left of a row is its segment and what is left behind
     split : (row : List ℤ)
         → drop (cut_place d j) row ≡ segment_values d row j ++ drop (cut_place d (j + 1)) row
     split row =

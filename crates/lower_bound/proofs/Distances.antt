@@ -20,9 +20,11 @@ twice_product : (a b : ℕ) → 2 * (a * b) ≤ a * a + b * b
 twice_product a b =
     ⊎_elim (λ less. more a b (omega arith)) (λ least. omega (arith, more b a least)) (cases_lt a b)
   where
+    -- the square of the excess is what is left over
     by_excess : (a k : ℕ) → 2 * (a * (a + k)) ≤ a * a + (a + k) * (a + k)
     by_excess a k = omega arith
 
+    -- the claim where the first number is not the greater
     more : (a b : ℕ) → a ≤ b → 2 * (a * b) ≤ a * a + b * b
     more a b less =
         let is : a + (b - a) ≡ b = omega arith in
@@ -41,6 +43,7 @@ twice_products a (x ∷ xs) (y ∷ ys) same =
     let rest = twice_products a xs ys (omega arith) in
     by_parts a (unsigned_abs (x -ℤ y)) (apart xs ys) (squared_distance xs ys) (length xs) here rest
   where
+    -- the claim for one difference and for the rest makes that for all
     by_parts : (a u v e n : ℕ) → 2 * (a * u) ≤ a * a + u * u → 2 * (a * v) ≤ e + n * (a * a)
         → 2 * (a * (u + v)) ≤ (u * u + e) + suc n * (a * a)
     by_parts a u v e n here rest = omega (arith, suc-mul n (a * a))
@@ -54,6 +57,7 @@ apart_squared (x ∷ xs) (y ∷ ys) same =
     by_parts (unsigned_abs (x -ℤ y)) (apart xs ys) (squared_distance xs ys) (length xs)
     (twice_products (unsigned_abs (x -ℤ y)) xs ys (omega arith)) (apart_squared xs ys (omega arith))
   where
+    -- the square of a sum of a difference and the rest
     by_parts : (u v e n : ℕ) → 2 * (u * v) ≤ e + n * (u * u) → v * v ≤ n * e
         → (u + v) * (u + v) ≤ suc n * (u * u + e)
     by_parts u v e n mixed rest = omega (arith, suc-mul n (u * u + e))

@@ -160,6 +160,7 @@ gap_within t l q s a b first end last =
     let above : gap_above t l q b ≤ excess (q -ℤ s) = above_is (cases_lt b 256) in
     omega (arith, ints, below, above, excess_is (s -ℤ q), excess_is (q -ℤ s))
   where
+    -- the gap below is at most how far the other sum lies above
     below_is : (a : ℕ) → a ≤ symbol_of t l s → gap_below t l q a ≤ excess (s -ℤ q)
     below_is zero first = omega arith
     below_is (suc a) first =
@@ -170,6 +171,7 @@ gap_within t l q s a b first end last =
               (omega (arith, ints)),
         )
 
+    -- the gap above is at most how far the other sum lies below
     above_is : (b < 256) ⊎ (256 ≤ b) → gap_above t l q b ≤ excess (q -ℤ s)
     above_is (inl closed) =
         let beyond : s <ℤ scaled t l b = symbol_unreached t l s b end (omega arith) in
@@ -198,6 +200,7 @@ gap-le t l s a b some before last low high =
     (λ reached. above_is reached (gap_below_none t l s a reached) (cases_lt b 256))
     (cases_lt (symbol_of t l s) a)
   where
+    -- the claim where there is no gap below
     above_is : a ≤ symbol_of t l s → gap_below t l s a ≡ 0 → (b < 256) ⊎ (256 ≤ b)
         → gap t l s a b ≤ 65280 * l
     above_is reached none (inl closed) =
