@@ -1,11 +1,13 @@
 -- The laws of bounds: a word's bound is at most the distance of each series whose full word it
 -- contains (`bound_below_distance`), and a child's bound is at least its parent's (`child_bound`).
-use Rattle.std.proofs.Common.{◌≡◌, ℕ, zero, suc, ◌+◌, ◌-◌, ◌*◌, ◌^◌, ◌<◌, ◌≤◌, Bool, true, arith, sym, ap, subst, ◌∙◌, ℤ, ◌-ℤ◌, List, [], ◌∷◌, ◌++◌, length, drop, map}
+use Rattle.std.proofs.Common.{◌≡◌, ℕ, zero, suc, ◌+◌, ◌-◌, ◌*◌, ◌/◌, ◌^◌, ◌<◌, ◌≤◌, Bool, true, arith, refl, sym, ap, subst, ◌∙◌, ℤ, ◌-ℤ◌, List, [], ◌∷◌, ◌++◌, length, drop, map}
 use Rattle.std.specs.Prelude.{unsigned_abs}
 use Rattle.std.specs.List.{All, range_with_len}
-use Rattle.std.proofs.lemmas.Bool.{and_parts}
+use Rattle.std.proofs.Math.Nat.{div-one}
+use Rattle.std.proofs.lemmas.Bool.{and_parts, and_from, eq-eqb}
 use Rattle.std.proofs.lemmas.Nat.{mul-le}
-use Rattle.std.proofs.lemmas.List.{take-append-drop, drop-drop}
+use Rattle.std.proofs.lemmas.List.{take-append-drop, drop-drop, length-map}
+use Rattle.std.proofs.lemmas.List.FromFn.{length-map-range_with_len}
 use Rattle.std.proofs.lemmas.List.Elements.{All-head, All-tail}
 use Rattle.segment_sums.specs.Division.{Division, IsDivision, cut_place, segment_length}
 use Rattle.segment_sums.specs.Sum.{signed_sum, segment_values, segment_sum}
@@ -18,13 +20,14 @@ use Rattle.isax_word.specs.Symbol.{symbol_of}
 use Rattle.isax_word.specs.FullWord.{full_word, segment_symbol}
 use Rattle.isax_word.specs.Word.{IsPart, part_at, part_contains, word_contains, child_part, child_word}
 use Rattle.isax_word.proofs.Roots.{pow_doubles}
+use Rattle.isax_word.proofs.Symbols.{IsFullWord-full_word}
 use Rattle.isax_word.proofs.Words.{symbols_of_part, added_bit, added_bit-le, IsPart-child_part}
 use Rattle.series_core.specs.Distance.{squared_distance}
 use Rattle.lower_bound.specs.Gap.{gap, first_symbol, end_symbol, part_cost}
-use Rattle.lower_bound.specs.Bound.{View, IsView, view_of, sum_at, length_at, parts_bound, word_bound}
+use Rattle.lower_bound.specs.Bound.{View, IsView, view_of, sum_at, length_at, parts_bound, word_bound, eight_bit_word}
 use Rattle.lower_bound.proofs.Gaps.{gap_within, gap_rises, cost-le, cost_rises, part_symbols}
 use Rattle.lower_bound.proofs.Distances.{difference_of_sums, squared_distance-append}
-use Rattle.lower_bound.proofs.Views.{sum_at-view_of, length_at-pos}
+use Rattle.lower_bound.proofs.Views.{sum_at-view_of, length_at-pos, eight_bit_word_parts}
 
 -- the cost of a part for one segment is at most the distance to another whose symbol it contains
 pub part_below_distance : (t : Table) (l : ℕ) (p : Part) (xs qs : List ℤ) → IsPart p → 1 ≤ l
@@ -119,6 +122,25 @@ bound_below_distance layout x q word is whole_x whole_q all whole contained =
     subst (λ k. word_bound (view_of layout q) word ≤ squared_distance (drop k x) (drop k q))
     (cut_place_first layout.cuts)
     (parts_below_distance layout x q 0 word is whole_x whole_q all (omega (arith, whole)) segments)
+
+-- the word of all eight bits of some symbols contains them
+eight_bits_contain : (symbols : List ℕ) → word_contains (eight_bit_word symbols) symbols ≡ true
+eight_bits_contain [] = refl
+eight_bits_contain (s ∷ symbols) =
+    and_from _ _ (eq-eqb (s / 1) s (div-one s)) (eight_bits_contain symbols)
+
+-- the bound of a series' full word is at most its distance
+pub full_bound_below_distance : (layout : Layout) (x q : List ℤ) → IsDivision layout.cuts
+    → length x ≡ layout.cuts.row_length → length q ≡ layout.cuts.row_length
+    → word_bound (view_of layout q) (eight_bit_word (full_word layout x)) ≤ squared_distance x q
+full_bound_below_distance layout x q is whole_x whole_q =
+    let full = full_word layout x in
+    let segments : length (eight_bit_word full) ≡ layout.cuts.segments
+    = length-map full _
+    ∙ length-map-range_with_len (segment_symbol layout x) 0 layout.cuts.segments in
+    bound_below_distance layout x q (eight_bit_word full) is whole_x whole_q
+    (eight_bit_word_parts full (IsFullWord-full_word layout x is).eight_bits) segments
+    (eight_bits_contain full)
 
 -- the cost of a child of a part is at least that of the part
 child_part_cost : (t : Table) (l : ℕ) (s : ℤ) (p : Part) (high : Bool) → 1 ≤ l → IsPart p

@@ -3,7 +3,7 @@ ghost use Rattle.std.specs.Prelude.{◌≡◌, ◌<◌, ◌≤◌, true, length}
 ghost use Rattle.isax_word.specs.FullWord.{full_word};
 ghost use Rattle.isax_word.specs.Word.{part_at, word_contains, child_word};
 ghost use Rattle.series_core.specs.Distance.{squared_distance};
-ghost use Rattle.lower_bound.specs.Bound.{view_of, word_bound};
+ghost use Rattle.lower_bound.specs.Bound.{view_of, word_bound, eight_bit_word};
 
 use crate::view::QueryView;
 use isax_word::{Layout, Word};
@@ -18,6 +18,16 @@ pub fn bound_is_below_distance(layout: &Layout, query: &[i16], word: &Word, seri
 {
     let _segments = layout.cuts.segments();
     let _parts = word.segments();
+}
+
+/// The law that the bound of a series' own full word is at most its distance.
+pub fn full_bound_is_below_distance(layout: &Layout, query: &[i16], series: &[i16])
+    requires query_length { length query.now ≡ layout.now.cuts.row_length }
+    requires series_length { length series.now ≡ layout.now.cuts.row_length }
+    ensures { let full = eight_bit_word (full_word layout.now series.now) in
+        word_bound (view_of layout.now query.now) full ≤ squared_distance series.now query.now }
+{
+    let _segments = layout.cuts.segments();
 }
 
 /// The law that the bound of a word's child is at least the word's.

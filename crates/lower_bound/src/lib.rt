@@ -8,5 +8,5 @@ mod laws;
 mod tests;
 mod view;
 
-pub use laws::{bound_is_below_distance, child_bound_is_no_less};
+pub use laws::{bound_is_below_distance, child_bound_is_no_less, full_bound_is_below_distance};
 pub use view::QueryView;
