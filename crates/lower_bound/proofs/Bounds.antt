@@ -92,8 +92,7 @@ parts_below_distance layout x q j (p ∷ parts) is whole_x whole_q all end conta
     × (word_contains parts behind_is ≡ true)
     = and_parts (part_contains p (segment_symbol layout x j)) (word_contains parts behind_is) contained in
     let some : 1 ≤ segment_length d j = omega (arith, cut_place_rises d j is) in
-    let behind
-    =
+    let behind =
     parts_below_distance layout x q (j + 1) parts is whole_x whole_q
     (All-tail IsPart p parts all)
     (omega (arith, end)) both.1 in
@@ -102,8 +101,7 @@ parts_below_distance layout x q j (p ∷ parts) is whole_x whole_q all end conta
     = part_below_distance layout.table (segment_length d j) p (segment_values d x j) (segment_values d q j)
     (All-head IsPart p parts all) some (length-segment_values d x j is whole_x used)
     (length-segment_values d q j is whole_q used) both.0 in
-    let sum
-    =
+    let sum =
     ap (λ s. part_cost layout.table (segment_length d j) s p)
     (sum_at-view_of layout q j used) in
     omega (arith, here, behind, sum, rest_splits d x q j is whole_x whole_q used)

@@ -72,8 +72,7 @@ pub gap_below_rises : (t : Table) (l : ℕ) (s : ℤ) (a a' : ℕ) → a ≤ a' 
     → gap_below t l s a ≤ gap_below t l s a'
 gap_below_rises t l s zero a' before last = omega arith
 gap_below_rises t l s (suc a) a' before last =
-    let more
-    =
+    let more =
     scaled_rises l (breakpoint t (suc a)) (breakpoint t a')
     (breakpoint_rises t (suc a) a' (omega arith) before last) in
     omega (

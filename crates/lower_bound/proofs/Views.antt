@@ -78,8 +78,7 @@ parts_bound-le view j (p ∷ rest) is parts end =
     let used : j < view.layout.cuts.segments = omega (arith, end) in
     let long = length_at-pos view j is in
     let symbols = part_symbols p (All-head IsPart p rest parts) in
-    let small
-    =
+    let small =
     gap-le view.layout.table (length_at view j) (sum_at view j) (first_symbol p)
     (end_symbol p) long
     symbols.0 symbols.1 (is.not_low j used) (is.not_high j used) in

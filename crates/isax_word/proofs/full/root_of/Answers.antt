@@ -13,8 +13,7 @@ loop-j-preserved c =
     = get_or_from_slice_get full j c.symbol.result 0 c.symbol.ensures in
     let bit : first_bit (get_or full j 0) ≡ c.from.result = ap first_bit read
     ∙ sym c.from.ensures in
-    let next
-    =
+    let next =
     root_next full c.loop-j.root j (root_number full)
     (omega (arith, c.segments-j-end.ensures.value))
     c.loop-j.invariant.whole in

@@ -19,11 +19,9 @@ returns-clause-exactly_one c =
     let full = c.args.full.now in
     let j = c.args.segment in
     let bits = (part_at word j).bits in
-    let high
-    =
+    let high =
     child_contains word j true full c.requires.used c.requires.divisible c.requires.contained in
-    let low
-    =
+    let low =
     child_contains word j false full c.requires.used c.requires.divisible
     c.requires.contained in
     let bit : next_bit bits (get_or full j 0) < 2
@@ -36,7 +34,6 @@ returns-clause-by_the_next_bit c =
     let full = c.args.full.now in
     let j = c.args.segment in
     let bit = next_bit (part_at word j).bits (get_or full j 0) in
-    let high
-    =
+    let high =
     child_contains word j true full c.requires.used c.requires.divisible c.requires.contained in
     (λ contained. eqb-true bit 1 (sym high ∙ contained), λ is. high ∙ eq-eqb bit 1 is)

@@ -20,8 +20,7 @@ pub child-requires-clause-fits : goal.child-requires-clause-fits
 child-requires-clause-fits c =
     let word = c.args.word.now in
     let j = c.args.segment in
-    let there
-    =
+    let there =
     part_is c.child.inside.parts word c.child.inside.count j c.child.view_is c.child.invariant.1
     c.requires.used in
     let is : IsWord word = subst IsWord c.child.view_is c.child.invariant.0 in
@@ -31,8 +30,7 @@ child-requires-clause-fits c =
 
 pub child-requires-clause-divisible : goal.child-requires-clause-divisible
 child-requires-clause-divisible c =
-    let there
-    =
+    let there =
     part_is c.child.inside.parts c.args.word.now c.child.inside.count c.args.segment
     c.child.view_is
     c.child.invariant.1 c.requires.used in
@@ -46,8 +44,7 @@ child_is : (parts word : List Part) (count j : ℕ) (high : Bool) (child : Part)
     × (take count (set parts j child) ≡ child_word word j high)
 child_is parts word count j high child view kept is used value =
     let long : count ≡ length word = sym kept.long ∙ ap (λ (l : List Part). length l) view in
-    let written
-    =
+    let written =
     padded_set no_part parts count j child (omega (arith, long, is.few_parts))
     (omega (arith, long)) kept in (
       written.0,
@@ -63,8 +60,7 @@ invariant_of-child c =
     let is : IsWord word = subst IsWord c.child.view_is c.child.invariant.0 in
     let kept : IsKept no_part c.child.inside.parts c.child.inside.count
     = record { long = c.child.invariant.1; kept = c.child.invariant.2 } in
-    let written
-    =
+    let written =
     child_is c.child.inside.parts word c.child.inside.count c.args.segment c.args.high
     c.child-2.result
     c.child.view_is kept is c.requires.used c.child-2.ensures in (

@@ -32,8 +32,7 @@ returns-else-end-eq256 c =
     let l = c.args.length in
     let last : c.args.end ≤ 255 = omega (arith, c.requires.last, c.if-end-eq256.false) in
     let fits : FitsSigned w32 c.scaled.result = search rules in
-    let less
-    =
+    let less =
     less_fits t l c.args.end c.scaled.result c.requires.few_values c.requires.some last
     c.scaled.ensures fits in
     let value : to_z w32 (of_z w32 c.args.sum) -ℤ to_z w32

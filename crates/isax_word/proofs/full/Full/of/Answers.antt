@@ -21,8 +21,7 @@ symbol_of_sum-requires-clause-not_low c =
     let j = c.loop-j.j in
     let used : j < cuts.segments = omega (arith, c.segments-count.ensures.value) in
     let fits : FitsSigned w32 (get_or c.sums.new.into j (pos 0)) = search rules in
-    let sum
-    =
+    let sum =
     segment_sums_at cuts row c.sums.new.into (16 - cuts.segments) j c.sums.ensures.sums used in
     let low = c.sums.ensures.not_low j used in
     omega (arith, ints, sum, low, c.cut-from.ensures.from, c.cut-from.ensures.to)
@@ -34,8 +33,7 @@ symbol_of_sum-requires-clause-not_high c =
     let j = c.loop-j.j in
     let used : j < cuts.segments = omega (arith, c.segments-count.ensures.value) in
     let fits : FitsSigned w32 (get_or c.sums.new.into j (pos 0)) = search rules in
-    let sum
-    =
+    let sum =
     segment_sums_at cuts row c.sums.new.into (16 - cuts.segments) j c.sums.ensures.sums used in
     let high = c.sums.ensures.not_high j used in
     omega (arith, ints, sum, high, c.cut-from.ensures.from, c.cut-from.ensures.to)

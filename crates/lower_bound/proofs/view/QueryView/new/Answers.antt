@@ -19,8 +19,7 @@ costs_of_symbols-requires-clause-not_low c =
     let j = c.loop-j.j in
     let used : j < cuts.segments = omega (arith, c.segments-j-end.ensures.value) in
     let fits : FitsSigned w32 (get_or c.sums.new.into j (pos 0)) = search rules in
-    let sum
-    =
+    let sum =
     segment_sums_at cuts c.args.query.now c.sums.new.into
     (16 - cuts.segments) j c.sums.ensures.sums used in
     let low = c.sums.ensures.not_low j used in
@@ -32,8 +31,7 @@ costs_of_symbols-requires-clause-not_high c =
     let j = c.loop-j.j in
     let used : j < cuts.segments = omega (arith, c.segments-j-end.ensures.value) in
     let fits : FitsSigned w32 (get_or c.sums.new.into j (pos 0)) = search rules in
-    let sum
-    =
+    let sum =
     segment_sums_at cuts c.args.query.now c.sums.new.into
     (16 - cuts.segments) j c.sums.ensures.sums used in
     let high = c.sums.ensures.not_high j used in
@@ -48,8 +46,7 @@ loop-j-preserved c =
     let costs = c.loop-j.costs in
     let made = c.costs_of_symbols.result in
     let used : j < cuts.segments = omega (arith, c.segments-j-end.ensures.value) in
-    let inside : j < length costs
-    =
+    let inside : j < length costs =
     omega (
       arith,
       c.loop-j.invariant.whole,
