@@ -1,5 +1,5 @@
 -- How seats of the lock's table come and go: the start, a number dealt, a note written and read, and a pass handed in.
-use Rattle.std.proofs.Common.{◌≡◌, ◌≢◌, ℕ, zero, suc, ◌==◌, ◌<◌, ◌≤◌, Bool, List, [], ◌∷◌, ◌++◌, length, get_or, set, refl, sym, ap, ◌∙◌, subst, arith, eq-eqb, ne_eqb}
+use Rattle.std.proofs.Common.{◌≡◌, ◌≢◌, ℕ, zero, suc, ◌==◌, ◌<◌, Bool, List, [], ◌∷◌, ◌++◌, length, get_or, set, refl, sym, ap, ◌∙◌, subst, arith, eq-eqb, ne_eqb}
 use Rattle.std.specs.Prelude.{All, cond}
 use Rattle.std.proofs.lemmas.List.Elements.{All-nil, All-cons}
 use mathlib.Core.Option.{some, some-injective, some-ne-none}
@@ -107,7 +107,7 @@ module _ {O C R : Type 0} (next : O → ℕ → C → O × R) (o : O) (callers :
         at_home = λ _. (h, refl, is);
         holder = omega arith;
         each_seat = λ j v e. let only = at_only (dealer o 0) v j e in
-        subst (λ (x : ℕ × V). Knows callers 0 (λ _. 0) [] x.0 o x.1 x.1.role)
+            subst (λ (x : ℕ × V). Knows callers 0 (λ _. 0) [] x.0 o x.1 x.1.role)
             (λ i. (sym only.0 i, only.1 i)) first;
       }
 
@@ -123,8 +123,11 @@ module _ {O C R : Type 0} (next : O → ℕ → C → O × R) (o : O) (callers :
       let new : Each s r f place (newcomer (dealer o n))
       = (refl, below, (dealt_here n place r.seat_of, mine.1, mine.2, mine.3), prefix_none r.log) in
       let stay : (m : ℕ) → m ≢ n → f m ≡ r.seat_of m = dealt_else n place r.seat_of in
-      let left : Each s r f id d = (refl, λ m le. let h = k.1 m (omega arith) in
-      (stay m (λ (z : m ≡ n). omega arith) ∙ h.0, h.1, h.2, h.3)) in
+      let left : Each s r f id d = (
+        refl,
+        λ m le. let h = k.1 m (omega arith) in
+            (stay m (λ (z : m ≡ n). omega arith) ∙ h.0, h.1, h.2, h.3),
+      ) in
       shown s r f (set s.views id d ++ newcomer (dealer o n) ∷ [])
       (each_push (Each s r f) (set s.views id d) (newcomer (dealer o n)) new
       (each_set (Each s r f) s.views id d left (λ j v else e.
@@ -153,7 +156,7 @@ module _ {O C R : Type 0} (next : O → ℕ → C → O × R) (o : O) (callers :
       let k = known s r id v Idle at idle in
       let mine : Each s r r.seat_of id both
       = subst (Knows callers (word s) r.seat_of r.log id o both) (sym idle)
-          (k.0, k.1, k.2, told) in
+      (k.0, k.1, k.2, told) in
       let Spent : Knowing C R → Type 0 = HasPass callers (word s) r.seat_of r.log other in
       shown s r r.seat_of (set (set s.views id both) other (closer []))
       (each_set (Each s r r.seat_of) (set s.views id both) other (closer []) (All-nil Spent)
@@ -189,9 +192,11 @@ module _ {O C R : Type 0} (next : O → ℕ → C → O × R) (o : O) (callers :
       let kept : (m j : ℕ) → j ≢ other → r.seat_of m ≡ j → f m ≡ j
       = merged_else other id r.seat_of in
       let P : Knowing C R → Type 0 = HasPass callers (word s) f r.log id in
-      let all : All P both.handed = All-cons P (knowing w) (gathered v)
-      (theirs.1, has_moved callers (word s) r.seat_of f r.log other id
-      (merged_there other id r.seat_of) w.number w.seen w.mine theirs.2)
+      let all : All P both.handed = All-cons P (knowing w) (gathered v) (
+        theirs.1,
+        has_moved callers (word s) r.seat_of f r.log other id
+            (merged_there other id r.seat_of) w.number w.seen w.mine theirs.2,
+      )
       (passes_moved callers (word s) r.seat_of f r.log id id
       (λ m e. kept m id (λ z. apart (sym z)) e) (gathered v) (gathered_holds s r id v at may)) in
       let Spent : Knowing C R → Type 0 = HasPass callers (word s) f r.log other in

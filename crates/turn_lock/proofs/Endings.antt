@@ -84,18 +84,21 @@ module _ {O C R : Type 0} (next : O → ℕ → C → O × R) where
         let e : Entry C R = entry n c r in
         let as_named : m3 ≡ (gave d.opening v d.last, [])
         = subst (λ (x : M). released next (step slots 0 0 0 none) x 0 m3) d.here told
-            d.opening d.held d.last refl refl d.named in
+        d.opening d.held d.last refl refl d.named in
         let named_is : entry n d.last.call.value d.last.reply.value ≡ e
         = λ i. entry n (d.call_is i) (d.reply_is i) in
         let reply_there : r ≡ (next (state_after next d.opening d.log) n c).1
         = sym d.reply_is ∙ (ap (λ (p : O × R). p.1) d.did
-            ∙ ap (λ (x : C). (next (state_after next d.opening d.log) n x).1) d.call_is) in record {
+        ∙ ap (λ (x : C). (next (state_after next d.opening d.log) n x).1) d.call_is) in record {
           opening = d.opening;
           log = d.log;
           opens = d.opens;
           begins = d.begins;
-          after = as_named ∙ (λ i. (caller_view Idle (Some d.opening) n
-              (d.log ++ named_is i ∷ []) (m.0.mine ++ named_is i ∷ []), []));
+          after = as_named ∙ (λ i. (
+            caller_view Idle (Some d.opening) n
+                (d.log ++ named_is i ∷ []) (m.0.mine ++ named_is i ∷ []),
+            [],
+          ));
           legal = IsLegal-snoc next d.opening d.log e d.legal reply_there;
           own = calls_by-own n c r d.log ∙ ap (λ xs. xs ++ e ∷ []) d.own;
         }
@@ -119,7 +122,7 @@ module _ {O C R : Type 0} (next : O → ℕ → C → O × R) where
         let same : d.opening ≡ o = cc (opens, d.opens) in
         let seen = ap (λ (x : M). x.0.seen) d.after in
         subst (λ (x : O × List (Entry C R)). IsLegal next x.0 x.1) (λ i. (same i, sym seen i))
-            d.legal
+        d.legal
 
   module _ (m m' : M) (d : Learnt next m m') where
     -- all that was learnt is legal from the lock's opening object
@@ -128,7 +131,7 @@ module _ {O C R : Type 0} (next : O → ℕ → C → O × R) where
         let same : d.opening ≡ o = cc (opens, d.opens) in
         let seen = ap (λ (x : M). x.0.seen) d.after in
         subst (λ (x : O × List (Entry C R)). IsLegal next x.0 x.1) (λ i. (same i, sym seen i))
-            d.legal
+        d.legal
 
     -- what begins what was learnt begins what the pass has seen
     pub learnt_seen : (xs : List (Entry C R)) → IsPrefix xs d.log → IsPrefix xs m'.0.seen
@@ -156,8 +159,8 @@ module _ {O C R : Type 0} (next : O → ℕ → C → O × R) (o : O) (callers :
       let w : ℕ = get_or s.words 0 0 in
       let none-has : All (λ (n : ℕ). w ≢ suc n) (map (λ (k : Knowing C R). k.number) ks)
       = All-map (λ (n : ℕ). w ≢ suc n) (λ (k : Knowing C R). k.number) ks
-          (All-weaker (HasPass callers w r.seat_of r.log id)
-          (λ (k : Knowing C R). w ≢ suc k.number) (λ k p. p.1.1) ks knows) in
+      (All-weaker (HasPass callers w r.seat_of r.log id)
+      (λ (k : Knowing C R). w ≢ suc k.number) (λ k p. p.1.1) ks knows) in
       dite (ℕ_discrete w 0) (λ z. z) (λ busy.
       let n : ℕ = w - 1 in
       let le = r.holder in

@@ -1,5 +1,5 @@
 -- What a seat knows stays so while others take steps.
-use Rattle.std.proofs.Common.{◌≡◌, ◌≢◌, ℕ, zero, suc, ◌<◌, ◌⊎◌, List, [], ◌∷◌, ◌++◌, length, set, refl, sym, ap, ◌∙◌, subst, inl, inr, ⊎_elim, arith}
+use Rattle.std.proofs.Common.{◌≡◌, ◌≢◌, ℕ, zero, suc, ◌⊎◌, List, [], ◌∷◌, ◌++◌, length, set, refl, sym, ap, ◌∙◌, subst, inl, inr, ⊎_elim}
 use Rattle.std.specs.Prelude.{All}
 use Rattle.std.proofs.lemmas.List.Elements.{All-weaker}
 use mathlib.Core.Option.{some, some-injective, some-ne-none}
@@ -40,14 +40,14 @@ module _ {V : Type 0} (K : ℕ → V → Type 0) (vs : List V) where
   each_push w mine others j d e = ⊎_elim
       (λ (t : get_elem? vs j ≡ some d). others j d t)
       (λ (t : (j ≡ length vs) × (w ≡ d)).
-          subst (λ (x : ℕ × V). K x.0 x.1) (λ i. (sym t.0 i, t.1 i)) mine)
+      subst (λ (x : ℕ × V). K x.0 x.1) (λ i. (sym t.0 i, t.1 i)) mine)
       (at_push vs w d j e)
 
 -- the history grows by a call that is not the seat's, and the turn is not the seat's before or after
 module _ {C R : Type 0} (callers w w' : ℕ) (f : ℕ → ℕ) (log log' : List (Entry C R)) (j : ℕ)
     (longer : (xs : List (Entry C R)) → IsPrefix xs log → IsPrefix xs log')
     (apart : (m : ℕ) → f m ≡ j
-        → (w ≢ suc m) × (w' ≢ suc m) × (calls_by m log' ≡ calls_by m log)) where
+    → (w ≢ suc m) × (w' ≢ suc m) × (calls_by m log' ≡ calls_by m log)) where
   -- a number that the seat has stays without the turn
   has_still : (m : ℕ) (seen mine : List (Entry C R)) → Has callers w f log j m seen mine
       → Has callers w' f log' j m seen mine

@@ -46,7 +46,7 @@ module _ {O C R : Type 0} where
   pub each_agrees : {P : Type 0} (k : Lock O C R P) (log : List (Entry C R)) (ps : List (Pass O C R))
       → All (λ p. IsPassOf k p) ps
       → All (λ (x : Knowing C R). IsPrefix x.seen log × (calls_by x.number log ≡ x.mine))
-          (map known_by ps)
+      (map known_by ps)
       → All (AgreesWith log) ps
   each_agrees k log [] ok all = All-nil (AgreesWith log)
   each_agrees k log (p ∷ ps) ok all =
@@ -73,6 +73,8 @@ module _ {O C R : Type 0} where
       → ((i : ℕ) (d : Pass O C R) → i < length ps → (slice_index_or ps i d).number ≡ i)
       → AreAll k ps
   all_in_order k ps long in_order n below =
-      let l : n < length ps = omega arith in
-      (n, omega (arith, length-map ps (λ (p : Pass O C R). p.number)),
-      number_at ps n n n l (λ d. in_order n d l))
+      let l : n < length ps = omega arith in (
+        n,
+        omega (arith, length-map ps (λ (p : Pass O C R). p.number)),
+        number_at ps n n n l (λ d. in_order n d l),
+      )

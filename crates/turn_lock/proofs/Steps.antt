@@ -16,8 +16,8 @@ use Rattle.turn_lock.specs.declared.object.Last.{Last}
 use Rattle.turn_lock.specs.declared.plays.Role.{Role}
 use Rattle.turn_lock.specs.declared.plays.Role.TheVariants.{Idle, Turn}
 use Rattle.turn_lock.specs.declared.plays.View.{View}
-use Rattle.turn_lock.specs.History.{entry, calls_by, state_after, IsLegal}
-use Rattle.turn_lock.specs.Rule.{caller_view, Has, HasTurn, Knows, Kept, Took, took, learnt, gave, released}
+use Rattle.turn_lock.specs.History.{entry, state_after}
+use Rattle.turn_lock.specs.Rule.{caller_view, Has, HasTurn, Knows, Kept, took, learnt, gave, released}
 use Rattle.turn_lock.proofs.Histories.{prefix_self, prefix_none, prefix_then, state_after-snoc, IsLegal-snoc, calls_by-own, calls_by-other}
 use Rattle.turn_lock.proofs.Frames.{each_set, knows_still}
 
@@ -72,11 +72,14 @@ module _ {O C R : Type 0} (next : O → ℕ → C → O × R) (o : O) (callers :
       let has_turn : HasTurn callers (suc n) r.seat_of r.log id n r.log mine
       = (has.0, refl, refl, has.3) in
       let others : (j : ℕ) (d : V) → j ≢ id → get_elem? s.views j ≡ some d
-          → Each s r (suc n) r.log j d
+      → Each s r (suc n) r.log j d
       = λ j d other e. knows_still callers (word s) (suc n) r.seat_of r.log r.log j (λ xs p. p)
-      (λ m there. ((λ (z : word s ≡ suc m). omega arith),
-      (λ (z : suc n ≡ suc m). let same : n ≡ m = omega arith in
-      other (sym there ∙ (sym (ap r.seat_of same) ∙ has.0))), refl))
+      (λ m there. (
+        (λ (z : word s ≡ suc m). omega arith),
+        (λ (z : suc n ≡ suc m). let same : n ≡ m = omega arith in
+            other (sym there ∙ (sym (ap r.seat_of same) ∙ has.0))),
+        refl,
+      ))
       o d d.role (r.each_seat j d e) in record {
         log = r.log;
         seat_of = r.seat_of;
@@ -94,7 +97,7 @@ module _ {O C R : Type 0} (next : O → ℕ → C → O × R) (o : O) (callers :
   -- a try for the turn is allowed: it wins where the word is 0, and else changes nothing
   pub takes_turn : (slots id : ℕ) (me : M) (new : ℕ) → me.0.role ≡ Idle → new ≡ suc me.0.number
       → Allows Rule slots id me 0 (λ x. either (x == 0) new x)
-          (took next (step slots 0 0 new none) me)
+      (took next (step slots 0 0 new none) me)
   takes_turn slots id me new role is s r wide at small = dite (ℕ_discrete (word s) 0)
       (λ free.
       let k = known s r id me.0 Idle at role in
@@ -110,17 +113,20 @@ module _ {O C R : Type 0} (next : O → ℕ → C → O × R) (o : O) (callers :
         subst (λ b. Rule (stepped s 0 (either b new (word s)) id me.1 turn (takes 0 home.0)))
             (sym (eq-eqb (word s) 0 free))
             (subst (λ (z : ℕ). Rule (stepped s 0 z id me.1 turn (takes 0 home.0))) (sym is) granted),
-        ((λ _. record {
-          opening = o;
-          held = home.0;
-          log = r.log;
-          opens = k.0;
-          begins = has.2;
-          after = refl;
-          legal = r.legal;
-          there = home.2;
-          own = has.3;
-        }), λ busy. absurd (busy free)),
+        (
+          (λ _. record {
+            opening = o;
+            held = home.0;
+            log = r.log;
+            opens = k.0;
+            begins = has.2;
+            after = refl;
+            legal = r.legal;
+            there = home.2;
+            own = has.3;
+          }),
+          λ busy. absurd (busy free),
+        ),
       ))
       (λ busy. (
         me.0,
@@ -145,18 +151,26 @@ module _ {O C R : Type 0} (next : O → ℕ → C → O × R) (o : O) (callers :
       let e : Entry C R = entry n l.call.value l.reply.value in
       let log : List (Entry C R) = r.log ++ e ∷ [] in
       let now : get_or (set s.words 0 0) 0 0 ≡ 0 = get_or-set_same s.words 0 0 0 (omega arith) in
-      let mine : Each s r 0 log id (gave o v l) = (refl, k.1,
-      (has.0, (λ (z : 0 ≡ suc n). omega arith),
-      subst (λ (xs : List (Entry C R)). IsPrefix (xs ++ e ∷ []) log) (sym has.2) (prefix_self log),
-      calls_by-own n l.call.value l.reply.value r.log ∙ ap (λ xs. xs ++ e ∷ []) has.3),
-      prefix_none log) in
+      let mine : Each s r 0 log id (gave o v l) = (
+        refl,
+        k.1,
+        (
+          has.0,
+          (λ (z : 0 ≡ suc n). omega arith),
+          subst (λ (xs : List (Entry C R)). IsPrefix (xs ++ e ∷ []) log) (sym has.2) (prefix_self log),
+          calls_by-own n l.call.value l.reply.value r.log ∙ ap (λ xs. xs ++ e ∷ []) has.3,
+        ),
+        prefix_none log,
+      ) in
       let others : (j : ℕ) (d : V) → j ≢ id → get_elem? s.views j ≡ some d → Each s r 0 log j d
       = λ j d other there. knows_still callers (word s) 0 r.seat_of r.log log j
       (λ xs p. prefix_then xs r.log (e ∷ []) p)
       (λ m theirs. let ne : n ≢ m
-      = (λ (z : n ≡ m). other (sym theirs ∙ (sym (ap r.seat_of z) ∙ has.0))) in
-      ((λ (z : word s ≡ suc m). let held = has.1 in ne (omega arith)),
-      (λ (z : 0 ≡ suc m). omega arith), calls_by-other m n l.call.value l.reply.value r.log ne))
+      = (λ (z : n ≡ m). other (sym theirs ∙ (sym (ap r.seat_of z) ∙ has.0))) in (
+        (λ (z : word s ≡ suc m). let held = has.1 in ne (omega arith)),
+        (λ (z : 0 ≡ suc m). omega arith),
+        calls_by-other m n l.call.value l.reply.value r.log ne,
+      ))
       o d d.role (r.each_seat j d there) in record {
         log = log;
         seat_of = r.seat_of;
@@ -164,8 +178,11 @@ module _ {O C R : Type 0} (next : O → ℕ → C → O × R) (o : O) (callers :
         one_slot = length-set s.homes 0 (some h) ∙ r.one_slot;
         legal = IsLegal-snoc next o r.log e r.legal (ap (λ (p : O × R). p.1) did);
         callers_only = All-push (λ (x : Entry C R). x.caller < callers) r.log e r.callers_only k.1;
-        at_home = λ _. (h, set_here s.homes 0 (some h) (omega arith),
-            ap (λ (p : O × R). p.0) did ∙ sym (state_after-snoc next o r.log e));
+        at_home = λ _. (
+          h,
+          set_here s.homes 0 (some h) (omega arith),
+          ap (λ (p : O × R). p.0) did ∙ sym (state_after-snoc next o r.log e),
+        );
         holder = omega arith;
         each_seat = subst (λ (z : ℕ). (j : ℕ) (d : V)
             → get_elem? (set s.views id (gave o v l)) j ≡ some d → Each s r z log j d) (sym now)
@@ -177,7 +194,7 @@ module _ {O C R : Type 0} (next : O → ℕ → C → O × R) (o : O) (callers :
       → h.last ≡ Some l → v.opening ≡ Some o'
       → (h.object, l.reply.value) ≡ next (state_after next o' v.seen) v.number l.call.value
       → Allows Rule slots id (v, (0, h) ∷ []) 0 (λ _. 0)
-          (λ _. released next (step slots 0 0 0 none) (v, (0, h) ∷ []) 0)
+      (λ _. released next (step slots 0 0 0 none) (v, (0, h) ∷ []) 0)
   releases slots id v h l o' role named opens did s r wide at small =
       let k = known s r id v Turn at role in
       let has = k.2 in

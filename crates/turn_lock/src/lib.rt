@@ -15,3 +15,5 @@ mod turns;
 pub use lock::{LockError, TurnLock, TurnPass};
 pub use object::{Entry, Object};
 
+#[cfg(test)]
+mod tests;

@@ -5,6 +5,8 @@ use crate::object::{Held, Object};
 use crate::plays::{OneHistory, Opening, View};
 use atomic_table::{Seat, Table, TableRule};
 use std::alloc::Global;
+use std::fmt::Debug;
+use thiserror::Error;
 
 /// A lock round an object. A caller with a pass has calls applied to it, one at a time.
 pub type TurnLock<O> = LockOf<
@@ -41,9 +43,11 @@ pub struct PassOf<S, V> {
 }
 
 /// Why no lock was begun. The object comes back.
-#[derive(Drop)]
+#[derive(Debug, Drop, Error)]
+#[error_bound(O: Debug)]
 pub enum LockError<O> {
     /// There was no memory for the lock.
+    #[error("no memory for the lock")]
     NoMemory(O),
 }
 

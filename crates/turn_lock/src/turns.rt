@@ -30,7 +30,13 @@ impl<O: Object> TurnLock<O> {
         self.call_at(rt, &mut pass.seat, pass.number, call)
     }
 
-    fn call_at<R: Wait>(&self, rt: &R, seat: &mut TurnSeat<O>, number: u32, call: O::Call) -> O::Reply
+    fn call_at<R: Wait>(
+        &self,
+        rt: &R,
+        seat: &mut TurnSeat<O>,
+        number: u32,
+        call: O::Call,
+    ) -> O::Reply
         requires lock { seat.old.table_id ≡ self.now.table.shared.table_id }
         requires idle { seat.old.me.0.role ≡ Idle }
         requires number { seat.old.me.0.number ≡ number }
@@ -56,7 +62,9 @@ impl<O: Object> TurnLock<O> {
         let holder = number as u64 + 1;
         let mut tries = 0;
         for _ in rt.forever() {
-            if self.table.shared.compare_exchange::<Take>(seat, 0, 0, holder) == 0 {
+            let table = &self.table.shared;
+            let found = table.compare_exchange::<Take>(seat, 0, 0, holder);
+            if found == 0 {
                 return;
             }
             if tries < QUICK_TRIES {
@@ -80,7 +88,11 @@ impl<O: Object> TurnLock<O> {
     }
 }
 
-fn apply_once<O: Object>(held: &mut Held<O, O::Call, O::Reply>, caller: u32, call: O::Call) -> O::Reply
+fn apply_once<O: Object>(
+    held: &mut Held<O, O::Call, O::Reply>,
+    caller: u32,
+    call: O::Call,
+) -> O::Reply
     ensures next { (held.new.object, result) ≡ O.next held.old.object caller call }
     ensures last { (l : _) × (held.new.last ≡ Some l) × (l.call.value ≡ call) × (l.reply.value ≡ result) }
 {

@@ -12,7 +12,7 @@ join_seat-requires g c =
     let lock = c.args.self.now in
     let is = c.into_seat.ensures in
     let all = All-pop (λ p. IsPassOf lock p) c.loop-pass.passes.items c.pop.new.self.items
-        (Some c.in-Some.pass) c.in-Some.ensures.items c.loop-pass.invariant.passes in (
+    (Some c.in-Some.pass) c.in-Some.ensures.items c.loop-pass.invariant.passes in (
       search rules,
       ap (λ s. s.table_id) is ∙ all.1.0,
       ap (λ s. s.me.1) is ∙ c.in-Some.pass.rests,
@@ -25,13 +25,13 @@ loop-pass-preserved g c =
     let lock = c.args.self.now in
     let e = ap (λ m. m.0) c.join_seat.ensures.2 in
     let all = All-pop (λ p. IsPassOf lock p) c.loop-pass.passes.items c.pop.new.self.items
-        (Some c.in-Some.pass) c.in-Some.ensures.items c.loop-pass.invariant.passes in record {
+    (Some c.in-Some.pass) c.in-Some.ensures.items c.loop-pass.invariant.passes in record {
       same_lock = c.join_seat.ensures.0 ∙ c.loop-pass.invariant.same_lock;
       gathers = subst (λ v. MayGather v.role) (sym e) tt;
       all = ap (λ v. map known_by c.pop.new.self.items ++ gathered v) e
           ∙ took_in c.pop.new.self.items c.loop-pass.passes.items c.in-Some.pass
-              (knowing c.into_seat.result.me.0) (gathered c.loop-pass.closing.me.0) _
-              c.in-Some.ensures.items (ap (λ s. knowing s.me.0) c.into_seat.ensures)
-              c.loop-pass.invariant.all;
+          (knowing c.into_seat.result.me.0) (gathered c.loop-pass.closing.me.0) _
+          c.in-Some.ensures.items (ap (λ s. knowing s.me.0) c.into_seat.ensures)
+          c.loop-pass.invariant.all;
       passes = all.0;
     }

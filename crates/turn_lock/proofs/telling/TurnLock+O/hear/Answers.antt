@@ -14,9 +14,12 @@ join_seat-requires g c = (
 )
 
 pub load-requires : goal.load-requires
-load-requires g c =
-    (search rules, search rules, learns _ _ _ _ _ _
-    (ap (λ m. m.0.role) c.join_seat.ensures.2 ∙ c.requires.idle))
+load-requires g c = (
+  search rules,
+  search rules,
+  learns _ _ _ _ _ _
+      (ap (λ m. m.0.role) c.join_seat.ensures.2 ∙ c.requires.idle),
+)
 
 pub returns-clause-learnt : goal.returns-clause-learnt
 returns-clause-learnt g c =

@@ -1,4 +1,4 @@
-use Rattle.std.proofs.Common.{rules, ◌≡◌, ap, sym, subst, ◌∙◌, ◌∷◌, ◌++◌, []}
+use Rattle.std.proofs.Common.{◌≡◌, ap, sym, subst, ◌∙◌, ◌∷◌, ◌++◌, []}
 use Rattle.turn_lock.specs.History.{entry, calls_by, EndsWith}
 use Rattle.turn_lock.proofs.Endings.{called_ends, called_own, called_legal}
 use Rattle.turn_lock.proofs.turns.TurnLock+O.call.Goals as goal
@@ -19,13 +19,13 @@ pub returns-clause-made : goal.returns-clause-made
 returns-clause-made g c =
     ap (λ m. m.0.mine) c.call_at.ensures.called.after
     ∙ ap (λ n. c.args.pass.now.seat.me.0.mine ++ entry n c.args.call c.call_at.result ∷ [])
-        c.requires.3
+    c.requires.3
 
 pub returns-clause-seen : goal.returns-clause-seen
 returns-clause-seen g c =
     subst (λ n. EndsWith c.args.pass.now.seat.me.0.seen (entry n c.args.call c.call_at.result)
-        c.call_at.new.seat.me.0.seen) c.requires.3
-        (called_ends _ _ _ _ c.call_at.ensures.called)
+    c.call_at.new.seat.me.0.seen) c.requires.3
+    (called_ends _ _ _ _ c.call_at.ensures.called)
 
 pub returns-clause-legal : goal.returns-clause-legal
 returns-clause-legal g c = called_legal _ _ _ _ c.call_at.ensures.called _ c.requires.1
@@ -33,4 +33,4 @@ returns-clause-legal g c = called_legal _ _ _ _ c.call_at.ensures.called _ c.req
 pub returns-clause-own : goal.returns-clause-own
 returns-clause-own g c =
     subst (λ n. calls_by n c.call_at.new.seat.me.0.seen ≡ c.call_at.new.seat.me.0.mine)
-        c.requires.3 (called_own _ _ _ _ c.call_at.ensures.called)
+    c.requires.3 (called_own _ _ _ _ c.call_at.ensures.called)
