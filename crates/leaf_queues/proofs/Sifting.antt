@@ -1,7 +1,6 @@
 -- A swap of an entry with its parent moves the one place where a heap is out of order.
-use Rattle.std.proofs.Common.{◌≡◌, ◌≢◌, ℕ, zero, suc, ◌+◌, ◌-◌, ◌*◌, ◌/◌, ◌<◌, ◌≤◌, List, [], ◌∷◌, ◌++◌, true, false, length, get_or, set, take, refl, sym, ap, ◌∙◌, subst, arith, length-append}
-use Rattle.std.proofs.lemmas.List.{get_or-take, get_or_append_left, get_or-set_other, get_or_default, length-take, length-set}
-use Rattle.std.specs.Prelude.{All}
+use Rattle.std.proofs.Common.{◌≡◌, ◌≢◌, ℕ, zero, suc, ◌+◌, ◌-◌, ◌*◌, ◌/◌, ◌<◌, ◌≤◌, List, [], ◌∷◌, ◌++◌, true, length, get_or, set, refl, sym, ap, ◌∙◌, subst, arith, length-append}
+use Rattle.std.proofs.lemmas.List.{get_or-take, get_or_append_left, get_or-set_other, get_or_default, length-take}
 use Rattle.std.specs.List.{SwappedAt, swap_remove}
 use mathlib.Core.Logic.{dite}
 use native.Mathlib.Decide.{ℕ_discrete}
@@ -208,4 +207,4 @@ pub heap_least : (xs : List Entry) (x : Entry) → IsHeap xs → 0 < length xs �
     → IsLeast x xs
 heap_least xs x h some first =
     λ k d l. subst (λ z. NotAfter z (get_or xs k d)) (given_at xs 0 x d some first)
-        (first_least xs h (suc k) k (omega arith) l d)
+    (first_least xs h (suc k) k (omega arith) l d)

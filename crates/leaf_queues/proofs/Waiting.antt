@@ -1,5 +1,5 @@
 -- What a put and a pop make of the heap is what they make of the ascending list.
-use Rattle.std.proofs.Common.{◌≡◌, ℕ, suc, ◌+◌, ◌<◌, Bool, true, false, cond, Option, None, Some, List, [], ◌∷◌, ◌++◌, nat_lt, nat_le, length, get_or, refl, sym, ap, ◌∙◌, subst, arith}
+use Rattle.std.proofs.Common.{◌≡◌, ℕ, ◌+◌, ◌<◌, true, false, cond, Option, None, Some, List, [], ◌∷◌, ◌++◌, nat_lt, nat_le, length, get_or, refl, sym, ap, ◌∙◌, subst, arith}
 use Rattle.std.proofs.lemmas.Bool.Decides.{nat_tests}
 use Rattle.std.proofs.lemmas.List.Elements.{All-tail}
 use Rattle.std.proofs.lemmas.List.Sorted.{All-permutation}
@@ -51,13 +51,16 @@ above a v h = grind (arith, nat_tests)
 shuts : (v : ℕ) (q : PlainQueue) (es : List Entry) → waits_within v es ≡ false
     → pop_open v q None es ≡ (shut_with v q, Closed v)
 shuts v q [] h = refl
-shuts v q (e ∷ es) h = ap (λ b. cond b (shut_with v q, Closed v) (record {
-  waiting = es;
-  taken = q.taken ++ e ∷ [];
-  placed = q.placed;
-  capacity = q.capacity;
-  kept = None;
-}, Leaf e)) (above e.bound v h)
+shuts v q (e ∷ es) h = ap (λ b. cond b (shut_with v q, Closed v) (
+  record {
+    waiting = es;
+    taken = q.taken ++ e ∷ [];
+    placed = q.placed;
+    capacity = q.capacity;
+    kept = None;
+  },
+  Leaf e,
+)) (above e.bound v h)
 
 -- a queue with this heap, taken entries, counts and kept limit
 abbrev pub queue_of : List Entry → List Entry → ℕ → ℕ → Option ℕ → PlainQueue
@@ -89,13 +92,16 @@ module _ (taken : List Entry) (placed capacity : ℕ) (kept : Option ℕ) (unshu
       let same : ascending heap' ≡ ascending (e ∷ heap) = ascending_permutation (e ∷ heap) heap' p in
       ap (put e) (is_open heap)
       ∙ (ap (λ b. cond b placed_there (q, Filled capacity)) (lt_true placed capacity room)
-      ∙ (λ i. (record {
-        waiting = sym same i;
-        taken = taken;
-        placed = placed + 1;
-        capacity = capacity;
-        kept = sym unshut i;
-      }, Placed)))
+      ∙ (λ i. (
+        record {
+          waiting = sym same i;
+          taken = taken;
+          placed = placed + 1;
+          capacity = capacity;
+          kept = sym unshut i;
+        },
+        Placed,
+      )))
 
   -- a pop of an entry within the limit takes it
   pub pop_leaf : (v : ℕ) (x : Entry) (heap heap' : List Entry) → IsPermutation heap (x ∷ heap')

@@ -1,5 +1,5 @@
 -- How a heap keeps entries: no entry comes before its parent. No public clause cites it.
-use Rattle.std.specs.Prelude.{◌≡◌, ◌≢◌, ℕ, ◌+◌, ◌*◌, ◌<◌, ◌≤◌, ◌⊎◌, Bool, false, nat_le, List, [], ◌∷◌, length, slice_index_or, All}
+use Rattle.std.specs.Prelude.{◌≡◌, ◌≢◌, ℕ, ◌+◌, ◌*◌, ◌<◌, ◌≤◌, Bool, false, nat_le, List, [], ◌∷◌, length, slice_index_or, All}
 use Rattle.series_core.specs.declared.queue_words.Entry.{Entry}
 use Rattle.leaf_queues.specs.PlainQueue.{entry_before, place}
 

@@ -10,3 +10,6 @@ mod queue;
 
 pub use calls::{Call, Reply};
 pub use queue::Queue;
+
+#[cfg(test)]
+mod tests;

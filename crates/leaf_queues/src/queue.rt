@@ -5,8 +5,9 @@ ghost use Rattle.leaf_queues.specs.PlainQueue.{empty_queue, next, pop, put};
 
 use crate::calls::{Call, Reply};
 use crate::heap;
+use outside::NoMemory;
 use series_core::{Entry, PopReply, PutReply};
-use std::alloc::{AllocError, Global};
+use std::alloc::Global;
 use std::marker::Model;
 use turn_lock::Object;
 
@@ -35,7 +36,7 @@ impl Model for Queue {
 
 impl Queue {
     /// A queue with room for so many entries, over its whole life.
-    pub fn new(alloc: Global, capacity: u32) -> Result<Queue, AllocError>
+    pub fn new(alloc: Global, capacity: u32) -> Result<Queue, NoMemory>
         ensures { IfOk result (λ q. q ≡ empty_queue capacity) }
     {
         Ok(Queue {

@@ -47,7 +47,7 @@ pub struct PassOf<S, V> {
 #[error_bound(O: Debug)]
 pub enum LockError<O> {
     /// There was no memory for the lock.
-    #[error("no memory for the lock")]
+    #[error("out of memory")]
     NoMemory(O),
 }
 

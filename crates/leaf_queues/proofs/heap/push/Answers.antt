@@ -1,4 +1,4 @@
-use Rattle.std.proofs.Common.{rules, ◌∷◌, ◌++◌, [], sym, subst, arith}
+use Rattle.std.proofs.Common.{◌∷◌, ◌++◌, [], subst}
 use Rattle.std.specs.List.Sorted.{IsPermutation}
 use Rattle.std.proofs.lemmas.List.Sorted.{IsPermutation-trans, IsPermutation-sym, IsPermutation-to_front}
 use Rattle.leaf_queues.proofs.heap.push.Goals as goal

@@ -13,9 +13,9 @@ returns-clause-entries c =
     let rest = c.swap_remove-least.new.self.items in
     let out : IsPermutation xs (x ∷ rest)
     = subst (λ l. IsPermutation xs (x ∷ l)) (sym c.swap_remove-least.ensures.items)
-        (IsPermutation-swap_remove xs 0 x (omega arith) c.swap_remove-least.ensures.value) in
+    (IsPermutation-swap_remove xs 0 x (omega arith) c.swap_remove-least.ensures.value) in
     IsPermutation-trans xs (x ∷ rest) (x ∷ c.sink.new.heap.items) out
-        (IsPermutation-cons x rest c.sink.new.heap.items c.sink.ensures.entries)
+    (IsPermutation-cons x rest c.sink.new.heap.items c.sink.ensures.entries)
 
 pub returns-clause-least : goal.returns-clause-least
 returns-clause-least c =

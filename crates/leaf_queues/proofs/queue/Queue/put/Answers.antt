@@ -22,5 +22,5 @@ returns c =
     let room : q.placed < q.capacity = omega arith in
     let unshut : q.kept ≡ None = none_left q.kept c.in_default.not-Some in
     sym (put_placed q.taken.items q.placed q.capacity q.kept unshut c.args.entry q.heap.items
-        c.push.new.heap.items room c.push.ensures.entries)
+    c.push.new.heap.items room c.push.ensures.entries)
     ∙ ap (put c.args.entry) c.self.view_is
