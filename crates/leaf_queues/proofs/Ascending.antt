@@ -43,7 +43,8 @@ place_around : (a b d : Entry) (ds : List Entry) → entry_before d b ≡ true �
 place_around a b d ds db ad =
     let ab : entry_before a b ≡ true = either_way (entry_before a b) (entry_before a b ≡ true)
     (λ (t : entry_before a b ≡ true). t)
-    (λ (f : NotAfter b a). let bd : NotAfter b d = before_along b a d f ad in absurd (cc (db, bd))) in
+    (λ (f : NotAfter b a).
+    let bd : NotAfter b d = before_along b a d f ad in absurd (cc (db, bd))) in
     place_before a d (place b ds) ad
     ∙ (sym (ap (λ l. a ∷ l) (place_behind b d ds db)) ∙ sym (place_behind b a (d ∷ ds) ab))
 
@@ -117,7 +118,8 @@ place_adds e (d ∷ ds) = cond_both (entry_before d e) (d ∷ place e ds) (e ∷
 -- the ascending list has each entry once
 pub ascending_entries : (xs : List Entry) → IsPermutation xs (ascending xs)
 ascending_entries [] = IsPermutation-refl []
-ascending_entries (x ∷ xs) = IsPermutation-trans (x ∷ xs) (x ∷ ascending xs) (place x (ascending xs))
+ascending_entries (x ∷ xs) =
+    IsPermutation-trans (x ∷ xs) (x ∷ ascending xs) (place x (ascending xs))
     (IsPermutation-cons x xs (ascending xs) (ascending_entries xs)) (place_adds x (ascending xs))
 
 -- an entry before which none comes is placed first

@@ -22,7 +22,8 @@ ordered_at xs ys p q k l e f h d =
 
 -- the order goes along two places
 ordered_along : (xs : List Entry) (p q k : ℕ) → Ordered xs p q → Ordered xs q k → Ordered xs p k
-ordered_along xs p q k h i d = before_along (get_or xs p d) (get_or xs q d) (get_or xs k d) (h d) (i d)
+ordered_along xs p q k h i d =
+    before_along (get_or xs p d) (get_or xs q d) (get_or xs k d) (h d) (i d)
 
 -- what an index gave is what the list has there
 given_at : (xs : List Entry) (j : ℕ) (a d : Entry) → j < length xs → a ≡ get_or xs j a
@@ -192,7 +193,8 @@ removed xs x h =
     let long : length ys ≤ n
     = omega (arith, length-take n (set xs 0 last)) in
     let kept : (k : ℕ) → k < n → k ≢ 0 → (d : Entry) → get_or ys k d ≡ get_or xs k d
-    = λ k l ne d. get_or-take n (set xs 0 last) k d l ∙ get_or-set_other xs 0 k last d ne in record {
+    = λ k l ne d. get_or-take n (set xs 0 last) k d l
+    ∙ get_or-set_other xs 0 k last d ne in record {
       others = λ p k c l ne.
           let low = c.0 in
           let k_inside : k < n = omega arith in

@@ -9,7 +9,7 @@ use Rattle.series_core.specs.declared.queue_words.PutReply.{PutReply}
 use Rattle.series_core.specs.declared.queue_words.PutReply.TheVariants.{Placed, Filled}
 use Rattle.series_core.specs.declared.queue_words.PopReply.{PopReply}
 use Rattle.series_core.specs.declared.queue_words.PopReply.TheVariants.{Leaf, Closed}
-use Rattle.leaf_queues.specs.PlainQueue.{PlainQueue, put, pop, pop_open, shut_with}
+use Rattle.leaf_queues.specs.PlainQueue.{PlainQueue, put, pop, pop_open, shut_with, taken_from}
 use Rattle.leaf_queues.specs.Heaps.{NotAfter, IsHeap, IsLeast, ascending, waits_within}
 use Rattle.leaf_queues.proofs.Ascending.{ascending_permutation, ascending_least}
 use Rattle.leaf_queues.proofs.Sifting.{heap_least}
@@ -22,7 +22,8 @@ none_left (Some v) h = absurd (h v refl)
 -- no entry of the rest comes before an entry that is least in the whole
 pub least_of_rest : (xs ys : List Entry) (x : Entry) → IsPermutation xs (x ∷ ys) → IsLeast x xs
     → IsLeast x ys
-least_of_rest xs ys x p h = All-tail (NotAfter x) x ys (All-permutation (NotAfter x) xs (x ∷ ys) p h)
+least_of_rest xs ys x p h =
+    All-tail (NotAfter x) x ys (All-permutation (NotAfter x) xs (x ∷ ys) p h)
 
 -- the test of the heap's first entry is that of the least waiting one
 pub first_within : (xs : List Entry) (x : Entry) (v : ℕ) → IsHeap xs → 0 < length xs
@@ -51,16 +52,8 @@ above a v h = grind (arith, nat_tests)
 shuts : (v : ℕ) (q : PlainQueue) (es : List Entry) → waits_within v es ≡ false
     → pop_open v q None es ≡ (shut_with v q, Closed v)
 shuts v q [] h = refl
-shuts v q (e ∷ es) h = ap (λ b. cond b (shut_with v q, Closed v) (
-  record {
-    waiting = es;
-    taken = q.taken ++ e ∷ [];
-    placed = q.placed;
-    capacity = q.capacity;
-    kept = None;
-  },
-  Leaf e,
-)) (above e.bound v h)
+shuts v q (e ∷ es) h =
+    ap (λ b. cond b (shut_with v q, Closed v) (taken_from e es q, Leaf e)) (above e.bound v h)
 
 -- a queue with this heap, taken entries, counts and kept limit
 abbrev pub queue_of : List Entry → List Entry → ℕ → ℕ → Option ℕ → PlainQueue
@@ -89,7 +82,8 @@ module _ (taken : List Entry) (placed capacity : ℕ) (kept : Option ℕ) (unshu
       let q : PlainQueue = queue_of heap taken placed capacity None in
       let placed_there : PlainQueue × PutReply
       = (queue_of (e ∷ heap) taken (placed + 1) capacity None, Placed) in
-      let same : ascending heap' ≡ ascending (e ∷ heap) = ascending_permutation (e ∷ heap) heap' p in
+      let same : ascending heap' ≡ ascending (e ∷ heap)
+      = ascending_permutation (e ∷ heap) heap' p in
       ap (put e) (is_open heap)
       ∙ (ap (λ b. cond b placed_there (q, Filled capacity)) (lt_true placed capacity room)
       ∙ (λ i. (

@@ -4,7 +4,7 @@ use Rattle.leaf_queues.specs.declared.queue.Queue.TheInside.{Inside}
 use Rattle.leaf_queues.specs.PlainQueue.{PlainQueue}
 use Rattle.leaf_queues.specs.Heaps.{IsHeap, ascending}
 
--- the plain queue that these fields stand for: the waiting entries are those of the heap, in ascending order
+-- the plain queue that these fields stand for: the heap's entries wait, in ascending order
 abbrev pub plain : Inside → PlainQueue
 plain q = record {
   waiting = ascending q.heap.items;
@@ -14,7 +14,7 @@ plain q = record {
   kept = q.kept;
 }
 
--- the heap is one; each placed entry waits or was taken; and there is room for as many as may be placed
+-- the heap is one; each placed entry waits or was taken; there is room for all that may be placed
 pub record IsKept (q : Inside) : Type 0 where
   pub order : IsHeap q.heap.items
   pub count : length q.heap.items + length q.taken.items ≡ q.placed

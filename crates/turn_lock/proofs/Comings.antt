@@ -1,4 +1,4 @@
--- How seats of the lock's table come and go: the start, a number dealt, a note written and read, and a pass handed in.
+-- How seats of the lock's table come and go: the start, a number dealt, a note, a pass handed in.
 use Rattle.std.proofs.Common.{◌≡◌, ◌≢◌, ℕ, zero, suc, ◌==◌, ◌<◌, Bool, List, [], ◌∷◌, ◌++◌, length, get_or, set, refl, sym, ap, ◌∙◌, subst, arith, eq-eqb, ne_eqb}
 use Rattle.std.specs.Prelude.{All, cond}
 use Rattle.std.proofs.lemmas.List.Elements.{All-nil, All-cons}

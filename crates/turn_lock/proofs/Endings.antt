@@ -21,7 +21,8 @@ use Rattle.turn_lock.proofs.Comings.{gathered_holds}
 use Rattle.turn_lock.proofs.Steps.{releases}
 
 -- a seat m that took the turn, once its call was applied: it is m' then
-pub record Ready {O C R : Type 0} (next : O → ℕ → C → O × R) (m m' : Me (Held O C R) (View O C R)) (c : C) (r : R) : Type 0 where
+pub record Ready {O C R : Type 0} (next : O → ℕ → C → O × R)
+    (m m' : Me (Held O C R) (View O C R)) (c : C) (r : R) : Type 0 where
   pub opening : O
   pub log : List (Entry C R)
   pub held : Held O C R
@@ -34,7 +35,8 @@ pub record Ready {O C R : Type 0} (next : O → ℕ → C → O × R) (m m' : Me
   pub named : held.last ≡ Some last
   pub call_is : last.call.value ≡ c
   pub reply_is : last.reply.value ≡ r
-  pub did : (held.object, last.reply.value) ≡ next (state_after next opening log) m.0.number last.call.value
+  pub did : (held.object, last.reply.value)
+      ≡ next (state_after next opening log) m.0.number last.call.value
 
 module _ {O C R : Type 0} (next : O → ℕ → C → O × R) where
   -- seats with their views and slots
@@ -138,7 +140,8 @@ module _ {O C R : Type 0} (next : O → ℕ → C → O × R) where
     learnt_seen xs p = subst (IsPrefix xs) (sym (ap (λ (x : M). x.0.seen) d.after)) p
 
 -- what the closed table says of the passes that were gathered
-pub record Ended {O C R : Type 0} (next : O → ℕ → C → O × R) (o : O) (callers : ℕ) (ks : List (Knowing C R)) (h : Held O C R) : Type 0 where
+pub record Ended {O C R : Type 0} (next : O → ℕ → C → O × R) (o : O) (callers : ℕ)
+    (ks : List (Knowing C R)) (h : Held O C R) : Type 0 where
   pub log : List (Entry C R)
   pub legal : IsLegal next o log
   pub leads : h.object ≡ state_after next o log
@@ -181,7 +184,8 @@ module _ {O C R : Type 0} (next : O → ℕ → C → O × R) (o : O) (callers :
       let knows : All (HasPass callers w r.seat_of r.log id) ks
       = gathered_holds next o callers s r id v final.1.1 may in
       let home = r.at_home (free_at_end s r id ks knows all) in
-      let same : h ≡ home.0 = some-injective h home.0 (sym here ∙ final.4 0 home.0 home.1) in record {
+      let same : h ≡ home.0
+      = some-injective h home.0 (sym here ∙ final.4 0 home.0 home.1) in record {
         log = r.log;
         legal = r.legal;
         leads = ap (λ (x : Held O C R). x.object) same ∙ home.2;

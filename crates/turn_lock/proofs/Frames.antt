@@ -43,7 +43,7 @@ module _ {V : Type 0} (K : ℕ → V → Type 0) (vs : List V) where
       subst (λ (x : ℕ × V). K x.0 x.1) (λ i. (sym t.0 i, t.1 i)) mine)
       (at_push vs w d j e)
 
--- the history grows by a call that is not the seat's, and the turn is not the seat's before or after
+-- the history grows by another seat's call, and the turn is not the seat's before or after
 module _ {C R : Type 0} (callers w w' : ℕ) (f : ℕ → ℕ) (log log' : List (Entry C R)) (j : ℕ)
     (longer : (xs : List (Entry C R)) → IsPrefix xs log → IsPrefix xs log')
     (apart : (m : ℕ) → f m ≡ j

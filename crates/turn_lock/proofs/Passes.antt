@@ -43,7 +43,8 @@ module _ {O C R : Type 0} where
       ∷ same_numbers k ps (All-tail (λ x. IsPassOf k x) p ps ok) i
 
   -- each pass agrees with a history with which what it knows agrees
-  pub each_agrees : {P : Type 0} (k : Lock O C R P) (log : List (Entry C R)) (ps : List (Pass O C R))
+  pub each_agrees : {P : Type 0} (k : Lock O C R P) (log : List (Entry C R))
+      (ps : List (Pass O C R))
       → All (λ p. IsPassOf k p) ps
       → All (λ (x : Knowing C R). IsPrefix x.seen log × (calls_by x.number log ≡ x.mine))
       (map known_by ps)

@@ -1,4 +1,4 @@
--- The steps of a pass keep the rule: it takes the turn, gives it back with its call, and takes in what it was told.
+-- The steps of a pass keep the rule: it takes the turn, gives it back with its call, and learns.
 use Rattle.std.proofs.Common.{eq-eqb, ne_eqb, ◌≡◌, ◌≢◌, ℕ, suc, ◌==◌, ◌<◌, List, [], ◌∷◌, ◌++◌, get_or, set, refl, sym, ap, ◌∙◌, subst, arith, length-set, get_or-set_same, Some}
 use mathlib.Core.Option.{none, some}
 use mathlib.Core.List.{IsPrefix}
@@ -112,7 +112,8 @@ module _ {O C R : Type 0} (next : O → ℕ → C → O × R) (o : O) (callers :
         home.1,
         subst (λ b. Rule (stepped s 0 (either b new (word s)) id me.1 turn (takes 0 home.0)))
             (sym (eq-eqb (word s) 0 free))
-            (subst (λ (z : ℕ). Rule (stepped s 0 z id me.1 turn (takes 0 home.0))) (sym is) granted),
+            (subst (λ (z : ℕ). Rule (stepped s 0 z id me.1 turn (takes 0 home.0)))
+            (sym is) granted),
         (
           (λ _. record {
             opening = o;
@@ -157,7 +158,8 @@ module _ {O C R : Type 0} (next : O → ℕ → C → O × R) (o : O) (callers :
         (
           has.0,
           (λ (z : 0 ≡ suc n). omega arith),
-          subst (λ (xs : List (Entry C R)). IsPrefix (xs ++ e ∷ []) log) (sym has.2) (prefix_self log),
+          subst (λ (xs : List (Entry C R)). IsPrefix (xs ++ e ∷ []) log) (sym has.2)
+              (prefix_self log),
           calls_by-own n l.call.value l.reply.value r.log ∙ ap (λ xs. xs ++ e ∷ []) has.3,
         ),
         prefix_none log,
@@ -199,7 +201,8 @@ module _ {O C R : Type 0} (next : O → ℕ → C → O × R) (o : O) (callers :
       let k = known s r id v Turn at role in
       let has = k.2 in
       let same : o' ≡ o = cc (opens, k.0) in
-      let did_there : (h.object, l.reply.value) ≡ next (state_after next o r.log) v.number l.call.value
+      let did_there : (h.object, l.reply.value)
+      ≡ next (state_after next o r.log) v.number l.call.value
       = did ∙ (λ i. next (state_after next (same i) (has.2 i)) v.number l.call.value) in (
         gave o v l,
         gives,

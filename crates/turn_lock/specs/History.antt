@@ -1,4 +1,4 @@
--- Histories of calls on one object. A history is the list of the calls in the order in which they were applied.
+-- Histories of calls on one object: lists of the calls in the order in which they were applied.
 use Rattle.std.specs.Prelude.{◌≡◌, ℕ, ◌==◌, List, [], ◌∷◌, ◌++◌, filter}
 use Rattle.turn_lock.specs.declared.object.Entry.{Entry}
 
@@ -24,4 +24,5 @@ module _ {S C R : Type 0} (next : S → ℕ → C → S × R) where
   -- each reply is the one that the object gives after the calls before it
   abbrev pub IsLegal : S → List (Entry C R) → Type 0
   IsLegal s [] = Unit {0}
-  IsLegal s (e ∷ es) = (e.reply ≡ (next s e.caller e.call).1) × IsLegal (next s e.caller e.call).0 es
+  IsLegal s (e ∷ es) =
+      (e.reply ≡ (next s e.caller e.call).1) × IsLegal (next s e.caller e.call).0 es

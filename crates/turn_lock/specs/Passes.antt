@@ -43,7 +43,8 @@ module _ {O C R : Type 0} where
 
   -- it is a pass of this lock
   abbrev pub IsPassOf : {P : Type 0} → Lock O C R P → Pass O C R → Type 0
-  IsPassOf k p = (p.seat.table_id ≡ k.table.shared.table_id) × (p.seat.me.0.opening ≡ Some (opening_of k))
+  IsPassOf k p =
+      (p.seat.table_id ≡ k.table.shared.table_id) × (p.seat.me.0.opening ≡ Some (opening_of k))
       × (p.seat.me.0.role ≡ Idle) × (p.seat.me.0.number ≡ p.number)
 
   -- the number, the own calls and what was seen are the same
@@ -62,13 +63,14 @@ module _ {O C R : Type 0} where
   abbrev pub AreAll : {P : Type 0} → Lock O C R P → List (Pass O C R) → Type 0
   AreAll k ps = (n : ℕ) → n < callers_of k → Contains (map (λ p. p.number) ps) n
 
-  -- what the pass has seen begins the history, and its calls there are just its own, with their replies
+  -- what the pass has seen begins the history, whose calls by its number are just its own
   abbrev pub AgreesWith : List (Entry C R) → Pass O C R → Type 0
   AgreesWith log p = IsPrefix (seen_by p) log × (calls_by p.number log ≡ made_by p)
 
--- One legal history of all calls leads from the lock's opening object to o. Each call in it is one of a caller's,
--- and each of these passes agrees with it.
-pub record HasOneHistory {O C R P : Type 0} (next : O → ℕ → C → O × R) (k : Lock O C R P) (ps : List (Pass O C R)) (o : O) : Type 0 where
+-- One legal history of all calls leads from the lock's opening object to o. Each call in it is one
+-- of a caller's, and each of these passes agrees with it.
+pub record HasOneHistory {O C R P : Type 0} (next : O → ℕ → C → O × R)
+    (k : Lock O C R P) (ps : List (Pass O C R)) (o : O) : Type 0 where
   pub log : List (Entry C R)
   pub legal : IsLegal next (opening_of k) log
   pub leads : o ≡ state_after next (opening_of k) log

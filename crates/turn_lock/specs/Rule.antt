@@ -112,22 +112,28 @@ module _ {C R : Type 0} (callers word : ℕ) (seat_of : ℕ → ℕ) (log : List
   -- what the seat j knows in each role
   abbrev pub Knows : {O : Type 0} → O → View O C R → Role → Type 0
   Knows o v Dealer = (v.opening ≡ Some o) × ((n : ℕ) → v.number ≤ n → Has n [] [])
-  Knows o v Idle = (v.opening ≡ Some o) × (v.number < callers) × Has v.number v.seen v.mine × IsPrefix v.told log
+  Knows o v Idle =
+      (v.opening ≡ Some o) × (v.number < callers) × Has v.number v.seen v.mine × IsPrefix v.told log
   Knows o v Turn = (v.opening ≡ Some o) × (v.number < callers) × HasTurn v.number v.seen v.mine
   Knows o v Note = IsPrefix v.seen log
   Knows o v Closer = All HasPass v.handed
 
--- the rule: there is one legal history, the object is at home where it leaves it, and each seat knows a part of it
-pub record Kept {O C R : Type 0} (next : O → ℕ → C → O × R) (o : O) (callers : ℕ) (s : State (Held O C R) (View O C R)) : Type 0 where
+-- the rule: there is one legal history, the object is at home where it leaves it, and each seat
+-- knows a part of it
+pub record Kept {O C R : Type 0} (next : O → ℕ → C → O × R) (o : O) (callers : ℕ)
+    (s : State (Held O C R) (View O C R)) : Type 0 where
   pub log : List (Entry C R)
   pub seat_of : ℕ → ℕ
   pub one_word : length s.words ≡ 1
   pub one_slot : length s.homes ≡ 1
   pub legal : IsLegal next o log
   pub callers_only : All (λ e. e.caller < callers) log
-  pub at_home : slice_index s.words 0 ≡ 0 → (h : Held O C R) × (get_elem? s.homes 0 ≡ some (some h)) × (h.object ≡ state_after next o log)
+  pub at_home : slice_index s.words 0 ≡ 0
+      → (h : Held O C R) × (get_elem? s.homes 0 ≡ some (some h))
+      × (h.object ≡ state_after next o log)
   pub holder : slice_index s.words 0 ≤ callers
-  pub each_seat : (j : ℕ) (v : View O C R) → get_elem? s.views j ≡ some v → Knows callers (slice_index s.words 0) seat_of log j o v v.role
+  pub each_seat : (j : ℕ) (v : View O C R) → get_elem? s.views j ≡ some v
+      → Knows callers (slice_index s.words 0) seat_of log j o v v.role
 
 -- a seat at the table: its view, and the slots that it holds
 abbrev pub Sat : Type 0 → Type 0 → Type 0 → Type 0
@@ -163,7 +169,8 @@ module _ {O C R : Type 0} (next : O → ℕ → C → O × R) where
     pub log : List (Entry C R)
     pub opens : m.0.opening ≡ Some opening
     pub begins : IsPrefix m.0.seen log
-    pub after : m' ≡ (caller_view Idle (Some opening) m.0.number (log ++ e ∷ []) (m.0.mine ++ e ∷ []), [])
+    pub after : m'
+        ≡ (caller_view Idle (Some opening) m.0.number (log ++ e ∷ []) (m.0.mine ++ e ∷ []), [])
     pub legal : IsLegal next opening (log ++ e ∷ [])
     pub own : calls_by m.0.number (log ++ e ∷ []) ≡ m.0.mine ++ e ∷ []
 

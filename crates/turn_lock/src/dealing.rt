@@ -1,5 +1,5 @@
 //! How a lock begins: its table is laid, and one pass is dealt for each number.
-ghost use Rattle.std.specs.Prelude.{◌≡◌, ◌<◌, ◌≤◌, ◌+◌, [], IfOk, IfErr, length, vec_capacity};
+ghost use Rattle.std.specs.Prelude.{◌≡◌, ◌<◌, ◌≤◌, ◌+◌, [], IfOk, IfErr, length, slice_index_or, vec_capacity};
 ghost use Rattle.turn_lock.specs.declared.lock.LockError.TheVariants.{NoMemory};
 ghost use Rattle.turn_lock.specs.Rule.{dealer};
 ghost use Rattle.turn_lock.specs.Passes.{IsNewPass, AreNewPasses, opening_of, callers_of};
@@ -36,20 +36,13 @@ impl<O: Object> TurnLock<O> {
             callers,
         };
         slots.push_reserved(Held { object, last: None });
-        match Table::new(alloc, &[0], slots, &about) {
-            Ok((table, dealer)) => {
-                let lock = TurnLock { table };
-                lock.deal_all(dealer, callers, &mut passes);
-                Ok((lock, passes))
-            }
-            Err(Refused { mut slots }) => {
-                let Some(Held { object, last: _ }) = slots.pop() else {
-                    unreachable!()
-                };
-                slots.destroy_empty();
-                Err(LockError::NoMemory(object))
-            }
-        }
+        let (table, dealer) = match Table::new(alloc, &[0], slots, &about) {
+            Ok(made) => made,
+            Err(Refused { slots }) => return Err(LockError::NoMemory(object_of::<O>(slots))),
+        };
+        let lock = TurnLock { table };
+        lock.deal_all(dealer, callers, &mut passes);
+        Ok((lock, passes))
     }
 
     fn deal_all(&self, mut dealing: TurnSeat<O>, callers: u32, passes: &mut Vec<TurnPass<O>>)
@@ -77,4 +70,16 @@ impl<O: Object> TurnLock<O> {
         let seat = self.table.shared.split_seat::<Deal>(dealing);
         TurnPass { seat, number }
     }
+}
+
+// The object that lies in the one slot.
+fn object_of<O: Object>(mut slots: Vec<Held<O, O::Call, O::Reply>>) -> O
+    requires { length slots.items ≡ 1 }
+    ensures { (d : _) → result ≡ (slice_index_or slots.items 0 d).object }
+{
+    let Some(Held { object, last: _ }) = slots.pop() else {
+        unreachable!()
+    };
+    slots.destroy_empty();
+    object
 }

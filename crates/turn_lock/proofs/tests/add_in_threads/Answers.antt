@@ -15,7 +15,8 @@ close-requires-clause-all g c =
     let whole : take old.len (new ++ drop (length new) old.items) ≡ new
     = ap (λ n. take n (new ++ drop (length new) old.items)) len
     ∙ take-append_seam new (drop (length new) old.items) in
-    subst (AreAll lock) (sym whole) (all_in_order lock new (long ∙ (begun.count ∙ sym begun.callers)) (λ i d l.
+    let count = long ∙ (begun.count ∙ sym begun.callers) in
+    subst (AreAll lock) (sym whole) (all_in_order lock new count (λ i d l.
     let lent = c.as_mut_slice.ensures.value in
     let there : i < length c.as_mut_slice.result.now = rw lent (omega arith) in
     let same = c.add_each.ensures.numbers i d there in

@@ -18,11 +18,13 @@ returns g c =
     let last_is = (All-pop (λ p. IsPassOf lock p) ps c.pop.new.self.items (Some c.in-Some.last)
     c.in-Some.ensures.items c.requires.passes).1 in
     let all : gathered v ≡ map known_by ps
-    = gathered_all c.pop.new.self.items ps c.in-Some.last c.into_seat-closing.result.me.0 (gathered v)
+    = gathered_all c.pop.new.self.items ps c.in-Some.last c.into_seat-closing.result.me.0
+    (gathered v)
     c.in-Some.ensures.items (ap (λ s. s.me.0) is) last_is.2 c.take_in.ensures.all in
     let numbers : map (λ k. k.number) (gathered v) ≡ map (λ p. p.number) ps
     = ap (map (λ k. k.number)) all ∙ same_numbers lock ps c.requires.passes in
-    let ended : Ended g.O.Object.next (opening_of lock) (callers_of lock) (gathered v) c.take-object.result
+    let ended : Ended g.O.Object.next (opening_of lock) (callers_of lock) (gathered v)
+    c.take-object.result
     = ends _ _ _ _ _ _ _ _ c.take_in.ensures.gathers c.close_with-closed.ensures.values.2
     (λ n below. subst (λ l. Contains l n) (sym numbers) (c.requires.all n below))
     c.take-object.ensures.value in
@@ -32,6 +34,6 @@ returns g c =
       leads = ended.leads;
       callers_only = ended.callers_only;
       passes = each_agrees lock ended.log ps c.requires.passes
-          (subst (λ ks. All (λ k. IsPrefix k.seen ended.log × (calls_by k.number ended.log ≡ k.mine)) ks)
+          (subst (All (λ k. IsPrefix k.seen ended.log × (calls_by k.number ended.log ≡ k.mine)))
           all ended.agrees);
     }

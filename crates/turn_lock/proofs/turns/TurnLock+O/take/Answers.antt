@@ -9,5 +9,6 @@ compare_exchange-found-requires g c =
 
 pub returns-then-found-eq0-clause-took : goal.returns-then-found-eq0-clause-took
 returns-then-found-eq0-clause-took g c =
-    subst (λ m. Took g.O.Object.next m c.compare_exchange-found.new.seat.me) c.loop.invariant.same_view
+    subst (λ m. Took g.O.Object.next m c.compare_exchange-found.new.seat.me)
+    c.loop.invariant.same_view
     (c.compare_exchange-found.ensures.2.0 c.if-found-eq0.true)
