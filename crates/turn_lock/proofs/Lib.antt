@@ -4,3 +4,4 @@ pub mod Comings
 pub mod Steps
 pub mod Endings
 pub mod Passes
+pub mod TwoCallers

@@ -2,9 +2,11 @@
 ghost use Rattle.std.specs.Prelude.{◌≡◌, ℕ, ◌<◌, ◌≤◌, All, length, slice_index_or};
 ghost use Rattle.turn_lock.specs.Passes.{IsPassOf};
 
+mod both;
 mod notes;
 
 use super::*;
+use both::add_both;
 use notes::Notes;
 use std::alloc::Global;
 use std::sync::Wait;
@@ -63,5 +65,16 @@ fn each_call_is_there_once(rt: HostRuntime) -> Result<(), Fail> {
             assert_eq!(rt; notes.count_of(caller as u64), CALLS, "caller {caller}");
         }
     }
+    Ok(())
+}
+
+#[test]
+fn both_are_there(rt: HostRuntime) -> Result<(), Fail> {
+    let notes = Notes::new(rt.alloc())?;
+    let notes = add_both(&rt, rt.alloc(), notes, 5, 7).ok_or("no memory")?;
+    assert_eq!(rt;
+        (notes.len(), notes.count_of(5), notes.count_of(7)),
+        (2, 1, 1)
+    );
     Ok(())
 }
