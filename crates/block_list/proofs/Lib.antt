@@ -1,0 +1,4 @@
+mod Crosses
+mod Lending
+mod Linking
+mod Steps

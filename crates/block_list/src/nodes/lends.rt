@@ -1,0 +1,27 @@
+//! What nodes lend: the last element to write, and the first node to walk from.
+ghost use Rattle.std.specs.Prelude.{◌≡◌, ◌<◌, ◌-◌, ◌∷◌, length, slice_index_or};
+ghost use types.Logic.{sem};
+ghost use Rattle.block_list.specs.Following.{nodes_follow_last};
+
+use super::Nodes;
+use crate::front::Front;
+use std::alloc::Allocator;
+
+impl<T, A: Allocator> Nodes<T, A> {
+    /// Lends the last element.
+    pub fn back_mut(&mut self) -> &mut T
+        requires { 0 < length self.old.items }
+        ensures* writes_back { sem 𝓛 (nodes_follow_last T.row A.row A.Allocator self.entry result) }
+        ensures value { result.now ≡ slice_index_or self.old.items (length self.old.items - 1) result.now }
+    {
+        unsafe { &mut (*self.tail.cast_mut()).elem }
+    }
+
+    /// The first node, as a `&` sees it.
+    pub fn front(&self) -> &Front<T>
+        requires { 0 < length self.now.items }
+        ensures { self.now.items ≡ result.now.elem ∷ result.now.rest }
+    {
+        unsafe { &*(self.head as *const Front<T>) }
+    }
+}
