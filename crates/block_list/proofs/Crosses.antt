@@ -17,7 +17,6 @@ use Rattle.std_alloc.proofs.SendSync.{FreesAnywhere}
 use Rattle.block_list.specs.Links.{Link, links_of}
 use Rattle.block_list.specs.Ownership.{chain_owns, chain_lent}
 use Rattle.block_list.specs.contracts.nodes.Nodes as Nodes
-use Rattle.block_list.specs.contracts.front.Front as Front
 
 -- a pointer that a struct keeps tells no thread from another
 pointer_send : IsSend RawPtr
@@ -88,12 +87,3 @@ module _ (R Z : RattleType) (g : Ghosts Z.Denot) where
         let all : AllSend (fields O) = (pointer_send, (pointer_send, tt)) in
         owning_send O all (λ d. chain_owns-Keyless d.blocks d.items)
         (λ k. quiet_under (to O) (exits_of k (fields O)) ((struct_send (shape O) all).leaving k))
-
--- a front may be shared where the elements may
-pub Front-sync : (R : RattleType) → IsSync R → IsSync (Front.the_row R)
-Front-sync R synced = let O = Front.the_type R in record {
-  shared = λ d b o κ. (
-    (struct_sync (shape O) (pointer_sync, (synced, tt))).shared (to O d) b o κ,
-    chain_lent-Common R synced d.behind d.rest κ,
-  );
-}

@@ -1,4 +1,5 @@
 mod Crosses
 mod Lending
 mod Linking
+mod Seeing
 mod Steps

@@ -2,5 +2,5 @@
 //! The nodes under it are the one place with raw pointers; everything above them is safe code.
 #![tactic(auto)]
 
-mod front;
 mod nodes;
+mod walk;

@@ -1,11 +1,12 @@
-//! What nodes lend: the last element to write, and the first node to walk from.
-ghost use Rattle.std.specs.Prelude.{◌≡◌, ◌<◌, ◌-◌, ◌∷◌, length, slice_index_or};
+//! What nodes lend: the last element to write, and a walk over all.
+ghost use Rattle.std.specs.Prelude.{◌≡◌, ◌<◌, ◌-◌, length, slice_index_or};
 ghost use types.Logic.{sem};
 ghost use Rattle.block_list.specs.Following.{nodes_follow_last};
 
 use super::Nodes;
-use crate::front::Front;
+use crate::walk::{Front, Walk};
 use std::alloc::Allocator;
+use std::marker::PhantomData;
 
 impl<T, A: Allocator> Nodes<T, A> {
     /// Lends the last element.
@@ -17,11 +18,13 @@ impl<T, A: Allocator> Nodes<T, A> {
         unsafe { &mut (*self.tail.cast_mut()).elem }
     }
 
-    /// The first node, as a `&` sees it.
-    pub fn front(&self) -> &Front<T>
-        requires { 0 < length self.now.items }
-        ensures { self.now.items ≡ result.now.elem ∷ result.now.rest }
+    /// A walk from the first node on.
+    pub fn walk(&self) -> Walk<'_, T>
+        ensures { result.items ≡ self.now.items }
     {
-        unsafe { &*(self.head as *const Front<T>) }
+        Walk {
+            at: self.head as *const Front<T>,
+            mark: PhantomData,
+        }
     }
 }
