@@ -1,5 +1,6 @@
 mod Crosses
 mod Lending
 mod Linking
+mod Rows
 mod Seeing
 mod Steps
