@@ -1,16 +1,15 @@
 //! The list: rows of blocks seen as their items.
 ghost use Rattle.std.specs.Prelude.{◌≡◌, [], ◌∷◌, ◌++◌, OnOk, OnErr, IfErr};
 
-use crate::block::Block;
 use crate::iter::Iter;
 use crate::nodes::Nodes;
-use crate::row::{Unplaced, fill, free, one, put_behind};
+use crate::row::{Row, Unplaced, end, fill, free, one, put_behind};
 use std::alloc::Global;
 use std::marker::Model;
 
 /// Items in linked blocks of sixteen, seen as the list of them.
 pub struct BlockList<T: Copy> {
-    nodes: Nodes<Block<T>, Global>,
+    row: Row<T>,
     some: bool,
 }
 
@@ -20,9 +19,9 @@ impl<T: Copy> Model for BlockList<T> {
 
     ghost Value = { List T };
 
-    ghost view = { λ l. flat l.nodes.items };
+    ghost view = { λ l. flat l.row.nodes.items };
 
-    ghost invariant = { λ l. (l.some ≡ has_some l.nodes.items) × Tells l.nodes.items };
+    ghost invariant = { λ l. (l.some ≡ has_some l.row.nodes.items) × Tells l.row.nodes.items };
 }
 
 impl<T: Copy> BlockList<T> {
@@ -31,7 +30,9 @@ impl<T: Copy> BlockList<T> {
         ensures { result ≡ [] }
     {
         BlockList {
-            nodes: Nodes::new(),
+            row: Row {
+                nodes: Nodes::new(),
+            },
             some: false,
         }
     }
@@ -42,12 +43,12 @@ impl<T: Copy> BlockList<T> {
         ensures err { OnErr result (self.new ≡ self.old) }
         ensures value_returned { IfErr result (λ refused. refused.value ≡ value) }
     {
-        if self.some && fill(&mut self.nodes, value) {
+        if self.some && fill(&mut self.row, value) {
             return Ok(());
         }
         match one(alloc, value) {
             Ok(row) => {
-                put_behind(&mut self.nodes, self.some, row);
+                put_behind(&mut self.row, self.some, row);
                 self.some = true;
                 Ok(())
             }
@@ -59,12 +60,12 @@ impl<T: Copy> BlockList<T> {
     pub fn append(&mut self, other: BlockList<T>)
         ensures { self.new ≡ self.old ++ other }
     {
-        let BlockList { nodes, some } = other;
+        let BlockList { row, some } = other;
         if some {
-            put_behind(&mut self.nodes, self.some, nodes);
+            put_behind(&mut self.row, self.some, row);
             self.some = true;
         } else {
-            nodes.end();
+            end(row);
         }
     }
 
@@ -72,13 +73,13 @@ impl<T: Copy> BlockList<T> {
     pub fn iter(&self) -> Iter<'_, T>
         ensures { result ≡ self.now }
     {
-        Iter::over(&self.nodes, self.some)
+        Iter::over(&self.row, self.some)
     }
 }
 
 impl<T: Copy> Drop for BlockList<T> {
     fn drop(self) {
-        let BlockList { nodes, some } = self;
-        free(nodes, some);
+        let BlockList { row, some } = self;
+        free(row, some);
     }
 }

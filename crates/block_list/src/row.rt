@@ -15,17 +15,22 @@ pub struct Unplaced<T> {
     pub value: T,
 }
 
+/// Blocks that are linked, each of which says whether another follows.
+pub struct Row<T: Copy> {
+    pub nodes: Nodes<Block<T>, Global>,
+}
+
 /// Writes the value behind the last one, where the last block has room, and says whether it did.
-pub fn fill<T: Copy>(nodes: &mut Nodes<Block<T>, Global>, value: T) -> bool
-    requires some { 0 < length nodes.old.items }
-    requires tells { Tells nodes.old.items }
-    ensures written { OnTrue result (flat nodes.new.items ≡ flat nodes.old.items ++ value ∷ []) }
-    ensures full { OnFalse result (nodes.new.items ≡ nodes.old.items) }
-    ensures tells { Tells nodes.new.items }
-    ensures some { has_some nodes.new.items ≡ true }
+pub fn fill<T: Copy>(row: &mut Row<T>, value: T) -> bool
+    requires some { 0 < length row.old.nodes.items }
+    requires tells { Tells row.old.nodes.items }
+    ensures written { OnTrue result (flat row.new.nodes.items ≡ flat row.old.nodes.items ++ value ∷ []) }
+    ensures full { OnFalse result (row.new.nodes.items ≡ row.old.nodes.items) }
+    ensures tells { Tells row.new.nodes.items }
+    ensures some { has_some row.new.nodes.items ≡ true }
 {
-    let last = nodes.back_mut();
-    if last.used == 16 {
+    let last = row.nodes.back_mut();
+    if last.used == 16 || !may_hold::<T>(16) {
         return false;
     }
     last.items[last.used] = value;
@@ -33,63 +38,71 @@ pub fn fill<T: Copy>(nodes: &mut Nodes<Block<T>, Global>, value: T) -> bool
     true
 }
 
-/// A row of one block that holds the value.
-pub fn one<T: Copy>(alloc: Global, value: T) -> Result<Nodes<Block<T>, Global>, Unplaced<T>>
-    ensures ok { IfOk result (λ row. (flat row.items ≡ value ∷ []) × (has_some row.items ≡ true) × Tells row.items) }
+/// One block that holds the value.
+pub fn one<T: Copy>(alloc: Global, value: T) -> Result<Row<T>, Unplaced<T>>
+    ensures ok { IfOk result (λ row. (flat row.nodes.items ≡ value ∷ []) × (has_some row.nodes.items ≡ true)
+        × Tells row.nodes.items) }
     ensures err { IfErr result (λ refused. refused.value ≡ value) }
 {
     match Vacant::take(alloc) {
-        Ok(room) => Ok(Nodes::one(
-            room,
-            Block {
-                items: [value; 16],
-                used: 1,
-                more: false,
-            },
-        )),
+        Ok(room) => Ok(Row {
+            nodes: Nodes::one(
+                room,
+                Block {
+                    items: [value; 16],
+                    used: 1,
+                    more: false,
+                },
+            ),
+        }),
         Err(_) => Err(Unplaced { value }),
     }
 }
 
 /// Puts the other blocks behind these.
-pub fn link<T: Copy>(nodes: &mut Nodes<Block<T>, Global>, other: &mut Nodes<Block<T>, Global>)
-    requires some { (0 < length nodes.old.items) × (0 < length other.old.items) }
-    requires tells { Tells nodes.old.items × Tells other.old.items }
-    ensures items { flat nodes.new.items ≡ flat nodes.old.items ++ flat other.old.items }
-    ensures tells { Tells nodes.new.items }
-    ensures some { has_some nodes.new.items ≡ true }
-    ensures left { other.new.items ≡ [] }
+pub fn link<T: Copy>(row: &mut Row<T>, other: &mut Row<T>)
+    requires some { (0 < length row.old.nodes.items) × (0 < length other.old.nodes.items) }
+    requires tells { Tells row.old.nodes.items × Tells other.old.nodes.items }
+    ensures items { flat row.new.nodes.items ≡ flat row.old.nodes.items ++ flat other.old.nodes.items }
+    ensures tells { Tells row.new.nodes.items }
+    ensures some { has_some row.new.nodes.items ≡ true }
+    ensures left { other.new.nodes.items ≡ [] }
 {
-    nodes.back_mut().more = true;
-    nodes.join(other);
+    row.nodes.back_mut().more = true;
+    row.nodes.join(&mut other.nodes);
 }
 
 /// Puts a row behind these blocks, of which there may be none.
-pub fn put_behind<T: Copy>(
-    nodes: &mut Nodes<Block<T>, Global>,
-    some: bool,
-    mut row: Nodes<Block<T>, Global>,
-)
-    requires some { some ≡ has_some nodes.old.items }
-    requires tells { Tells nodes.old.items }
-    requires row { (has_some row.items ≡ true) × Tells row.items }
-    ensures items { flat nodes.new.items ≡ flat nodes.old.items ++ flat row.items }
-    ensures tells { Tells nodes.new.items }
-    ensures some { has_some nodes.new.items ≡ true }
+pub fn put_behind<T: Copy>(row: &mut Row<T>, some: bool, mut other: Row<T>)
+    requires some { some ≡ has_some row.old.nodes.items }
+    requires tells { Tells row.old.nodes.items }
+    requires other { (has_some other.nodes.items ≡ true) × Tells other.nodes.items }
+    ensures items { flat row.new.nodes.items ≡ flat row.old.nodes.items ++ flat other.nodes.items }
+    ensures tells { Tells row.new.nodes.items }
+    ensures some { has_some row.new.nodes.items ≡ true }
 {
     if some {
-        link(nodes, &mut row);
+        link(row, &mut other);
     } else {
-        swap(nodes, &mut row);
+        swap(row, &mut other);
     }
-    row.end();
+    end(other);
+}
+
+/// Ends a row that has no block left.
+pub fn end<T: Copy>(row: Row<T>)
+    requires { row.nodes.items ≡ [] }
+{
+    let Row { nodes } = row;
+    nodes.end();
 }
 
 /// Frees all blocks, one by one.
-pub fn free<T: Copy>(mut nodes: Nodes<Block<T>, Global>, some: bool)
-    requires some { some ≡ has_some nodes.items }
-    requires tells { Tells nodes.items }
+pub fn free<T: Copy>(row: Row<T>, some: bool)
+    requires some { some ≡ has_some row.nodes.items }
+    requires tells { Tells row.nodes.items }
 {
+    let Row { mut nodes } = row;
     let mut more = some;
     while more {
         let (block, room) = nodes.unlink_front();

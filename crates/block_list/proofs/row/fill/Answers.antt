@@ -7,7 +7,7 @@ use Rattle.block_list.proofs.row.fill.Goals as goal
 pub returns-clause-written : goal.returns-clause-written
 returns-clause-written g c =
     let some = c.requires.some in
-    let blocks = c.args.nodes.now.items in
+    let blocks = c.args.row.now.nodes.items in
     let last = c.back_mut-last.result.now in
     let room : last.used < length last.items = omega (arith, last.within, last.sized, c.if-last-eq16.false) in
     let next : last.used + 1 ≡ suc last.used = omega arith in
@@ -17,7 +17,7 @@ returns-clause-written g c =
 pub returns-clause-tells : goal.returns-clause-tells
 returns-clause-tells g c =
     let some = c.requires.some in
-    let blocks = c.args.nodes.now.items in
+    let blocks = c.args.row.now.nodes.items in
     Tells-set_last blocks (length blocks - 1) _ c.back_mut-last.result.now (omega arith)
     c.back_mut-last.ensures.value
     refl
