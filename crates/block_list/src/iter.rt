@@ -64,7 +64,7 @@ impl<T: Copy> Iterator for Iter<'_, T> {
             self.used = block.used;
             self.more = block.more;
         }
-        let Some(items) = &self.items else {
+        let Some(items) = self.items else {
             return None;
         };
         let item = items[self.at];

@@ -12,3 +12,6 @@ mod walk;
 pub use iter::Iter;
 pub use list::BlockList;
 pub use row::Unplaced;
+
+#[cfg(test)]
+mod tests;

@@ -5,19 +5,6 @@ use Rattle.block_list.proofs.Rows.{Entered, Entered-inside, Entered-next, Entere
 use Rattle.block_list.proofs.iter.IterIterator.next.Goals as goal
 use Rattle.block_list.proofs.iter.IterIterator.next.Goals.{then-self+else-not-self, else-self}
 
-pub offset_bounds-items-self-inside : goal.offset_bounds-items-self-inside
-offset_bounds-items-self-inside g c =
-    let was = c.self.inside in
-    let now = c.if-self.self-inside in
-    let P : Inside g.row.T.Denot → Type 0 = λ s. Entered c.args.self.now s.items s.at s.used (flat s.walk.items) in
-    let entered : P now =
-      elim c.if-self.branch [
-        then-self+else-not-self w ↦ subst P (sym w.self-inside-is) (Entered-next c.args.self.now was.items was.at was.used was.walk.items _ _ w.if-self.true (sym c.self.view_is) w.step-block.ensures)
-      | else-self w ↦ subst P (sym w.self-inside-is) (Entered-inside c.args.self.now was.items was.at was.used (flat was.walk.items) c.self.invariant.0 w.if-self.false (sym c.self.view_is))
-      ] in
-    let small = Entered-small _ _ _ _ _ c.in-Some.items entered c.in-Some.is in
-    ?
-
 pub returns-clause-steps : goal.returns-clause-steps
 returns-clause-steps g c =
     let was = c.self.inside in
