@@ -73,12 +73,16 @@ module _ (R Z : RattleType) (g : Ghosts Z.Denot) where
     chain_owns-Keyless [] [] = tt
     chain_owns-Keyless [] (x ∷ xs) = tt
     chain_owns-Keyless (n ∷ ns) [] = tt
-    chain_owns-Keyless (n ∷ ns) (x ∷ xs) =
+    chain_owns-Keyless (n ∷ ns) (x ∷ xs) = (
+      (
+        keyless_at R sent _ x,
         (
-          (keyless_at R sent _ x, (keyless_at RawPtr pointer_send _ n.0.1,
-              (keyless_at Z handle _ n.1, (f.frees n.1 _ n.0.0, ((keyless_room _ _, (keyless_room _ _, keyless_room _ _)), keyless_room _ n.0.0))))),
-          chain_owns-Keyless ns xs,
-        )
+          keyless_at RawPtr pointer_send _ n.0.1,
+          (keyless_at Z handle _ n.1, (f.frees n.1 _ n.0.0, ((keyless_room _ _, (keyless_room _ _, keyless_room _ _)), keyless_room _ n.0.0))),
+        ),
+      ),
+      chain_owns-Keyless ns xs,
+    )
 
     -- nodes may be sent where the elements and the allocator may
     pub Nodes-send : IsSend (Nodes.the_row R Z g)

@@ -52,6 +52,6 @@ module _ {M : Type 1} {𝓤 : Ura M} (𝓛 : Logic 𝓤) (κ : Lft) (R Z : Rattl
       let next = lent_at RawPtr (n.0.0 +ₚ 0) n.0.1 in
       Lends-both 𝓛 (node_owns R Z holds n x) (chain_owns R Z holds ns xs) (beside elem next) (chain_lent R (links_of ns) xs) κ
       (Lends-both 𝓛 _ _ elem next κ
-          (Lends-elem (n.0.0 +ₚ elem_offset R) x)
-          (Lends-first 𝓛 _ (frees R Z holds n.0.0 n.1) next κ (Lends-pointer (n.0.0 +ₚ 0) n.0.1)))
+      (Lends-elem (n.0.0 +ₚ elem_offset R) x)
+      (Lends-first 𝓛 _ (frees R Z holds n.0.0 n.1) next κ (Lends-pointer (n.0.0 +ₚ 0) n.0.1)))
       (Lends-chain ns xs)

@@ -1,5 +1,5 @@
 -- What stays linked where a node goes, and where two rows are joined.
-use mathlib.Core.Path.{◌≡◌, refl, ap, sym, ◌∙◌}
+use mathlib.Core.Path.{◌≡◌, refl}
 use mathlib.Core.Logic.{∥∥₁_elim}
 use mathlib.Core.List.{List, [], ◌∷◌, ◌++◌}
 use base.Stored.{Coded-set}

@@ -1,5 +1,5 @@
 -- Rows of blocks: what a write in the last block changes, and what stands behind a row that another is linked to.
-use Rattle.std.proofs.Common.{◌≡◌, ℕ, zero, suc, ◌+◌, ◌-◌, ◌<◌, ◌≤◌, List, [], ◌∷◌, ◌++◌, length, take, drop, Option, Some, None, Bool, true, false, ap, sym, ◌∙◌, refl, arith, get_or, get_or-take, append_assoc, ◌≢◌, subst}
+use Rattle.std.proofs.Common.{◌≡◌, ℕ, zero, suc, ◌+◌, ◌<◌, ◌≤◌, List, [], ◌∷◌, ◌++◌, length, take, drop, Option, Some, None, true, false, ap, sym, ◌∙◌, refl, arith, get_or, get_or-take, append_assoc, subst}
 use Rattle.std.proofs.Math.ListN.{set, drop_of_length-le}
 use Rattle.std.proofs.Math.Seq.{drop-cons}
 use Rattle.std.proofs.lemmas.List.{length-take}

@@ -6,9 +6,9 @@ use seplogic.Ra.Ura.{Ura}
 use mir.Val.{Val, vstruct, vcons, vnil, of_list}
 use base.Fraction.{full_share}
 use base.Stored.{Gv}
-use base.Fml.{Lft, GName, Share, fsep, flft, fobs, fauth, fbor, fobor}
-use types.Logic.{Logic, sem}
-use types.Kit.{Item, Goal, Seq, Step, Soaks, step, ‵, ◌$◌, ◌∵◌, !, qed, move, drop, keep, fsplit, fsplit3, fjoin, fpick, fpack, feq_i, feq_l, rewrite}
+use base.Fml.{Lft, GName, Share, flft, fobs, fauth, fbor, fobor}
+use types.Logic.{Logic}
+use types.Kit.{Item, Goal, Seq, Step, Soaks, step, ‵, ◌$◌, move, drop, fsplit, fjoin, fpick, fpack, feq_i, feq_l, rewrite}
 use denote.RattleType.{RattleType, Valss}
 use types.SemTy.{Body as Borrowed}
 use denote.Memory.{hidden_shr, cell_at, mem}
@@ -25,7 +25,7 @@ use Rattle.block_list.specs.declared.nodes.Nodes.{Nodes}
 use Rattle.block_list.specs.declared.walk.Walk.{Walk}
 use Rattle.block_list.specs.contracts.nodes.Nodes as N
 use Rattle.block_list.specs.contracts.walk.Walk as W
-use Rattle.block_list.specs.Links.{Link, links_of}
+use Rattle.block_list.specs.Links.{links_of}
 use Rattle.block_list.specs.Ownership.{chain_lent}
 
 -- a walk as the machine sees it: where it stands, and a mark without bytes
@@ -44,7 +44,7 @@ module _ {M : Type 1} {𝓤 : Ura M} {𝓛 : Logic 𝓤} {K : Type 0} {Γ : List
   pub walk_had : K → (a : NamedLft) (S : RattleType) (w : Walk S.Denot) (vs : List Val)
       → (vs ≡ walk_val w.at ∷ [] → Seq K 𝓛 (‵ (chain_lent S w.links w.items a.lft) ∷ Γ) G)
       → Seq K 𝓛 (‵ ((W.the_row a S).own_val w vs) ∷ Γ) G
-  walk_had t a S w vs k = 
+  walk_had t a S w vs k =
       fsplit t $ fpick t (λ vss. fsplit t $ feq_l t (λ all. fsplit t $ feq_l t (λ e₀.
       fsplit t $ fpick t (λ uss. fsplit t $ feq_l t (λ e₁. drop t $ drop t $
       k (all ∙ (λ i. vstruct (of_list (e₀ i ++ (e₁ i ++ []))) ∷ [])))))))

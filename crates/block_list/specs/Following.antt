@@ -1,5 +1,5 @@
 -- What becomes of a row of nodes once the borrow of its last element ends.
-use Rattle.std.specs.Prelude.{ℕ, ◌-◌, length, slice_set}
+use Rattle.std.specs.Prelude.{◌-◌, length, slice_set}
 use mathlib.Core.Path.{sym, ◌∙◌}
 use lib.ListN.{length-set}
 use base.Fml.{Fml}

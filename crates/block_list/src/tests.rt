@@ -39,13 +39,18 @@ fn each_two_lists_in_each_order(rt: HostRuntime) {
     let alloc = rt.alloc();
     for a in [0u32, 1, 16, 17] {
         for b in [0u32, 1, 16, 17] {
-            let (Ok(mut first), Ok(second)) = (numbers(alloc, 0, a), numbers(alloc, a, a + b)) else {
+            let (Ok(mut first), Ok(second)) = (numbers(alloc, 0, a), numbers(alloc, a, a + b))
+            else {
                 return;
             };
             first.append(second);
             assert_eq!(rt; counted(&first), Some(a + b), "{a} and {b}");
             if first.push(alloc, a + b).is_ok() {
-                assert_eq!(rt; counted(&first), Some(a + b + 1), "{a} and {b}, and one more");
+                assert_eq!(rt;
+                    counted(&first),
+                    Some(a + b + 1),
+                    "{a} and {b}, and one more"
+                );
             }
         }
     }
@@ -54,8 +59,10 @@ fn each_two_lists_in_each_order(rt: HostRuntime) {
 #[test]
 fn a_million_items(rt: HostRuntime) {
     let alloc = rt.alloc();
-    let (Ok(mut list), Ok(rest)) = (numbers(alloc, 0, 500_000), numbers(alloc, 500_000, 1_000_000))
-    else {
+    let (Ok(mut list), Ok(rest)) = (
+        numbers(alloc, 0, 500_000),
+        numbers(alloc, 500_000, 1_000_000),
+    ) else {
         return;
     };
     list.append(rest);

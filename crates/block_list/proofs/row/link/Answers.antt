@@ -8,7 +8,7 @@ returns-clause-items g c =
     let blocks = c.args.row.now.nodes.items in
     rw c.join.ensures.0
     (flat-link blocks (length blocks - 1) _ c.back_mut.result.now c.args.other.now.nodes.items (omega arith)
-        c.back_mut.ensures.value refl)
+    c.back_mut.ensures.value refl)
 
 pub returns-clause-tells : goal.returns-clause-tells
 returns-clause-tells g c =
@@ -16,4 +16,4 @@ returns-clause-tells g c =
     let blocks = c.args.row.now.nodes.items in
     rw c.join.ensures.0
     (Tells-link blocks (length blocks - 1) _ c.args.other.now.nodes.items (omega arith) refl
-        c.requires.some.1 c.requires.tells.0 c.requires.tells.1)
+    c.requires.some.1 c.requires.tells.0 c.requires.tells.1)

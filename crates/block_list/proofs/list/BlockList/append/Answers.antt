@@ -1,5 +1,4 @@
-use Rattle.std.proofs.Common.{◌≡◌, ◌++◌, ◌∙◌, [], ap, sym, false}
-use Rattle.block_list.specs.Blocks.{flat, has_some}
+use Rattle.std.proofs.Common.{◌++◌, ◌∙◌, ap, sym}
 use Rattle.block_list.proofs.Rows.{append-none, flat-none}
 use Rattle.block_list.proofs.list.BlockList.append.Goals as goal
 

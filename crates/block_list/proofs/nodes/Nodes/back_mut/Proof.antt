@@ -128,13 +128,13 @@ module _ (E : Bx) {M : Type 1} {𝓤 : Ura M} (𝓛 : Logic 𝓤) (C : Calls �
       let many = ap length xs.2 ∙ length-append xs.0 (x ∷ []) in
       let even : length ns.0 ≡ length xs.0 = omega arith in
       let last = IsLinked-last d.head d.tail (links_of ns.0) m.0
-        (subst (IsLinked d.head d.tail) (ap links_of ns.2 ∙ map-append (λ n. n.0) ns.0 (m ∷ [])) (IsLinked-had _ _ _ d.linked)) in
+      (subst (IsLinked d.head d.tail) (ap links_of ns.2 ∙ map-append (λ n. n.0) ns.0 (m ∷ [])) (IsLinked-had _ _ _ d.linked)) in
       let at : length xs.0 ≡ length d.items - 1 = omega arith in
       let Others : Fml = Held E ns.0 xs.0 in
       let written : (w : X E) → set d.items (length d.items - 1) w ≡ xs.0 ++ w ∷ [] =
-        λ w. ap (λ ys. set ys (length d.items - 1) w) xs.2 ∙ set_at xs.0 x [] w (length d.items - 1) at in
+      λ w. ap (λ ys. set ys (length d.items - 1) w) xs.2 ∙ set_at xs.0 x [] w (length d.items - 1) at in
       let mend : (w : X E) → ent 𝓤 (sep 𝓤 (sem 𝓛 (One E m w)) (sem 𝓛 Others)) (sem 𝓛 (Held E d.blocks (new w).items)) =
-        λ w. subst (λ (F : Fml). ent 𝓤 (sep 𝓤 (sem 𝓛 (One E m w)) (sem 𝓛 Others)) (sem 𝓛 F)) (λ i. Held E (sym ns.2 i) (sym (written w) i)) (last_in E 𝓛 ns.0 m xs.0 w even) in
+      λ w. subst (λ (F : Fml). ent 𝓤 (sep 𝓤 (sem 𝓛 (One E m w)) (sem 𝓛 Others)) (sem 𝓛 F)) (λ i. Held E (sym ns.2 i) (sym (written w) i)) (last_in E 𝓛 ns.0 m xs.0 w even) in
       qed 𝓛 Had ∵ enter ! C Λ (function E) (vptr rb ro ∷ []) _ $ alloc_all ! (λ l. pass_all ! refl ((tt, tt), tt) $
       let En : Env 𝓤 H = env (function E).locals l in
       nodes_opens E ! tt d rb ro $

@@ -39,7 +39,7 @@ use Rattle.std_alloc.proofs.RcSteps.{Ptr-Good}
 use Rattle.std_alloc.proofs.BoxSteps.Form.{Bx, args, X}
 use Rattle.block_list.specs.Links.{Link, links_of, IsLinked}
 use Rattle.block_list.proofs.Linking.{IsLinked-had, IsLinked-last, IsLinked-join}
-use Rattle.block_list.proofs.Steps.{first_of, last_of, words, Hd, D, Nr, Held, One, last_out, last_in, append_in, nodes_opens, nodes_closes, one_opens, one_closes}
+use Rattle.block_list.proofs.Steps.{first_of, last_of, Hd, D, Nr, Held, One, last_out, last_in, append_in, nodes_opens, nodes_closes, one_opens, one_closes}
 use Rattle.block_list.specs.contracts.nodes.Nodes.join.Key.{name as #self}
 use Rattle.block_list.proofs.nodes.Nodes.join.Statement as stated
 use Rattle.block_list.proofs.nodes.Nodes.join.Code as code
@@ -113,11 +113,11 @@ module _ (E : Bx) {M : Type 1} {𝓤 : Ura M} (𝓛 : Logic 𝓤) (C : Calls �
       let many = ap length xs.2 ∙ length-append xs.0 (xs.1 ∷ []) in
       let even : length ns.0 ≡ length xs.0 = omega arith in
       let linked : IsLinked d.head d.tail (links_of ns.0 ++ m.0 ∷ []) =
-        subst (IsLinked d.head d.tail) (ap links_of ns.2 ∙ map-append (λ n. n.0) ns.0 (m ∷ [])) (IsLinked-had _ _ _ d.linked) in
+      subst (IsLinked d.head d.tail) (ap links_of ns.2 ∙ map-append (λ n. n.0) ns.0 (m ∷ [])) (IsLinked-had _ _ _ d.linked) in
       let last = IsLinked-last d.head d.tail (links_of ns.0) m.0 linked in
       let ks = first_of c.blocks (omega arith) in
       let behind : IsLinked c.head c.tail (ks.0.0 ∷ links_of ks.1) =
-        subst (λ js. IsLinked c.head c.tail (links_of js)) ks.2 (IsLinked-had _ _ _ c.linked) in
+      subst (λ js. IsLinked c.head c.tail (links_of js)) ks.2 (IsLinked-had _ _ _ c.linked) in
       let rest : D E = record { head = c.head; tail = c.tail; items = []; blocks = []; counted = refl; linked = ∣ (tt, tt) ∣₁ } in
       qed 𝓛 (Had d c) ∵ enter ! C Λ (function E) (vptr rb ro ∷ vptr sb so ∷ []) _ $ alloc_all ! (λ l. pass_all ! refl ((tt, tt), ((tt, tt), tt)) $
       let En : Env 𝓤 H = env (function E).locals l in
@@ -130,10 +130,10 @@ module _ (E : Bx) {M : Type 1} {𝓤 : Ura M} (𝓛 : Logic 𝓤) (C : Calls �
       let zs = xs.0 ++ xs.1 ∷ [] in
       let before : IsLinked d.head d.tail (links_of ns.0 ++ (a, m.0.1) ∷ []) = subst (λ z. IsLinked d.head d.tail (links_of ns.0 ++ (z, m.0.1) ∷ [])) e linked in
       let links : (links_of ns.0 ++ was.0 ∷ []) ++ links_of c.blocks ≡ links_of (front ++ c.blocks) =
-        ap (λ ls. ls ++ links_of c.blocks) (sym (map-append (λ n. n.0) ns.0 (was ∷ []))) ∙ sym (map-append (λ n. n.0) front c.blocks) in
+      ap (λ ls. ls ++ links_of c.blocks) (sym (map-append (λ n. n.0) ns.0 (was ∷ []))) ∙ sym (map-append (λ n. n.0) front c.blocks) in
       let joined : IsLinked d.head c.tail ((links_of ns.0 ++ was.0 ∷ []) ++ links_of c.blocks) =
-        subst (λ js. IsLinked d.head c.tail ((links_of ns.0 ++ was.0 ∷ []) ++ links_of js)) (sym ks.2)
-        (IsLinked-join d.head d.tail c.head c.tail (links_of ns.0) (a, m.0.1) ks.0.0 (links_of ks.1) before behind) in
+      subst (λ js. IsLinked d.head c.tail ((links_of ns.0 ++ was.0 ∷ []) ++ links_of js)) (sym ks.2)
+      (IsLinked-join d.head d.tail c.head c.tail (links_of ns.0) (a, m.0.1) ks.0.0 (links_of ks.1) before behind) in
       let new : D E = record {
         head = d.head;
         tail = c.tail;

@@ -11,7 +11,7 @@ use types.Logic.{Logic}
 use contract.Monad.{fact}
 use contract.Running.{tables, tables_of}
 use sound.WpLaws.{WpFn-mono}
-use types.Kit.{‵, ◌$◌, ◌∵◌, !, qed, keep, join, fjoin, suffices, done}
+use types.Kit.{‵, ◌$◌, ◌∵◌, !, qed, keep, join, suffices, done}
 use types.Part.{agg}
 use types.Run.{stop, from, addr, and_then, no_more, returns, enter}
 use types.ByLocal.{alloc_all, pass_all, free_all, look_at, get, sets}

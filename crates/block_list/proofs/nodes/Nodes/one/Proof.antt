@@ -13,7 +13,7 @@ use types.Logic.{Logic}
 use contract.Monad.{fact}
 use contract.Running.{tables, tables_of}
 use sound.WpLaws.{WpFn-mono}
-use types.Kit.{Item, ⋆, ‵, raw, at_ret, ◌$◌, ◌∵◌, !, qed, by, move, keep, use1, split, join, drop, group, fsplit, fjoin, suffices, done}
+use types.Kit.{Item, ⋆, ‵, at_ret, ◌$◌, ◌∵◌, !, qed, by, move, keep, use1, join, drop, group, fsplit, fjoin, suffices, done}
 use types.Part.{whole, sub, agg}
 use types.Run.{init, stop, fld, of_opd, and_then, no_more, assigns_last, first, blocks, exec, returns, enter}
 use types.ByLocal.{alloc_all, pass_all, free_all, look_at, get, get_in, through, sets, env}
@@ -38,7 +38,7 @@ use Rattle.std_alloc.proofs.BoxSteps.Form.{Bx, args, X, τ, own, R, P}
 use Rattle.std_alloc.proofs.BoxSteps.Steps.{el_tells}
 use Rattle.std_alloc.proofs.OfVacant.{Vacant, vacant_val, vacant_typed, Vacant-had}
 use Rattle.block_list.specs.contracts.nodes.Node as Block
-use Rattle.block_list.proofs.Steps.{words, node_val, Hd, D, Nr, block_ty, Held, One, nodes_made, node_made}
+use Rattle.block_list.proofs.Steps.{words, node_val, Hd, D, Nr, block_ty, One, nodes_made, node_made}
 use Rattle.block_list.specs.contracts.nodes.Nodes.one.Key.{name as #self}
 use Rattle.block_list.proofs.nodes.Nodes.one.Statement as stated
 use Rattle.block_list.proofs.nodes.Nodes.one.Code as code

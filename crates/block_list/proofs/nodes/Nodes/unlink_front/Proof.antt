@@ -43,7 +43,7 @@ use Rattle.std_alloc.proofs.Pairs.{pair_val, pair_Typed, pair_of}
 use Rattle.block_list.specs.contracts.nodes.Node as Block
 use Rattle.block_list.specs.Links.{Link, links_of, IsLinked}
 use Rattle.block_list.proofs.Linking.{IsLinked-had, IsLinked-tail}
-use Rattle.block_list.proofs.Steps.{first_of, words, Hd, D, Nr, Held, One, nodes_opens, nodes_closes, one_opens, node_unmade, block_back}
+use Rattle.block_list.proofs.Steps.{first_of, Hd, D, Nr, Held, nodes_opens, nodes_closes, one_opens, node_unmade, block_back}
 use Rattle.block_list.specs.contracts.nodes.Nodes.unlink_front.Key.{name as #self}
 use Rattle.block_list.proofs.nodes.Nodes.unlink_front.Statement as stated
 use Rattle.block_list.proofs.nodes.Nodes.unlink_front.Code as code
@@ -118,7 +118,7 @@ module _ (E : Bx) {M : Type 1} {𝓤 : Ura M} (𝓛 : Logic 𝓤) (C : Calls �
       let long = ap length ns.2 in
       let many = ap length xs.2 in
       let linked : IsLinked d.head d.tail (m.0 ∷ links_of ns.1) =
-        subst (λ ks. IsLinked d.head d.tail (links_of ks)) ns.2 (IsLinked-had _ _ _ d.linked) in
+      subst (λ ks. IsLinked d.head d.tail (links_of ks)) ns.2 (IsLinked-had _ _ _ d.linked) in
       let new : D E = record {
         head = m.0.1;
         tail = d.tail;

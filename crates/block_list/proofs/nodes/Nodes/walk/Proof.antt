@@ -9,7 +9,7 @@ use mir.MapTy.{inst_fn}
 use mir.Val.{Val, vptr, vstruct, vnil}
 use base.Logic.{SProp, ent, emp, via, fst∗}
 use base.Fml.{Lft, Share, ftrue, flft}
-use prog.Wp.{Env, Calls, Loops, WpFn, Tables}
+use prog.Wp.{Calls, Loops, WpFn, Tables}
 use types.Logic.{Logic}
 use contract.Monad.{fact}
 use contract.Running.{tables, tables_of}
@@ -17,9 +17,9 @@ use sound.WpLaws.{WpFn-mono}
 use types.Kit.{Item, ⋆, ‵, ◌⊛◌, ◌$◌, ◌∵◌, !, qed, by, move, keep, split, join, fsplit, fjoin, feq_l, suffices, done}
 use types.Part.{agg}
 use types.Run.{look, stop, fld, load, of_opd, and_then, no_more, returns, enter}
-use types.ByLocal.{alloc_all, pass_all, free_all, look_at, get, through, sets, env}
+use types.ByLocal.{alloc_all, pass_all, free_all, look_at, get, through, sets}
 use denote.Exit.{yes}
-use denote.RattleType.{RattleType, owns}
+use denote.RattleType.{owns}
 use denote.Memory.{hidden_shr}
 use denote.RawPtr.{ptr_val}
 use denote.Ref.{Bor, ShrRef, NamedLft}

@@ -9,23 +9,23 @@ use mir.Syntax.{Fn, named, a_type, Args}
 use mir.MapTy.{inst_fn}
 use mir.Val.{Val, vptr}
 use base.Logic.{SProp, ent, never, fst∗}
-use base.Fml.{Lft, GName, Share, ftrue, flft, fobs, fbor}
+use base.Fml.{Lft, GName, ftrue, flft, fobs, fbor}
 use prog.Wp.{Env, Calls, Loops, WpFn, Tables}
 use types.Logic.{Logic, sem}
 use contract.Monad.{fact}
 use contract.Running.{tables, tables_of}
 use sound.WpLaws.{WpFn-mono}
-use types.Kit.{Item, ⋆, ‵, ◌⊛◌, at_ret, ◌$◌, ◌∵◌, !, qed, by, move, keep, drop, split, split3, join, rewrite, fsplit, fsplit3, fjoin, fjoin3, feq_i, feq_l, suffices, frame, done}
+use types.Kit.{Item, ⋆, ‵, ◌⊛◌, at_ret, ◌$◌, ◌∵◌, !, qed, by, move, keep, drop, split3, join, rewrite, fsplit, fsplit3, fjoin, fjoin3, feq_i, feq_l, suffices, frame, done}
 use types.Part.{whole, sub, look_in, store_in}
 use types.Run.{look, stop, fld, load, of_opd, addr, assigns, first, blocks, exec, returns, enter}
 use types.ByLocal.{alloc_all, pass_all, free_all, look_at, get, through, sets, sets_last, is, env}
 use types.SemTy.{Body as Borrowed}
 use denote.Exit.{yes}
 use denote.RattleType.{RattleType, owns}
-use denote.Memory.{mem, hidden_shr, shared_of}
+use denote.Memory.{mem, shared_of}
 use denote.Param.{param, layouts}
-use denote.RawPtr.{Ptr, RawPtr, block_ptr, ptr_val, in_a_block, ◌+ₚ◌}
-use denote.Ref.{MutBor, MutRef, ShrRef, NamedLft}
+use denote.RawPtr.{Ptr, RawPtr, ptr_val, in_a_block, ◌+ₚ◌}
+use denote.Ref.{MutRef, ShrRef, NamedLft}
 use denote.Builtin.{RefMutOf, RefOf}
 use denote.Opens.{hide}
 use denote.Signature.{plain, named_lft}
@@ -45,7 +45,7 @@ use Rattle.block_list.specs.contracts.walk.Walk as W
 use Rattle.block_list.specs.Links.{Link, Leads}
 use Rattle.block_list.specs.Ownership.{elem_offset, chain_lent}
 use Rattle.block_list.proofs.Linking.{Leads-had}
-use Rattle.block_list.proofs.Seeing.{walk_val, walk_opens, walk_closes}
+use Rattle.block_list.proofs.Seeing.{walk_opens, walk_closes}
 use Rattle.block_list.proofs.Steps.{first_of}
 use Rattle.block_list.specs.contracts.walk.Walk.step.Key.{name as #self}
 use Rattle.block_list.proofs.walk.Walk.step.Statement as stated
