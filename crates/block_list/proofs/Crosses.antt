@@ -51,7 +51,8 @@ lent_anywhere : (R : RattleType) → IsSync R → (p : Ptr) (x : R.Denot) → Co
 lent_anywhere R synced p x κ = (keyless_place p, synced.shared x (block_of p) (count_of p) κ)
 
 -- what is lent of nodes
-pub chain_lent-Common : (R : RattleType) → IsSync R → (ls : List Link) (xs : List R.Denot) → Common (chain_lent R ls xs)
+pub chain_lent-Common : (R : RattleType) → IsSync R → (ls : List Link) (xs : List R.Denot)
+    → Common (chain_lent R ls xs)
 chain_lent-Common R synced [] xs κ = tt
 chain_lent-Common R synced (l ∷ ls) [] κ = tt
 chain_lent-Common R synced (l ∷ ls) (x ∷ xs) κ =
@@ -69,7 +70,8 @@ module _ (R Z : RattleType) (g : Ghosts Z.Denot) where
 
   module _ (sent : IsSend R) (handle : IsSend Z) (f : FreesAnywhere Z.Denot g) where
     -- what nodes own may be sent
-    chain_owns-Keyless : (ns : List (Link × Z.Denot)) (xs : List R.Denot) → Keyless (chain_owns R Z g.dealloc_token ns xs)
+    chain_owns-Keyless : (ns : List (Link × Z.Denot)) (xs : List R.Denot)
+        → Keyless (chain_owns R Z g.dealloc_token ns xs)
     chain_owns-Keyless [] [] = tt
     chain_owns-Keyless [] (x ∷ xs) = tt
     chain_owns-Keyless (n ∷ ns) [] = tt
@@ -78,7 +80,19 @@ module _ (R Z : RattleType) (g : Ghosts Z.Denot) where
         keyless_at R sent _ x,
         (
           keyless_at RawPtr pointer_send _ n.0.1,
-          (keyless_at Z handle _ n.1, (f.frees n.1 _ n.0.0, ((keyless_room _ _, (keyless_room _ _, keyless_room _ _)), keyless_room _ n.0.0))),
+          (
+            keyless_at Z handle _ n.1,
+            (
+              f.frees n.1 _ n.0.0,
+              (
+                (
+                  keyless_room _ _,
+                  (keyless_room _ _, keyless_room _ _),
+                ),
+                keyless_room _ n.0.0,
+              ),
+            ),
+          ),
         ),
       ),
       chain_owns-Keyless ns xs,

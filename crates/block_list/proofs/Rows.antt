@@ -40,7 +40,8 @@ module _ {T : Type 0} where
   positive-has_some (b ∷ bs) e = omega arith
 
   -- what is written behind the items of the last block stands behind all items
-  pub flat-set_last : (bs : List (Block T)) (i : ℕ) (b old : Block T) (xs : List T) → suc i ≡ length bs → old ≡ get_or bs i old
+  pub flat-set_last : (bs : List (Block T)) (i : ℕ) (b old : Block T) (xs : List T) → suc i ≡ length bs
+      → old ≡ get_or bs i old
       → block_items b ≡ block_items old ++ xs → flat (set bs i b) ≡ flat bs ++ xs
   flat-set_last [] i b old xs last is_old written = absurd (omega arith)
   flat-set_last (x ∷ []) zero b old xs last is_old written =
@@ -59,7 +60,8 @@ module _ {T : Type 0} where
       flat-set_last bs i b old [] last is_old (same ∙ sym (append-none (block_items old))) ∙ append-none (flat bs)
 
   -- the items of a row whose last block was changed but for its items, and of the row behind it
-  pub flat-link : (bs : List (Block T)) (i : ℕ) (b old : Block T) (cs : List (Block T)) → suc i ≡ length bs → old ≡ get_or bs i old
+  pub flat-link : (bs : List (Block T)) (i : ℕ) (b old : Block T) (cs : List (Block T)) → suc i ≡ length bs
+      → old ≡ get_or bs i old
       → block_items b ≡ block_items old → flat (set bs i b ++ cs) ≡ flat bs ++ flat cs
   flat-link bs i b old cs last is_old same =
       flat-append (set bs i b) cs ∙ ap (λ xs. xs ++ flat cs) (flat-set_same bs i b old last is_old same)
@@ -100,7 +102,8 @@ module _ {T : Type 0} where
       (tells.0 ∙ sym (has_some-set (y ∷ bs) i b), Tells-set_last (y ∷ bs) i b old (omega arith) is_old same tells.1)
 
   -- a last block that says that another follows, before others
-  pub Tells-link : (bs : List (Block T)) (i : ℕ) (b : Block T) (cs : List (Block T)) → suc i ≡ length bs → b.more ≡ true
+  pub Tells-link : (bs : List (Block T)) (i : ℕ) (b : Block T) (cs : List (Block T)) → suc i ≡ length bs
+      → b.more ≡ true
       → 0 < length cs → Tells bs → Tells cs → Tells (set bs i b ++ cs)
   Tells-link [] i b cs last more some tells others = absurd (omega arith)
   Tells-link (x ∷ []) zero b cs last more some tells others = (more ∙ sym (has_some-positive cs some), others)
@@ -112,21 +115,24 @@ module _ {T : Type 0} where
   )
 
 -- a walk that stands at an item: what is left is the rest of its block, and what is behind
-pub record Entered {T : Type 0} (left : List T) (items : Option (List T)) (at used : ℕ) (behind : List T) : Type 0 where
+pub record Entered {T : Type 0} (left : List T) (items : Option (List T)) (at used : ℕ)
+    (behind : List T) : Type 0 where
   pub more : at < used
   pub within : IsWithin items at used
   pub is_left : left ≡ left_in items at used ++ behind
 
 module _ {T : Type 0} where
   -- a walk that isn't through its block stands at an item
-  pub Entered-inside : (left : List T) (items : Option (List T)) (at used : ℕ) (behind : List T) → IsWithin items at used
+  pub Entered-inside : (left : List T) (items : Option (List T)) (at used : ℕ) (behind : List T)
+      → IsWithin items at used
       → (at ≡ used → ⊥) → left ≡ left_in items at used ++ behind → Entered left items at used behind
   Entered-inside left None at used behind within inside is_left = absurd (inside within)
   Entered-inside left (Some items) at used behind within inside is_left =
       record { more = omega (arith, within.0, inside); within = within; is_left = is_left }
 
   -- a walk that is through its block stands at the first item of the next
-  pub Entered-next : (left : List T) (items : Option (List T)) (at used : ℕ) (behind : List (Block T)) (b : Block T) (rest : List (Block T))
+  pub Entered-next : (left : List T) (items : Option (List T)) (at used : ℕ)
+      (behind : List (Block T)) (b : Block T) (rest : List (Block T))
       → at ≡ used → left ≡ left_in items at used ++ flat behind → behind ≡ b ∷ rest
       → Entered left (Some b.items) 0 b.used (flat rest)
   Entered-next left items at used behind b rest through is_left next = record {
@@ -136,7 +142,8 @@ module _ {T : Type 0} where
   }
 
   -- the item at which a walk stands is among the sixteen of its block
-  pub Entered-small : (left : List T) (items : Option (List T)) (at used : ℕ) (behind xs : List T) → Entered left items at used behind
+  pub Entered-small : (left : List T) (items : Option (List T)) (at used : ℕ) (behind xs : List T)
+      → Entered left items at used behind
       → items ≡ Some xs → at < 16
   Entered-small left items at used behind xs entered is =
       let P : Option (List T) → Type 0 = λ o. IsWithin o at used in
@@ -144,7 +151,8 @@ module _ {T : Type 0} where
       omega (arith, within.0, within.1, within.2, entered.more)
 
   -- it is the first of what is left
-  pub Entered-item : (left : List T) (items : Option (List T)) (at used : ℕ) (behind xs : List T) (d : T) → Entered left items at used behind
+  pub Entered-item : (left : List T) (items : Option (List T)) (at used : ℕ) (behind xs : List T) (d : T)
+      → Entered left items at used behind
       → items ≡ Some xs → left ≡ get_or xs at d ∷ (left_in items (at + 1) used ++ behind)
   Entered-item left items at used behind xs d entered is =
       let P : Option (List T) → Type 0 = λ o. IsWithin o at used in

@@ -59,21 +59,33 @@ module _ {M : Type 1} {𝓤 : Ura M} {𝓛 : Logic 𝓤} {K : Type 0} {Γ : List
       fpack t (Unit {0}) (within (declared (Mark.the_type (ShrRef a.mir a.lft S))) tt none) tt $ fjoin t $
       feq_i t (List Val) (ptr_val w.at ∷ []) (ptr_val w.at ∷ []) refl $ fjoin t $
       feq_i t (List Val) (v ∷ []) (v ∷ []) refl $ fjoin t $
-      fpack t (Valss (shape (W.the_type a S)).fields) (within (shape (W.the_type a S)) (w.at, (tt, tt)) (v ∷ [])) (ptr_val w.at ∷ [], (none, tt)) $
+      fpack t (Valss (shape (W.the_type a S)).fields) (within (shape (W.the_type a S)) (
+        w.at,
+        (tt, tt),
+      ) (v ∷ [])) (ptr_val w.at ∷ [], (none, tt)) $
       fjoin t $ s)
 
 module _ {M : Type 1} {𝓤 : Ura M} {𝓛 : Logic 𝓤} {K : Type 0} {Γ : List (Item 𝓤)} {G : Goal 𝓤 𝓛.H} where
   -- a walk behind a `&mut`: [what it has left; its words; the open borrow; obs; auth]
-  pub walk_opens : K → Soaks G → (a : NamedLft) (S : RattleType) {κ : Lft} {q : Share} {γ : GName} (w : Walk S.Denot) (rb ro : ℕ)
-      → Step K 𝓛 (‵ (chain_lent S w.links w.items a.lft) ∷ ‵ (cell_at full_share (W.the_row a S).mir (walk_val w.at ∷ []) rb ro) ∷ ‵ (fobor κ q (Borrowed (mem (W.the_row a S)) rb ro γ)) ∷ ‵ (fobs γ ((W.the_row a S).coded.code w)) ∷ ‵ (fauth γ ((W.the_row a S).coded.code w)) ∷ Γ) G
-      (‵ (fobs γ ((W.the_row a S).coded.code w)) ∷ ‵ (fbor κ (Borrowed (mem (W.the_row a S)) rb ro γ)) ∷ ‵ (flft κ q) ∷ Γ) G
+  pub walk_opens : K → Soaks G → (a : NamedLft) (S : RattleType) {κ : Lft} {q : Share}
+      {γ : GName} (w : Walk S.Denot) (rb ro : ℕ)
+      → Step K 𝓛 (‵ (chain_lent S w.links w.items a.lft)
+      ∷ ‵ (cell_at full_share (W.the_row a S).mir (walk_val w.at ∷ []) rb ro)
+      ∷ ‵ (fobor κ q (Borrowed (mem (W.the_row a S)) rb ro γ)) ∷ ‵ (fobs γ ((W.the_row a S).coded.code w))
+      ∷ ‵ (fauth γ ((W.the_row a S).coded.code w)) ∷ Γ) G
+      (‵ (fobs γ ((W.the_row a S).coded.code w)) ∷ ‵ (fbor κ (Borrowed (mem (W.the_row a S)) rb ro γ))
+      ∷ ‵ (flft κ q) ∷ Γ) G
   walk_opens t z a S w rb ro = step (λ s.
       opens t z (W.the_row a S) {h = w} rb ro (λ vs. move t (1 ∷ []) $ walk_had t a S w vs (λ is.
       rewrite t 1 (λ (ws : List Val). ‵ (cell_at full_share (W.the_row a S).mir ws rb ro)) is refl $ s)))
 
   -- and shut again
-  pub walk_closes : K → Soaks G → (a : NamedLft) (S : RattleType) {κ : Lft} {q : Share} {u v : Gv} {γ : GName} (w : Walk S.Denot) (rb ro : ℕ)
-      → Step K 𝓛 (‵ (fobs γ ((W.the_row a S).coded.code w)) ∷ ‵ (fbor κ (Borrowed (mem (W.the_row a S)) rb ro γ)) ∷ ‵ (flft κ q) ∷ Γ) G
-      (‵ (chain_lent S w.links w.items a.lft) ∷ ‵ (cell_at full_share (W.the_row a S).mir (walk_val w.at ∷ []) rb ro) ∷ ‵ (fobor κ q (Borrowed (mem (W.the_row a S)) rb ro γ)) ∷ ‵ (fobs γ u) ∷ ‵ (fauth γ v) ∷ Γ) G
+  pub walk_closes : K → Soaks G → (a : NamedLft) (S : RattleType) {κ : Lft} {q : Share} {u v : Gv}
+      {γ : GName} (w : Walk S.Denot) (rb ro : ℕ)
+      → Step K 𝓛 (‵ (fobs γ ((W.the_row a S).coded.code w)) ∷ ‵ (fbor κ (Borrowed (mem (W.the_row a S)) rb ro γ))
+      ∷ ‵ (flft κ q) ∷ Γ) G
+      (‵ (chain_lent S w.links w.items a.lft)
+      ∷ ‵ (cell_at full_share (W.the_row a S).mir (walk_val w.at ∷ []) rb ro)
+      ∷ ‵ (fobor κ q (Borrowed (mem (W.the_row a S)) rb ro γ)) ∷ ‵ (fobs γ u) ∷ ‵ (fauth γ v) ∷ Γ) G
   walk_closes t z a S w rb ro = step (λ s.
       walk_made t a S w $ move t (1 ∷ 0 ∷ []) $ closes t z (W.the_row a S) w (walk_val w.at ∷ []) rb ro $ s)

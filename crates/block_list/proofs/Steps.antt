@@ -7,15 +7,13 @@ use lib.ListN.{length}
 use seplogic.Ra.Ura.{Ura}
 use base.Fraction.{full_share}
 use base.Stored.{Gv}
-use mir.Syntax.{Ty, Tys, Sym, ty_ptr, ty_struct, tcons, tnil}
-use mir.Val.{Val, Vals, vstruct, vcons, vnil, of_list}
+use mir.Syntax.{Ty, ty_ptr}
+use mir.Val.{Val, vstruct, vcons, vnil, of_list}
 use mir.Raw.{raw as bare}
-use base.Logic.{SProp, ent, sep, all, wand, via, mono_r, never, fst∗, apply∗}
-use base.Fml.{Fml, Lft, GName, Share, ftrue, fsep, feq, fat, froom, flft, fobs, fauth, fbor, fobor}
-use prog.Model.{fields_at, rooms_at}
+use base.Logic.{ent, sep, never, fst∗, apply∗}
+use base.Fml.{Fml, Lft, GName, Share, fsep, feq, fat, froom, flft, fobs, fauth, fbor, fobor}
 use types.Logic.{Logic, sem}
-use contract.Monad.{conj_r}
-use types.Kit.{Item, Goal, Seq, Step, Soaks, step, ‵, raw, some, given, ◌⊛◌, ◌$◌, ◌∵◌, !, qed, by, move, keep, drop, use1, use2, pick, learn, group, split, split3, assume, fsplit, fsplit3, fjoin, fjoin3, fpick, fpack, feq_i, feq_l, rewrite, done}
+use types.Kit.{Item, Goal, Seq, Step, Soaks, step, ‵, some, given, ◌⊛◌, ◌$◌, ◌∵◌, !, qed, by, move, keep, drop, use1, use2, pick, learn, group, split, fsplit, fsplit3, fjoin, fjoin3, fpick, fpack, feq_i, feq_l, rewrite, done}
 use types.SemTy.{Body as Borrowed}
 use denote.RattleType.{RattleType, Valss}
 use denote.Memory.{cell_at, part_at, mem}
@@ -25,10 +23,10 @@ use denote.Struct.Struct.{within}
 use denote.Struct.Owning.{Owning, shape}
 use borrow.Table.OneValue.{part_in, part_out}
 use Rattle.core.proofs.alloc.Calls.{α, token, Fits}
-use Rattle.std_alloc.proofs.RawLayout.{as_raw, as_written}
+use Rattle.std_alloc.proofs.RawLayout.{as_raw}
 use Rattle.std_alloc.proofs.RcSteps.{Good}
 use Rattle.std_alloc.proofs.BoxSteps.Form.{Bx, X, τ, own, R, P}
-use Rattle.std_alloc.proofs.BoxSteps.Steps.{el_out, el_in}
+use Rattle.std_alloc.proofs.BoxSteps.Steps.{el_out}
 use Rattle.block_list.specs.declared.nodes.Nodes.{Nodes}
 use Rattle.block_list.specs.contracts.nodes.Nodes as N
 use Rattle.block_list.specs.Links.{Link}
@@ -110,7 +108,8 @@ module _ (E : Bx) {M : Type 1} {𝓤 : Ura M} (𝓛 : Logic 𝓤) where
   append_in [] ms (x ∷ xs) ys e = absurd (omega arith)
   append_in (n ∷ ns) ms [] ys e = absurd (omega arith)
   append_in (n ∷ ns) ms (x ∷ xs) ys e = qed 𝓛 (‵ (Held E (n ∷ ns) (x ∷ xs)) ∷ ‵ (Held E ms ys) ∷ []) ∵
-      fsplit ! $ move ! (1 ∷ 2 ∷ []) $ use2 𝓛 (‵ (Held E (ns ++ ms) (xs ++ ys))) (append_in ns ms xs ys (omega arith)) $
+      fsplit ! $ move ! (1 ∷ 2 ∷ [])
+      $ use2 𝓛 (‵ (Held E (ns ++ ms) (xs ++ ys))) (append_in ns ms xs ys (omega arith)) $
       move ! (1 ∷ 0 ∷ []) $ fjoin ! $ done !
 
   -- one row is two rows apart
@@ -139,14 +138,17 @@ module _ (E : Bx) {M : Type 1} {𝓤 : Ura M} (𝓛 : Logic 𝓤) where
 
 module _ {M : Type 1} {𝓤 : Ura M} {𝓛 : Logic 𝓤} {K : Type 0} {Γ : List (Item 𝓤)} {G : Goal 𝓤 𝓛.H} where
   -- a pointer that lies in a part is a cell
-  pointer_out : K → (p : Ptr) (b o : ℕ) → Step K 𝓛 (‵ (pointer b o p) ∷ Γ) G (‵ (part_at RawPtr full_share p b o) ∷ Γ) G
+  pointer_out : K → (p : Ptr) (b o : ℕ)
+      → Step K 𝓛 (‵ (pointer b o p) ∷ Γ) G (‵ (part_at RawPtr full_share p b o) ∷ Γ) G
   pointer_out t p b o = use1 𝓛 (‵ (pointer b o p)) (qed 𝓛 (‵ (part_at RawPtr full_share p b o) ∷ []) {P = sem 𝓛 (pointer b o p)} (
-      use1 𝓛 (some (λ (v : Val). ‵ (fat full_share ty_ptr b o v) ⊛ ‵ (feq (List Val) (v ∷ []) (ptr_val p ∷ [])))) (part_out 𝓛 RawPtr refl full_share p b o) $
+      use1 𝓛 (some (λ (v : Val). ‵ (fat full_share ty_ptr b o v) ⊛ ‵ (feq (List Val) (v ∷ [])
+      (ptr_val p ∷ [])))) (part_out 𝓛 RawPtr refl full_share p b o) $
       pick ! (λ v. split ! $ move ! (1 ∷ []) $ feq_l ! (λ e.
       rewrite ! 0 (λ (w : Val). ‵ (fat full_share ty_ptr b o w)) (ap only e) refl $ done !))))
 
   -- and back
-  pointer_in : K → (p : Ptr) (b o : ℕ) → Step K 𝓛 (‵ (part_at RawPtr full_share p b o) ∷ Γ) G (‵ (pointer b o p) ∷ Γ) G
+  pointer_in : K → (p : Ptr) (b o : ℕ)
+      → Step K 𝓛 (‵ (part_at RawPtr full_share p b o) ∷ Γ) G (‵ (pointer b o p) ∷ Γ) G
   pointer_in t p b o = step (λ s.
       feq_i t (List Val) (ptr_val p ∷ []) (ptr_val p ∷ []) refl $ move t (1 ∷ 0 ∷ []) $
       use2 𝓛 (‵ (part_at RawPtr full_share p b o)) (part_in 𝓛 RawPtr refl full_share p b o (ptr_val p)) $ s)
@@ -155,25 +157,30 @@ module _ (E : Bx) {M : Type 1} {𝓤 : Ura M} {𝓛 : Logic 𝓤} {K : Type 0} {
   open 𝓛 use {H}
 
   -- `Nodes` by value: its words, and what the nodes own
-  nodes_had : K → (d : D E) (vs : List Val) → (vs ≡ words d.head d.tail ∷ [] → Seq K 𝓛 (‵ (Held E d.blocks d.items) ∷ Γ) G)
+  nodes_had : K → (d : D E) (vs : List Val) → (vs ≡ words d.head d.tail ∷ []
+      → Seq K 𝓛 (‵ (Held E d.blocks d.items) ∷ Γ) G)
       → Seq K 𝓛 (‵ ((Nr E).own_val d vs) ∷ Γ) G
   nodes_had t d vs k =
-      fsplit t $ fpick t (λ vss. fsplit t $ feq_l t (λ all. fsplit t $ feq_l t (λ e₀. fsplit t $ feq_l t (λ e₁. drop t $
+      fsplit t $ fpick t (λ vss. fsplit t $ feq_l t (λ all. fsplit t $ feq_l t (λ e₀. fsplit t $ feq_l t
+      (λ e₁. drop t $
       k (all ∙ (λ i. vstruct (of_list (e₀ i ++ (e₁ i ++ []))) ∷ []))))))
 
   -- and made of them
-  pub nodes_made : K → (d : D E) → Step K 𝓛 (‵ ((Nr E).own_val d (words d.head d.tail ∷ [])) ∷ Γ) G (‵ (Held E d.blocks d.items) ∷ Γ) G
+  pub nodes_made : K → (d : D E)
+      → Step K 𝓛 (‵ ((Nr E).own_val d (words d.head d.tail ∷ [])) ∷ Γ) G (‵ (Held E d.blocks d.items) ∷ Γ) G
   nodes_made t d = step (λ s.
       let v = words d.head d.tail in
       nothing t $
       feq_i t (List Val) (ptr_val d.tail ∷ []) (ptr_val d.tail ∷ []) refl $ fjoin t $
       feq_i t (List Val) (ptr_val d.head ∷ []) (ptr_val d.head ∷ []) refl $ fjoin t $
       feq_i t (List Val) (v ∷ []) (v ∷ []) refl $ fjoin t $
-      fpack t (Valss (shape (owning E)).fields) (within (shape (owning E)) (d.head, (d.tail, tt)) (v ∷ [])) (ptr_val d.head ∷ [], (ptr_val d.tail ∷ [], tt)) $ fjoin t $ s)
+      fpack t (Valss (shape (owning E)).fields) (within (shape (owning E)) (d.head, (d.tail, tt)) (v ∷ []))
+      (ptr_val d.head ∷ [], (ptr_val d.tail ∷ [], tt)) $ fjoin t $ s)
 
   -- a node is its element, its pointer, and what frees it
   pub one_opens : K → (l : Link) (h : Hd E) (x : X E)
-      → ((b o : ℕ) → l.0 ≡ block_ptr b o → Seq K 𝓛 (‵ (part_at (R E) full_share x b (o + eo E)) ∷ ‵ (pointer b (o + 0) l.1) ∷ ‵ (Frees E (block_ptr b o) h) ∷ Γ) G)
+      → ((b o : ℕ) → l.0 ≡ block_ptr b o → Seq K 𝓛 (‵ (part_at (R E) full_share x b (o + eo E))
+      ∷ ‵ (pointer b (o + 0) l.1) ∷ ‵ (Frees E (block_ptr b o) h) ∷ Γ) G)
       → Seq K 𝓛 (‵ (One E (l, h) x) ∷ Γ) G
   one_opens t l h x k =
       in_a_block t l.0 (λ p. One E ((p, l.1), h) x)
@@ -182,20 +189,27 @@ module _ (E : Bx) {M : Type 1} {𝓤 : Ura M} {𝓛 : Logic 𝓤} {K : Type 0} {
 
   -- and made of them
   pub one_closes : K → (b o : ℕ) (n : Ptr) (h : Hd E) (x : X E)
-      → Step K 𝓛 (‵ (One E ((block_ptr b o, n), h) x) ∷ Γ) G (‵ (part_at (R E) full_share x b (o + eo E)) ∷ ‵ (pointer b (o + 0) n) ∷ ‵ (Frees E (block_ptr b o) h) ∷ Γ) G
-  one_closes t b o n h x = step (λ s. move t (1 ∷ []) $ pointer_in t n b (o + 0) $ move t (1 ∷ 0 ∷ 2 ∷ []) $ fjoin3 t $ s)
+      → Step K 𝓛 (‵ (One E ((block_ptr b o, n), h) x) ∷ Γ) G (‵ (part_at (R E) full_share x b (o + eo E))
+      ∷ ‵ (pointer b (o + 0) n) ∷ ‵ (Frees E (block_ptr b o) h) ∷ Γ) G
+  one_closes t b o n h x = step (λ s. move t (1 ∷ []) $ pointer_in t n b (o + 0) $ move t (1 ∷ 0 ∷ 2 ∷ [])
+      $ fjoin3 t $ s)
 
   -- a node's cells are read: [`next`; the element's; the handle's; the way back; the token; the handle; the element]
   pub node_unmade : K → (b o : ℕ) (n : Ptr) (h : Hd E) (x : X E)
-      → ((v hv : Val) → Good (τ E) v → Fits E.al hv → Seq K 𝓛 (‵ (pointer b (o + 0) n) ∷ ‵ (fat full_share (τ E) b (o + eo E) v) ∷ ‵ (fat full_share (α E.al) b (o + ho E) hv)
-      ∷ ‵ (fields_rejoin (R E) (P E) (block_ptr b o)) ∷ ‵ (token E.al h (block_ty E) (block_ptr b o)) ∷ ‵ (E.al.row.own_val h (hv ∷ [])) ∷ ‵ (own E x (v ∷ [])) ∷ Γ) G)
-      → Seq K 𝓛 (‵ (part_at (R E) full_share x b (o + eo E)) ∷ ‵ (pointer b (o + 0) n) ∷ ‵ (Frees E (block_ptr b o) h) ∷ Γ) G
+      → ((v hv : Val) → Good (τ E) v → Fits E.al hv → Seq K 𝓛 (‵ (pointer b (o + 0) n)
+      ∷ ‵ (fat full_share (τ E) b (o + eo E) v) ∷ ‵ (fat full_share (α E.al) b (o + ho E) hv)
+      ∷ ‵ (fields_rejoin (R E) (P E) (block_ptr b o)) ∷ ‵ (token E.al h (block_ty E) (block_ptr b o))
+      ∷ ‵ (E.al.row.own_val h (hv ∷ [])) ∷ ‵ (own E x (v ∷ [])) ∷ Γ) G)
+      → Seq K 𝓛 (‵ (part_at (R E) full_share x b (o + eo E)) ∷ ‵ (pointer b (o + 0) n)
+      ∷ ‵ (Frees E (block_ptr b o) h) ∷ Γ) G
   node_unmade t b o n h x k =
-      use1 𝓛 (some (λ (v : Val). given (Good (τ E) v) (‵ (fat full_share (τ E) b (o + eo E) v) ⊛ ‵ (own E x (v ∷ []))))) (el_out E 𝓛 x b (o + eo E)) $
+      use1 𝓛 (some (λ (v : Val). given (Good (τ E) v) (‵ (fat full_share (τ E) b (o + eo E) v)
+      ⊛ ‵ (own E x (v ∷ []))))) (el_out E 𝓛 x b (o + eo E)) $
       pick t (λ v. learn t (λ good. split t $
       -- [the element's cell; the element; `next`; what frees the node]
       move t (3 ∷ []) $ fsplit3 t $
-      use1 𝓛 (some (λ (u : Val). ‵ (fat full_share (α E.al) b (o + ho E) u) ⊛ ‵ (E.al.row.own_val h (u ∷ [])))) (part_out 𝓛 (P E) refl full_share h b (o + ho E)) $
+      use1 𝓛 (some (λ (u : Val). ‵ (fat full_share (α E.al) b (o + ho E) u)
+      ⊛ ‵ (E.al.row.own_val h (u ∷ [])))) (part_out 𝓛 (P E) refl full_share h b (o + ho E)) $
       pick t (λ hv. split t $
       use1 𝓛 (given (Fits E.al hv) (‵ (fat full_share (α E.al) b (o + ho E) hv))) (𝓛.laws.at_wt full_share (α E.al) b (o + ho E) hv) $ learn t (λ fa.
       -- [the handle's cell; the handle; the token; the way back; the element's cell; the element; `next`]
@@ -204,19 +218,25 @@ module _ (E : Bx) {M : Type 1} {𝓤 : Ura M} {𝓛 : Logic 𝓤} {K : Type 0} {
   -- the cells are given back empty, and make the whole block
   pub block_back : K → (b o : ℕ) (n : Ptr) (v hv : Val)
       → Step K 𝓛 (‵ (froom (block_ty E) b o) ∷ Γ) G
-      (‵ (pointer b (o + 0) n) ∷ ‵ (fat full_share (τ E) b (o + eo E) v) ∷ ‵ (fat full_share (α E.al) b (o + ho E) hv) ∷ ‵ (fields_rejoin (R E) (P E) (block_ptr b o)) ∷ Γ) G
+      (‵ (pointer b (o + 0) n) ∷ ‵ (fat full_share (τ E) b (o + eo E) v)
+      ∷ ‵ (fat full_share (α E.al) b (o + ho E) hv) ∷ ‵ (fields_rejoin (R E) (P E) (block_ptr b o)) ∷ Γ) G
   block_back t b o n v hv = step (λ next.
       use1 𝓛 (‵ (froom ty_ptr b (o + 0))) (𝓛.laws.at_room ty_ptr b (o + 0) (ptr_val n)) $ move t (1 ∷ []) $
-      use1 𝓛 (‵ (froom (τ E) b (o + eo E))) (𝓛.laws.at_room (τ E) b (o + eo E) v) $ as_raw t (τ E) b (o + eo E) $ move t (2 ∷ []) $
-      use1 𝓛 (‵ (froom (α E.al) b (o + ho E))) (𝓛.laws.at_room (α E.al) b (o + ho E) hv) $ as_raw t (α E.al) b (o + ho E) $
+      use1 𝓛 (‵ (froom (τ E) b (o + eo E))) (𝓛.laws.at_room (τ E) b (o + eo E) v) $ as_raw t (τ E) b (o + eo E)
+      $ move t (2 ∷ []) $
+      use1 𝓛 (‵ (froom (α E.al) b (o + ho E))) (𝓛.laws.at_room (α E.al) b (o + ho E) hv)
+      $ as_raw t (α E.al) b (o + ho E) $
       move t (2 ∷ 1 ∷ 0 ∷ []) $ group t 3 $
       use2 𝓛 (‵ (froom (block_ty E) b o))
-      (apply∗ 𝓤 (sep 𝓤 (H.room ty_ptr b (o + 0)) (sep 𝓤 (H.room (bare (τ E)) b (o + eo E)) (H.room (bare (α E.al)) b (o + ho E)))) (H.room (block_ty E) b o)) $ next)
+      (apply∗ 𝓤 (sep 𝓤 (H.room ty_ptr b (o + 0))
+      (sep 𝓤 (H.room (bare (τ E)) b (o + eo E)) (H.room (bare (α E.al)) b (o + ho E)))) (H.room (block_ty E) b o)) $ next)
 
 module _ (E : Bx) {M : Type 1} {𝓤 : Ura M} {𝓛 : Logic 𝓤} {K : Type 0} {Γ : List (Item 𝓤)} {G : Goal 𝓤 𝓛.H} where
   -- behind a `&mut`: [the nodes; the words; the open borrow; obs; auth]
   pub nodes_opens : K → Soaks G → {κ : Lft} {q : Share} {γ : GName} (d : D E) (rb ro : ℕ)
-      → Step K 𝓛 (‵ (Held E d.blocks d.items) ∷ ‵ (cell_at full_share (Nr E).mir (words d.head d.tail ∷ []) rb ro) ∷ ‵ (fobor κ q (Borrowed (mem (Nr E)) rb ro γ)) ∷ ‵ (fobs γ ((Nr E).coded.code d)) ∷ ‵ (fauth γ ((Nr E).coded.code d)) ∷ Γ) G
+      → Step K 𝓛 (‵ (Held E d.blocks d.items) ∷ ‵ (cell_at full_share (Nr E).mir (words d.head d.tail ∷ []) rb ro)
+      ∷ ‵ (fobor κ q (Borrowed (mem (Nr E)) rb ro γ)) ∷ ‵ (fobs γ ((Nr E).coded.code d))
+      ∷ ‵ (fauth γ ((Nr E).coded.code d)) ∷ Γ) G
       (‵ (fobs γ ((Nr E).coded.code d)) ∷ ‵ (fbor κ (Borrowed (mem (Nr E)) rb ro γ)) ∷ ‵ (flft κ q) ∷ Γ) G
   nodes_opens t z d rb ro = step (λ s.
       opens t z (Nr E) {h = d} rb ro (λ vs. move t (1 ∷ []) $ nodes_had E t d vs (λ is.
@@ -225,45 +245,7 @@ module _ (E : Bx) {M : Type 1} {𝓤 : Ura M} {𝓛 : Logic 𝓤} {K : Type 0} {
   -- and shut again
   pub nodes_closes : K → Soaks G → {κ : Lft} {q : Share} {u v : Gv} {γ : GName} (d : D E) (rb ro : ℕ)
       → Step K 𝓛 (‵ (fobs γ ((Nr E).coded.code d)) ∷ ‵ (fbor κ (Borrowed (mem (Nr E)) rb ro γ)) ∷ ‵ (flft κ q) ∷ Γ) G
-      (‵ (Held E d.blocks d.items) ∷ ‵ (cell_at full_share (Nr E).mir (words d.head d.tail ∷ []) rb ro) ∷ ‵ (fobor κ q (Borrowed (mem (Nr E)) rb ro γ)) ∷ ‵ (fobs γ u) ∷ ‵ (fauth γ v) ∷ Γ) G
-  nodes_closes t z d rb ro = step (λ s. nodes_made E t d $ move t (1 ∷ 0 ∷ []) $ closes t z (Nr E) d (words d.head d.tail ∷ []) rb ro $ s)
-
-module _ (E : Bx) {M : Type 1} {𝓤 : Ura M} (𝓛 : Logic 𝓤) (ν : Sym) (b o : ℕ) where
-  open 𝓛 use {H}
-
-  -- the fields of a node
-  abbrev fields : Tys
-  fields = tcons ty_ptr (tcons (τ E) (tcons (α E.al) tnil))
-
-  -- that they make the block, given back empty
-  abbrev Joins : SProp 𝓤
-  Joins = wand 𝓤 (rooms_at 𝓤 H fields 0 b o) (H.room (ty_struct ν fields) b o)
-
-  -- which is the way back that a node keeps
-  rejoins : ent 𝓤 Joins (sem 𝓛 (fields_rejoin (R E) (P E) (block_ptr b o)))
-  rejoins =
-      qed 𝓛 (raw Joins ∷ []) ∵
-      assume ! (‵ (froom ty_ptr b (o + 0)) ⊛ ‵ (froom (bare (τ E)) b (o + eo E)) ⊛ ‵ (froom (bare (α E.al)) b (o + ho E))) $ split3 ! $
-      move ! (1 ∷ []) $ as_written ! (τ E) b (o + eo E) $ move ! (2 ∷ []) $ as_written ! (α E.al) b (o + ho E) $ nothing ! $
-      -- [nothing; the handle's room; the element's; `next`'s; the way]
-      move ! (3 ∷ 2 ∷ 1 ∷ 0 ∷ []) $ group ! 4 $
-      use2 𝓛 (‵ (froom (ty_struct ν fields) b o)) (apply∗ 𝓤 (rooms_at 𝓤 H fields 0 b o) (H.room (ty_struct ν fields) b o)) $
-      by ! (𝓛.laws.room-raw (ty_struct ν fields) b o)
-
-  -- a block that was written whole is a node
-  pub node_made : (n : Ptr) (h : Hd E) (x : X E) (v hv : Val)
-      → ent 𝓤 (sep 𝓤 (H.at full_share (ty_struct ν fields) b o (node_val n v hv)) (sep 𝓤 (sem 𝓛 (token E.al h (block_ty E) (block_ptr b o))) (sep 𝓤 (sem 𝓛 (E.al.row.own_val h (hv ∷ []))) (sem 𝓛 (own E x (v ∷ []))))))
-      (sem 𝓛 (One E ((block_ptr b o, n), h) x))
-  node_made n h x v hv =
-      let vs : Vals = vcons (ptr_val n) (vcons v (vcons hv vnil)) in
-      qed 𝓛 (‵ (fat full_share (ty_struct ν fields) b o (node_val n v hv)) ∷ ‵ (token E.al h (block_ty E) (block_ptr b o)) ∷ ‵ (E.al.row.own_val h (hv ∷ [])) ∷ ‵ (own E x (v ∷ [])) ∷ []) ∵
-      use1 𝓛 ((‵ (pointer b (o + 0) n) ⊛ ‵ (fat full_share (τ E) b (o + eo E) v) ⊛ ‵ (fat full_share (α E.al) b (o + ho E) hv) ⊛ ‵ ftrue) ⊛ raw Joins)
-      (via 𝓤 _ (𝓛.laws.at_fields_free ν fields b o vs) (mono_r 𝓤 (fields_at 𝓤 H full_share fields 0 b o vs)
-      (conj_r 𝓤 (all 𝓤 (λ (ws : Vals). wand 𝓤 (fields_at 𝓤 H full_share fields 0 b o ws) (H.at full_share (ty_struct ν fields) b o (vstruct ws)))) Joins))) $
-      split ! $ split3 ! $ move ! (2 ∷ []) $ split ! $
-      -- [the handle's cell; nothing; `next`; the element's cell; the way; the token; the handle; the element]
-      move ! (0 ∷ 6 ∷ []) $ use2 𝓛 (‵ (part_at (P E) full_share h b (o + ho E))) (part_in 𝓛 (P E) refl full_share h b (o + ho E) hv) $ move ! (4 ∷ []) $
-      use1 𝓛 (‵ (fields_rejoin (R E) (P E) (block_ptr b o))) rejoins $
-      -- [the way back; the handle's part; nothing; `next`; the element's cell; the token; the element]
-      move ! (1 ∷ 5 ∷ 0 ∷ []) $ fjoin3 ! $ move ! (3 ∷ 4 ∷ []) $
-      use2 𝓛 (‵ (part_at (R E) full_share x b (o + eo E))) (el_in E 𝓛 x b (o + eo E) v) $ keep ! (0 ∷ 3 ∷ 1 ∷ []) $ one_closes E ! b o n h x $ done !
+      (‵ (Held E d.blocks d.items) ∷ ‵ (cell_at full_share (Nr E).mir (words d.head d.tail ∷ []) rb ro)
+      ∷ ‵ (fobor κ q (Borrowed (mem (Nr E)) rb ro γ)) ∷ ‵ (fobs γ u) ∷ ‵ (fauth γ v) ∷ Γ) G
+  nodes_closes t z d rb ro = step (λ s. nodes_made E t d $ move t (1 ∷ 0 ∷ [])
+      $ closes t z (Nr E) d (words d.head d.tail ∷ []) rb ro $ s)

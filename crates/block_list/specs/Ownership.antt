@@ -29,7 +29,8 @@ module _ (R Z : RattleType) where
   abbrev pub fields_rejoin : Ptr → Fml
   fields_rejoin p =
       fwand
-      (fsep (room_for ty_ptr (p +ₚ 0)) (fsep (room_for (raw (lone R.mir)) (p +ₚ elem_offset R)) (room_for (raw (lone Z.mir)) (p +ₚ handle_offset))))
+      (fsep (room_for ty_ptr (p +ₚ 0))
+      (fsep (room_for (raw (lone R.mir)) (p +ₚ elem_offset R)) (room_for (raw (lone Z.mir)) (p +ₚ handle_offset))))
       (room_for node_type p)
 
   module _ (holds : Z.Denot → Ty → Ptr → Fml) where
@@ -39,7 +40,8 @@ module _ (R Z : RattleType) where
 
     -- a node: its element, its pointer, and what frees it
     abbrev pub node_owns : Link × Z.Denot → R.Denot → Fml
-    node_owns n x = fsep (lies_at R full_share (n.0.0 +ₚ elem_offset R) x) (fsep (lies_at RawPtr full_share (n.0.0 +ₚ 0) n.0.1) (frees n.0.0 n.1))
+    node_owns n x = fsep (lies_at R full_share (n.0.0 +ₚ elem_offset R) x) (fsep
+        (lies_at RawPtr full_share (n.0.0 +ₚ 0) n.0.1) (frees n.0.0 n.1))
 
     -- nodes with their elements, one each
     abbrev pub chain_owns : List (Link × Z.Denot) → List R.Denot → Fml

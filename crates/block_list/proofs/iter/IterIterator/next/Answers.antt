@@ -12,7 +12,9 @@ returns-clause-steps g c =
     let P : Inside g.row.T.Denot → Type 0 = λ s. Entered c.args.self.now s.items s.at s.used (flat s.walk.items) in
     let entered : P now =
     elim c.if-self.branch [
-      | then-self+else-not-self w ↦ subst P (sym w.self-inside-is) (Entered-next c.args.self.now was.items was.at was.used was.walk.items _ _ w.if-self.true (sym c.self.view_is) w.step-block.ensures)
-      | else-self w ↦ subst P (sym w.self-inside-is) (Entered-inside c.args.self.now was.items was.at was.used (flat was.walk.items) c.self.invariant.0 w.if-self.false (sym c.self.view_is))
+      | then-self+else-not-self w ↦ subst P (sym w.self-inside-is)
+          (Entered-next c.args.self.now was.items was.at was.used was.walk.items _ _ w.if-self.true (sym c.self.view_is) w.step-block.ensures)
+      | else-self w ↦ subst P (sym w.self-inside-is)
+          (Entered-inside c.args.self.now was.items was.at was.used (flat was.walk.items) c.self.invariant.0 w.if-self.false (sym c.self.view_is))
     ] in
     Entered-item _ now.items now.at now.used (flat now.walk.items) c.in-Some.items _ entered c.in-Some.is

@@ -38,7 +38,8 @@ use Rattle.std_alloc.proofs.BoxSteps.Form.{Bx, args, X, τ, own, R, P}
 use Rattle.std_alloc.proofs.BoxSteps.Steps.{el_tells}
 use Rattle.std_alloc.proofs.OfVacant.{Vacant, vacant_val, vacant_typed, Vacant-had}
 use Rattle.block_list.specs.contracts.nodes.Node as Block
-use Rattle.block_list.proofs.Steps.{words, node_val, Hd, D, Nr, block_ty, One, nodes_made, node_made}
+use Rattle.block_list.proofs.Steps.{words, node_val, Hd, D, Nr, block_ty, One, nodes_made}
+use Rattle.block_list.proofs.Made.{node_made}
 use Rattle.block_list.specs.contracts.nodes.Nodes.one.Key.{name as #self}
 use Rattle.block_list.proofs.nodes.Nodes.one.Statement as stated
 use Rattle.block_list.proofs.nodes.Nodes.one.Code as code
