@@ -77,10 +77,6 @@ module _ {T : Type 0} where
   left_in-through (Some items) at used same =
       drop_of_length-le (take used items) (omega (arith, length-take used items))
 
-  -- a block that was entered has its items left
-  pub left_in-entered : (items : List T) (used : ℕ) → left_in (Some items) 0 used ≡ take used items
-  left_in-entered items used = refl
-
   -- the next item, and what is left behind it
   pub left_in-next : (items : List T) (at used : ℕ) (d : T) → at < used → used ≤ length items
       → left_in (Some items) at used ≡ get_or items at d ∷ left_in (Some items) (at + 1) used

@@ -1,8 +1,5 @@
-//! A block of items, and rows of blocks that say of each whether another follows.
+//! A block has room for sixteen items, and holds at least one.
 ghost use Rattle.std.specs.Prelude.{◌≡◌, ◌<◌, ◌≤◌, length};
-
-/// How many items a block has room for.
-pub const ROOM: usize = 16;
 
 /// The first `used` items count. `more` says that another block follows.
 #[derive(Drop)]

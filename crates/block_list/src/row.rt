@@ -30,6 +30,7 @@ pub fn fill<T: Copy>(row: &mut Row<T>, value: T) -> bool
     ensures some { has_some row.new.nodes.items ≡ true }
 {
     let last = row.nodes.back_mut();
+    // A block that lies in memory is small enough: the second test only tells the proof so.
     if last.used == 16 || !may_hold::<T>(16) {
         return false;
     }
