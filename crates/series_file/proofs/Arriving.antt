@@ -1,13 +1,13 @@
 -- Items that came in pieces: one more piece after whole ones.
 use Rattle.std.proofs.Common.{◌≡◌, ℕ, ◌+◌, ◌-◌, ◌*◌, ◌/◌, ◌%◌, ◌<◌, ◌≤◌, List, [], ◌++◌, length, Option, ap, sym, ◌∙◌, refl, ⊎_elim, arith, length-append, min, take}
 use Rattle.std.proofs.lemmas.List.{take-append-le, length-take-le}
-use Rattle.std.proofs.Math.Nat.{zero-div, add-mod, mod-mod, zero-mod, div-add-mod, div-add-mod', mul-add-div, mul_comm}
+use Rattle.std.proofs.Math.Nat.{zero-div, add-mod, mod-mod, zero-mod, div-add-mod, div-add-mod', mul-add-div}
 use Rattle.std.proofs.lemmas.Bool.{cases_lt}
 use Rattle.std.specs.List.{All}
 use Rattle.std.specs.Io.KnownBytes.{prepend_known, IsAtEnd}
 use Rattle.std.proofs.lemmas.List.Elements.{All-append, All-nil}
 use Rattle.outside.specs.Taken.{taken_then, prepend_known-none}
-use Rattle.series_file.specs.Items.{items_from, Came, Comes}
+use Rattle.series_file.specs.Items.{items_from, Comes}
 use Rattle.series_file.proofs.ItemLemmas.{items_from-append}
 
 -- two whole amounts make a whole amount

@@ -3,7 +3,7 @@ use Rattle.std.proofs.Common.{div-mul-le_self, ◌/◌, take, ◌≡◌, ℕ, ze
 use Rattle.std.specs.Prelude.{slice_index}
 use Rattle.std.proofs.lemmas.List.{drop-drop, nil_from_length, take-append-drop, length-take-le, drop-append-le, take_at}
 use Rattle.std.proofs.Math.Nat.{mul-suc, suc-mul}
-use Rattle.series_file.specs.Items.{items_from, label_at}
+use Rattle.series_file.specs.Items.{items_from}
 
 -- what holds at each place the item that stands there in the bytes is the items of the bytes
 pub items_by_place : {X : Type 0} (at : List ℕ → X) (n : ℕ) (items : List X) (bytes : List ℕ)

@@ -7,3 +7,7 @@ pub mod Tests
 pub mod Outcomes
 pub mod Spelled
 pub mod RawValues
+pub mod Writing
+pub mod ReadBack
+pub mod Unique
+pub mod Passing

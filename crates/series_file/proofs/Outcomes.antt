@@ -1,12 +1,11 @@
 -- What the stages of reading a file say together, where its bytes are told.
-use Rattle.std.proofs.Common.{◌≡◌, ℕ, ◌+◌, ◌*◌, ◌<◌, ◌≤◌, List, [], ◌∷◌, ◌++◌, length, take, Option, None, Some, IfSome, refl, sym, ap, ◌∙◌, subst, arith, append_assoc, append-nil, length-append}
-use Rattle.std.specs.Prelude.{◌⊎◌}
+use Rattle.std.proofs.Common.{◌≡◌, ℕ, ◌+◌, ◌<◌, ◌≤◌, List, [], ◌∷◌, ◌++◌, length, take, Option, None, Some, IfSome, sym, ap, ◌∙◌, subst, arith, append_assoc, append-nil, length-append}
 use Rattle.std.specs.List.{All}
 use Rattle.std.specs.Io.KnownBytes.{prepend_known, IsAtEnd}
 use Rattle.outside.specs.Taken.{taken_then}
 use Rattle.series_file.specs.Faults.{first_of, header_tests, fault}
 use Rattle.series_file.specs.Header.{header_of, IsHeader}
-use Rattle.series_file.specs.Stages.{HeaderTaken, HeaderCame, Explains}
+use Rattle.series_file.specs.Stages.{HeaderCame, Explains}
 use Rattle.series_file.specs.Body.{label_bytes, value_bytes, file_bytes, size_fault, ExplainsSize, LabelsCame, ValuesCame, labels_in, rows_in}
 use Rattle.series_file.specs.declared.header.Header.{Header}
 use Rattle.series_file.specs.declared.error.Form.{Form}

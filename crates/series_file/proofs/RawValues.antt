@@ -1,5 +1,5 @@
 -- The values of a raw file: whole series, and no more of them than allowed.
-use Rattle.std.proofs.Common.{◌≡◌, ℕ, ◌+◌, ◌*◌, ◌/◌, ◌%◌, ◌<◌, ◌≤◌, List, [], ◌++◌, length, Option, None, Some, IfSome, min, ap, sym, ◌∙◌, refl, subst, arith, append-nil}
+use Rattle.std.proofs.Common.{◌≡◌, ℕ, ◌+◌, ◌*◌, ◌/◌, ◌%◌, ◌<◌, ◌≤◌, List, [], length, Option, None, IfSome, ap, sym, ◌∙◌, subst, arith, append-nil}
 use Rattle.std.specs.Prelude.{ℤ, true}
 use Rattle.std.specs.Io.KnownBytes.{prepend_known, IsAtEnd}
 use Rattle.std.proofs.Math.Nat.{le_of_mul-le-mul_right, mul-div_cancel, div-add-mod, mul_comm, mul_assoc}

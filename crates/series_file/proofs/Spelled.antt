@@ -1,6 +1,6 @@
 -- A file whose parts came whole is spelled by its format.
-use Rattle.std.proofs.Common.{◌≡◌, ℕ, zero, suc, ◌+◌, ◌*◌, ◌<◌, ◌≤◌, List, [], ◌∷◌, ◌++◌, length, take, drop, Bool, true, false, cond, Option, None, Some, refl, sym, ap, ◌∙◌, subst, ⊎_elim, arith, length-drop}
-use Rattle.std.specs.Prelude.{ℤ, not, nat_eq, nat_lt, ◌||◌, slice_index, ◌^◌, if◌then◌else◌}
+use Rattle.std.proofs.Common.{◌≡◌, ℕ, zero, suc, ◌+◌, ◌*◌, ◌<◌, ◌≤◌, List, [], ◌∷◌, ◌++◌, length, take, drop, Bool, true, false, Option, None, Some, refl, sym, ap, ◌∙◌, subst, ⊎_elim, arith, length-drop}
+use Rattle.std.specs.Prelude.{not, nat_eq, nat_lt, ◌||◌, ◌^◌, if◌then◌else◌}
 use Rattle.std.specs.List.{All, flat_map}
 use Rattle.std.specs.Str.{bytes_eq}
 use Rattle.std.specs.Cmp.Lexicographic.{bytes_decides}
@@ -16,8 +16,8 @@ use Rattle.series_core.specs.Flat.{rows_of, joined}
 use Rattle.series_core.specs.declared.rows.TheConstants.{MAX_LENGTH, MAX_COUNT, MAX_VALUES}
 use Rattle.series_core.proofs.RowsOf.{length-rows_of, joined-rows_of}
 use Rattle.series_file.specs.Items.{items_from, value_at, label_at}
-use Rattle.series_file.specs.Format.{magic, value_bytes as bytes_of_value, values_text, labels_text, header_one, header_two, text, HasForm, IsFile}
-use Rattle.series_file.specs.Faults.{first_of, field, version_of, is_first, length_of, count_of, reserved_of, field_tests, header_tests}
+use Rattle.series_file.specs.Format.{magic, value_bytes as bytes_of_value, values_text, labels_text, header_one, header_two, IsFile}
+use Rattle.series_file.specs.Faults.{first_of, field, version_of, is_first, length_of, count_of, reserved_of, header_tests}
 use Rattle.series_file.specs.Header.{header_of, IsHeader}
 use Rattle.series_file.specs.Body.{label_bytes, value_bytes, labels_in, rows_in}
 use Rattle.series_file.specs.declared.header.Header.{Header}

@@ -1,5 +1,5 @@
 -- The tests of a file with a header, by the header in front and the size of what follows.
-use Rattle.std.proofs.Common.{◌≡◌, ℕ, ◌+◌, ◌*◌, ◌<◌, ◌≤◌, List, [], ◌∷◌, ◌++◌, length, take, drop, Bool, true, false, cond, Option, None, Some, refl, sym, ap, ◌∙◌, ⊎_elim, arith, length-append, length-drop}
+use Rattle.std.proofs.Common.{◌≡◌, ℕ, ◌+◌, ◌*◌, ◌<◌, ◌≤◌, List, [], ◌∷◌, ◌++◌, length, take, drop, Bool, true, false, Option, None, Some, refl, sym, ap, ◌∙◌, ⊎_elim, arith, length-append, length-drop}
 use Rattle.std.specs.Prelude.{not, ◌||◌, nat_eq, nat_lt, if◌then◌else◌}
 use Rattle.std.specs.Str.{bytes_eq}
 use Rattle.std.proofs.lemmas.Bool.{cases_Bool, cond-true, cond-false}
@@ -9,10 +9,9 @@ use Rattle.std.proofs.lemmas.List.{take-append-le, drop-append-le}
 use Rattle.byteorder.specs.Endian.{little_number}
 use Rattle.byteorder.specs.Numbers.{little_from-append}
 use Rattle.series_file.specs.Format.{magic}
-use Rattle.series_file.specs.Faults.{first_of, field, version_of, is_first, length_of, count_of, reserved_of, labels_size, size_of, field_tests, header_tests, size_tests, fault}
+use Rattle.series_file.specs.Faults.{first_of, field, is_first, length_of, count_of, size_of, field_tests, header_tests, size_tests, fault}
 use Rattle.series_file.specs.Header.{header_of}
-use Rattle.series_file.specs.Body.{label_bytes, file_bytes, size_fault}
-use Rattle.series_file.specs.declared.header.Header.{Header}
+use Rattle.series_file.specs.Body.{file_bytes, size_fault}
 use Rattle.series_file.specs.declared.error.Form.TheVariants.{Headed}
 use Rattle.series_file.specs.declared.error.FileError.{FileError}
 use Rattle.series_file.specs.declared.error.FileError.TheVariants.{ShortHeader, Magic, Version, Truncated, Trailing}

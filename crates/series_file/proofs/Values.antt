@@ -1,5 +1,5 @@
 -- The values of a file, once all their bytes came: as many as the header says, row by row.
-use Rattle.std.proofs.Common.{◌≡◌, ℕ, zero, suc, ◌+◌, ◌*◌, ◌/◌, ◌<◌, ◌≤◌, List, [], ◌∷◌, length, drop, Option, ap, sym, ◌∙◌, refl, arith, append-nil}
+use Rattle.std.proofs.Common.{◌≡◌, ℕ, zero, suc, ◌*◌, ◌/◌, ◌≤◌, List, [], length, drop, Option, ap, ◌∙◌, refl, arith, append-nil}
 use Rattle.std.specs.Prelude.{ℤ}
 use Rattle.std.proofs.Math.Nat.{mul-div_cancel, mul-div_cancel_left}
 use Rattle.std.specs.Prelude.{true}
@@ -7,10 +7,9 @@ use Rattle.std.specs.Io.KnownBytes.{prepend_known}
 use Rattle.outside.specs.Taken.{taken_then}
 use Rattle.series_core.specs.Collection.{Collection, IsCollection}
 use Rattle.series_core.specs.Flat.{rows_of}
-use Rattle.series_core.specs.declared.rows.TheConstants.{MAX_COUNT, MAX_VALUES}
 use Rattle.series_file.specs.Items.{items_from, value_at, Comes}
 use Rattle.series_file.specs.Header.{IsHeader}
-use Rattle.series_file.specs.Body.{value_bytes, rows_in, ValuesCame}
+use Rattle.series_file.specs.Body.{value_bytes, ValuesCame}
 use Rattle.series_file.specs.Stages.{Ends}
 use Rattle.series_file.specs.declared.header.Header.{Header}
 

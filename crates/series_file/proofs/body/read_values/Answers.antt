@@ -1,4 +1,4 @@
-use Rattle.std.proofs.Common.{◌≡◌, ◌*◌, ◌∙◌, ap, sym, subst, true, Bool, vec_len}
+use Rattle.std.proofs.Common.{◌*◌, ◌∙◌, ap, sym, subst, Bool}
 use Rattle.series_file.specs.Stages.{Ends}
 use Rattle.series_file.proofs.Values.{value_size, value_rows, ValuesCame-all}
 use Rattle.series_file.proofs.body.read_values.Goals as goal

@@ -1,4 +1,4 @@
-use Rattle.std.proofs.Common.{◌≡◌, ◌≤◌, ◌+◌, ◌-◌, ◌++◌, ◌∙◌, length, take, arith, rules, sym, ap, ℕ, length-take, length-drop}
+use Rattle.std.proofs.Common.{◌≤◌, ◌-◌, ◌∙◌, length, arith, ℕ, length-take, length-drop}
 use borrow.Rule.Slice.PartMut.{same_len_mid}
 use Rattle.outside.specs.Taken.{taken_then}
 use Rattle.series_file.proofs.Pieces.{take-put_mid_front}

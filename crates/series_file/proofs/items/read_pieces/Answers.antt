@@ -1,6 +1,5 @@
-use Rattle.std.proofs.Common.{◌≡◌, ◌++◌, ◌*◌, ◌/◌, ◌%◌, ◌+◌, ◌-◌, ◌≤◌, ◌<◌, ◌∙◌, ap, sym, refl, length, length-take, length-drop, length-append, take, drop, arith, List, ℕ, min}
+use Rattle.std.proofs.Common.{◌≡◌, ◌++◌, ◌/◌, ◌%◌, ◌+◌, ◌-◌, ◌≤◌, ◌<◌, ◌∙◌, ap, sym, refl, length, length-take, length-drop, length-append, take, drop, arith, ℕ, min}
 use Rattle.std.proofs.Math.Nat.{zero-mod}
-use Rattle.series_file.specs.Items.{Comes}
 use Rattle.series_file.proofs.Arriving.{Comes-piece, Comes-nothing, whole_sum, whole_less, whole_min}
 use Rattle.series_file.proofs.items.read_pieces.Goals as goal
 

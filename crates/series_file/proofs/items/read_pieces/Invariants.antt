@@ -1,5 +1,4 @@
-use Rattle.std.proofs.Common.{◌-◌, ◌*◌, ◌/◌, ◌%◌, ◌≡◌, ◌≤◌, length}
-use Rattle.outside.specs.Count.{Rose}
+use Rattle.std.proofs.Common.{◌-◌, ◌/◌, ◌%◌, ◌≡◌, ◌≤◌, length}
 use Rattle.series_file.specs.Items.{Comes}
 use Rattle.series_file.proofs.items.read_pieces.Given as goal
 

@@ -1,4 +1,4 @@
-use Rattle.std.proofs.Common.{◌≡◌, ◌*◌, ◌/◌, ◌%◌, ◌≤◌, ◌∙◌, ap, sym, subst, true, Bool, ℕ, vec_len}
+use Rattle.std.proofs.Common.{◌*◌, ◌≤◌, ◌∙◌, ap, sym, subst, Bool}
 use Rattle.series_file.specs.Faults.{raw_limit}
 use Rattle.series_file.specs.Stages.{Ends}
 use Rattle.series_file.proofs.RawValues.{raw_size, raw_count, raw_limits, raw_found}
