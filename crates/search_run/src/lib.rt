@@ -16,3 +16,6 @@ mod text;
 pub use request::Request;
 pub use stages::run;
 pub use status::{Status, Which};
+
+#[cfg(test)]
+mod tests;
