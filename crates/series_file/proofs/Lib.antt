@@ -3,7 +3,7 @@ pub mod Pieces
 pub mod Arriving
 pub mod Numbers
 pub mod Values
-pub mod Tests
+pub mod HeaderTests
 pub mod Outcomes
 pub mod Spelled
 pub mod RawValues

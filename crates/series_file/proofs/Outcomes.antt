@@ -18,7 +18,7 @@ use Rattle.series_file.specs.Format.{IsFile}
 use Rattle.series_file.specs.declared.error.Loaded.{Loaded}
 use Rattle.series_file.proofs.Numbers.{are_bytes}
 use Rattle.series_file.proofs.Spelled.{is_headed}
-use Rattle.series_file.proofs.Tests.{fault_short, fault_header, fault_size}
+use Rattle.series_file.proofs.HeaderTests.{fault_short, fault_header, fault_size}
 
 -- where bytes were taken, what was left is told as these and what is left now
 pub told : (P : List ℕ → Type 0) (bytes : List ℕ) (before now : Option (List ℕ)) → before ≡ prepend_known bytes now

@@ -15,7 +15,7 @@ use Rattle.series_file.specs.declared.error.Form.{Form}
 use Rattle.series_file.specs.declared.error.Form.TheVariants.{Headed, Raw}
 use Rattle.series_file.specs.declared.error.FileError.{FileError}
 use Rattle.series_file.specs.declared.error.FileError.TheVariants.{Length, Count, Reserved, TooLarge, Truncated, Trailing, Uneven}
-use Rattle.series_file.proofs.Tests.{fault_size}
+use Rattle.series_file.proofs.HeaderTests.{fault_size}
 use Rattle.series_file.proofs.Unique.{doubled}
 use Rattle.series_file.proofs.ReadBack.{length-values_text, length-labels_text, length_one, count_one, length_two, count_two}
 

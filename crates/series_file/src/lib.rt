@@ -16,3 +16,6 @@ pub use error::{FileError, Form, Loaded};
 pub use laws::{no_fault_law, one_collection_law};
 pub use read::read_series;
 pub use write::write_series;
+
+#[cfg(test)]
+mod tests;
