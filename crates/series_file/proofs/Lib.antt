@@ -11,3 +11,4 @@ pub mod Writing
 pub mod ReadBack
 pub mod Unique
 pub mod Passing
+pub mod Existence

@@ -31,7 +31,7 @@ is_equal : (m n : ℕ) → nat_eq m n ≡ true → m ≡ n
 is_equal m n h = grind (arith, nat_tests)
 
 -- a first test that passes fails nothing, nor do those behind it
-passes : (test : Bool) (e : FileError) (rest : List (Bool × FileError)) → first_of ((test, e) ∷ rest) ≡ None
+pub passes : (test : Bool) (e : FileError) (rest : List (Bool × FileError)) → first_of ((test, e) ∷ rest) ≡ None
     → (test ≡ false) × (first_of rest ≡ None)
 passes test e rest none =
     ⊎_elim
