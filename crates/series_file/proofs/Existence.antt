@@ -30,7 +30,8 @@ use Rattle.series_file.proofs.HeaderTests.{fault_header, fault_size}
 use Rattle.series_file.proofs.Numbers.{are_bytes}
 use Rattle.series_file.proofs.Values.{length-items_from}
 use Rattle.series_file.proofs.RawValues.{raw_whole, raw_limits}
-use Rattle.series_file.proofs.Spelled.{passes, is_headed, is_raw}
+use Rattle.series_file.proofs.HeaderSpelled.{passes}
+use Rattle.series_file.proofs.Spelled.{is_headed, is_raw}
 
 -- what is no error is none
 no_error : (o : Option FileError) → ((e : FileError) → o ≡ Some e → ⊥) → o ≡ None

@@ -5,6 +5,7 @@ pub mod Numbers
 pub mod Values
 pub mod HeaderTests
 pub mod Outcomes
+pub mod HeaderSpelled
 pub mod Spelled
 pub mod RawValues
 pub mod Writing
