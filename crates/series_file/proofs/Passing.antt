@@ -15,40 +15,49 @@ use Rattle.series_file.specs.declared.error.Form.{Form}
 use Rattle.series_file.specs.declared.error.Form.TheVariants.{Headed, Raw}
 use Rattle.series_file.specs.declared.error.FileError.{FileError}
 use Rattle.series_file.specs.declared.error.FileError.TheVariants.{Length, Count, Reserved, TooLarge, Truncated, Trailing, Uneven}
-use Rattle.series_file.proofs.Tests.{fault_size}
+use Rattle.series_file.proofs.HeaderTests.{fault_size}
 use Rattle.series_file.proofs.Unique.{doubled}
 use Rattle.series_file.proofs.ReadBack.{length-values_text, length-labels_text, length_one, count_one, length_two, count_two}
 
 -- a test that does not hold leaves the others
-skip : (test : Bool) (e : FileError) (rest : List (Bool × FileError)) → test ≡ false → first_of rest ≡ None
+skip : (test : Bool) (e : FileError) (rest : List (Bool × FileError)) → test ≡ false
+    → first_of rest ≡ None
     → first_of ((test, e) ∷ rest) ≡ None
 skip test e rest fails none = cond-false test (Some e) (first_of rest) fails ∙ none
 
 is_no_less : (a b : ℕ) → b ≤ a → nat_lt a b ≡ false
 is_no_less a b h = grind (arith, nat_tests)
 
-is_length : (points : ℕ) → 0 < points → points ≤ MAX_LENGTH → (nat_eq points 0 || nat_lt MAX_LENGTH points) ≡ false
+is_length : (points : ℕ) → 0 < points → points ≤ MAX_LENGTH
+    → (nat_eq points 0 || nat_lt MAX_LENGTH points) ≡ false
 is_length points some limit = grind (arith, nat_tests)
 
 -- fields within the limits pass
-fields_pass : (points count : ℕ) → 0 < points → points ≤ MAX_LENGTH → count ≤ MAX_COUNT → count * points ≤ MAX_VALUES
+fields_pass : (points count : ℕ) → 0 < points → points ≤ MAX_LENGTH → count ≤ MAX_COUNT
+    → count * points ≤ MAX_VALUES
     → first_of (field_tests points count 0) ≡ None
 fields_pass points count some limit counted total =
-    let last : List (Bool × FileError) = (nat_lt MAX_VALUES (count * points), TooLarge (count * points)) ∷ [] in
-    skip _ (Length points) ((nat_lt MAX_COUNT count, Count count) ∷ (false, Reserved 0) ∷ last) (is_length points some limit)
+    let last : List (Bool × FileError) =
+    (nat_lt MAX_VALUES (count * points), TooLarge (count * points)) ∷ [] in
+    skip _ (Length points) ((nat_lt MAX_COUNT count, Count count) ∷ (false, Reserved 0) ∷ last)
+    (is_length points some limit)
     (skip _ (Count count) ((false, Reserved 0) ∷ last) (is_no_less MAX_COUNT count counted)
     (skip false (Reserved 0) last refl
     (skip _ (TooLarge (count * points)) [] (is_no_less MAX_VALUES (count * points) total) refl)))
 
 -- what follows the header has the right size
-size_passes : (h : Header) (rest : List ℕ) → 16 + length rest ≡ file_bytes h → size_fault h 16 rest ≡ None
+size_passes : (h : Header) (rest : List ℕ) → 16 + length rest ≡ file_bytes h
+    → size_fault h 16 rest ≡ None
 size_passes h rest e =
     skip _ (Truncated (16 + length rest) (file_bytes h))
-    ((nat_lt (file_bytes h) (16 + length rest), Trailing (file_bytes h)) ∷ []) (is_no_less (16 + length rest) (file_bytes h) (omega (arith, e)))
-    (skip _ (Trailing (file_bytes h)) [] (is_no_less (file_bytes h) (16 + length rest) (omega (arith, e))) refl)
+    ((nat_lt (file_bytes h) (16 + length rest), Trailing (file_bytes h)) ∷ [])
+    (is_no_less (16 + length rest) (file_bytes h) (omega (arith, e)))
+    (skip _ (Trailing (file_bytes h)) []
+    (is_no_less (file_bytes h) (16 + length rest) (omega (arith, e))) refl)
 
 -- a file of version 1 passes
-one_passes : (rows : Collection) → IsCollection rows → length rows.series * rows.points ≤ MAX_VALUES → rows.points ≤ 65535
+one_passes : (rows : Collection) → IsCollection rows
+    → length rows.series * rows.points ≤ MAX_VALUES → rows.points ≤ 65535
     → fault Headed (header_one rows ++ values_text rows) ≡ None
 one_passes rows sound total narrow =
     fault_size (header_one rows) (values_text rows) refl tests
@@ -64,7 +73,8 @@ one_passes rows sound total narrow =
     tests =
         ap (λ m. first_of (field_tests m (count_of (header_one rows)) 0)) points
         ∙ ap (λ m. first_of (field_tests rows.points m 0)) count
-        ∙ fields_pass rows.points (length rows.series) sound.some_point sound.length_limit sound.count_limit total
+        ∙ fields_pass rows.points (length rows.series)
+        sound.some_point sound.length_limit sound.count_limit total
 
     size : 16 + length (values_text rows) ≡ file_bytes (header_of (header_one rows))
     size =
@@ -73,7 +83,8 @@ one_passes rows sound total narrow =
         ∙ ap (λ m. 16 + 2 * (m * length_of (header_one rows))) (sym count)
 
 -- so does one of version 2
-two_passes : (rows : Collection) (labels : List ℕ) → IsCollection rows → length rows.series * rows.points ≤ MAX_VALUES
+two_passes : (rows : Collection) (labels : List ℕ) → IsCollection rows
+    → length rows.series * rows.points ≤ MAX_VALUES
     → length labels ≡ length rows.series
     → fault Headed (header_two rows ++ (labels_text labels ++ values_text rows)) ≡ None
 two_passes rows labels sound total each =
@@ -90,9 +101,11 @@ two_passes rows labels sound total each =
     tests =
         ap (λ m. first_of (field_tests m (count_of (header_two rows)) 0)) points
         ∙ ap (λ m. first_of (field_tests rows.points m 0)) count
-        ∙ fields_pass rows.points (length rows.series) sound.some_point sound.length_limit sound.count_limit total
+        ∙ fields_pass rows.points (length rows.series)
+        sound.some_point sound.length_limit sound.count_limit total
 
-    parts : length (labels_text labels ++ values_text rows) ≡ 8 * length rows.series + 2 * (length rows.series * rows.points)
+    parts : length (labels_text labels ++ values_text rows) ≡ 8 * length rows.series + 2 *
+        (length rows.series * rows.points)
     parts = omega (
       arith,
       length-append (labels_text labels) (values_text rows),
@@ -101,7 +114,8 @@ two_passes rows labels sound total each =
       length-values_text rows sound,
     )
 
-    size : 16 + length (labels_text labels ++ values_text rows) ≡ file_bytes (header_of (header_two rows))
+    size : 16 + length (labels_text labels ++ values_text rows) ≡ file_bytes
+        (header_of (header_two rows))
     size =
         ap (λ m. 16 + m) parts
         ∙ by_sum (8 * length rows.series) (2 * (length rows.series * rows.points))
@@ -116,10 +130,13 @@ even : (count n : ℕ) → 2 * (count * n) % (2 * n) ≡ 0
 even count n = ap (λ m. m % (2 * n)) (doubled count n) ∙ mul-mod_left count (2 * n)
 
 -- and a raw file
-raw_passes : (n : ℕ) (bytes : List ℕ) (rows : Collection) (labels : Option (List ℕ)) → IsFile (Raw n) bytes rows labels
+raw_passes : (n : ℕ) (bytes : List ℕ) (rows : Collection) (labels : Option (List ℕ))
+    → IsFile (Raw n) bytes rows labels
     → fault (Raw n) bytes ≡ None
 raw_passes n bytes rows labels file =
-    skip _ (TooLarge (raw_limit n + 1)) ((not (nat_eq (length bytes % (2 * n)) 0), Uneven (length bytes)) ∷ []) (is_no_less (raw_limit n) (length bytes) within)
+    skip _ (TooLarge (raw_limit n + 1))
+    ((not (nat_eq (length bytes % (2 * n)) 0), Uneven (length bytes)) ∷ [])
+    (is_no_less (raw_limit n) (length bytes) within)
     (skip _ (Uneven (length bytes)) [] (ap (λ m. not (nat_eq m 0)) whole) refl)
   where
     size : length bytes ≡ 2 * (length rows.series * n)

@@ -24,7 +24,8 @@ joined_next (suc i) (r ∷ rs) row found =
     ap (λ xs. r ++ xs) (joined_next i rs row found) ∙ sym (append_assoc r (joined (take i rs)) row)
 
 -- the values of one row more are written behind those of the rows before it
-pub values_next : (i : ℕ) (rows : List (List ℤ)) (row : List ℤ) (old : List ℕ) → slice_get rows i ≡ Some row
+pub values_next : (i : ℕ) (rows : List (List ℤ)) (row : List ℤ) (old : List ℕ)
+    → slice_get rows i ≡ Some row
     → (old ++ flat_map value_bytes (joined (take i rows))) ++ flat_map value_bytes row
     ≡ old ++ flat_map value_bytes (joined (take (i + 1) rows))
 values_next i rows row old found =
@@ -39,13 +40,16 @@ values_next i rows row old found =
 
 -- the values of all rows
 pub values_all : (i : ℕ) (rows : List (List ℤ)) (old : List ℕ) → length rows ≤ i
-    → old ++ flat_map value_bytes (joined (take i rows)) ≡ old ++ flat_map value_bytes (joined rows)
-values_all i rows old all = ap (λ rs. old ++ flat_map value_bytes (joined rs)) (take_all i rows all)
+    → old ++ flat_map value_bytes (joined (take i rows)) ≡ old ++ flat_map value_bytes
+    (joined rows)
+values_all i rows old all = ap (λ rs. old ++ flat_map value_bytes (joined rs))
+    (take_all i rows all)
 
 -- the parts of the header of version 2, written one after another
 pub header_two_written : (old one two three four : List ℕ) (rows : Collection)
     → one ≡ old ++ (73 ∷ 83 ∷ 69 ∷ 82 ∷ 2 ∷ 0 ∷ []) → two ≡ one ++ (0 ∷ 0 ∷ [])
-    → three ≡ two ++ little_bytes 4 rows.points → four ≡ three ++ little_bytes 4 (length rows.series)
+    → three ≡ two ++ little_bytes 4 rows.points
+    → four ≡ three ++ little_bytes 4 (length rows.series)
     → four ≡ old ++ header_two rows
 header_two_written old one two three four rows e f g h =
     h ∙ ap (λ xs. xs ++ count) (g ∙ ap (λ xs. xs ++ points) (f ∙ ap (λ xs. xs ++ reserved) e))

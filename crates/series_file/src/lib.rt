@@ -13,6 +13,9 @@ mod read;
 mod write;
 
 pub use error::{FileError, Form, Loaded};
-pub use laws::{no_fault_law, one_collection_law};
+pub use laws::{collection_law, no_fault_law, one_collection_law};
 pub use read::read_series;
 pub use write::write_series;
+
+#[cfg(test)]
+mod tests;

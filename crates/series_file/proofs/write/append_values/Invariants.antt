@@ -7,4 +7,5 @@ use Rattle.series_file.proofs.write.append_values.Given as goal
 abbrev pub invariant-loop-i : goal.invariant-loop-i
 invariant-loop-i g l =
     l.bytes.items
-    ≡ l.initial.bytes.items ++ flat_map value_bytes (joined (take l.i (g.R.Rows.collection l.rows).series))
+    ≡ l.initial.bytes.items ++ flat_map value_bytes
+    (joined (take l.i (g.R.Rows.collection l.rows).series))
