@@ -8,3 +8,6 @@ mod plain;
 
 pub use kernel::distance_within;
 pub use plain::distance;
+
+#[cfg(test)]
+mod tests;
