@@ -3,7 +3,8 @@ use Rattle.std.proofs.Common.{◌≡◌, ℕ, ◌+◌, ◌<◌, ◌≤◌, ℤ, 
 use Rattle.std.proofs.lemmas.Simd.{chunk-drop, length-chunk}
 use Rattle.series_core.specs.Distance.{squared_difference, squared_distance}
 
--- the distance of what is left at a place is the square there and the distance of what is left after it
+-- the distance of what is left at a place is the square there and the distance of what is left
+-- after it
 pub distance_from_place : (xs ys : List ℤ) (i : ℕ) → i < length xs → i < length ys
     → squared_distance (drop i xs) (drop i ys)
     ≡ squared_difference (get_or xs i (pos 0)) (get_or ys i (pos 0))

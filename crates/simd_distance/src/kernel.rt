@@ -1,26 +1,24 @@
 //! The kernel: the distance in lanes, in blocks of 64 values, given up as soon as it is above a limit.
 //! The limit is tested once a block, since a test at each value costs more than the values that it saves.
 
-ghost use Rattle.std.specs.Prelude.{◌≡◌, ◌*◌, ◌≤◌, ◌<◌, length, FitsSigned, MatchOption};
+ghost use Rattle.std.specs.Prelude.{◌≡◌, ◌≤◌, ◌<◌, length, FitsSigned, MatchOption};
 ghost use Rattle.std.specs.List.{All};
 ghost use mir.Syntax.{w16};
 ghost use Rattle.series_core.specs.Distance.{squared_distance};
 
-use crate::lanes::{eight_squares, lane_sum, lanes_added};
+use crate::far::far_distance;
+use crate::lanes::BLOCK;
+use crate::near::{is_near, near_distance};
 use crate::plain::distance;
 use series_core::values_fit;
-use std::simd::prelude::*;
-
-/// The number of values between two tests of the limit.
-const BLOCK: usize = 64;
 
 /// The squared Euclidean distance of two series of one length, of at most 65536 values, where it is at most `limit`:
 /// Some of it exactly there, and None exactly where it is above `limit`. It takes no memory.
 pub fn distance_within(x: &[i16], q: &[i16], limit: u64) -> Option<u64>
     requires same_length { length x.now ≡ length q.now }
     requires short { length x.now ≤ 65536 }
-    ensures { MatchOption result (limit < squared_distance x.now q.now)
-        (λ found. (found ≡ squared_distance x.now q.now) × (found ≤ limit)) }
+    ensures { let d = squared_distance x.now q.now in
+        MatchOption result (limit < d) (λ found. (found ≡ d) × (found ≤ limit)) }
 {
     values_fit(x);
     values_fit(q);
@@ -38,7 +36,7 @@ pub fn distance_within(x: &[i16], q: &[i16], limit: u64) -> Option<u64>
     if sum <= limit { Some(sum) } else { None }
 }
 
-/// The squared Euclidean distance of two blocks of 64 values.
+/// The squared Euclidean distance of two blocks of 64 values. Near blocks take half the time of others.
 fn block_distance(x: &[i16], q: &[i16]) -> u64
     requires x_block { length x.now ≡ 64 }
     requires q_block { length q.now ≡ 64 }
@@ -46,9 +44,9 @@ fn block_distance(x: &[i16], q: &[i16]) -> u64
     requires q_fits { All (FitsSigned w16) q.now }
     ensures { result ≡ squared_distance x.now q.now }
 {
-    let mut sums = u64x8::splat(0);
-    for eight in 0..BLOCK / 8 {
-        sums = lanes_added(sums, eight_squares(x, q, 8 * eight));
+    if is_near(x, q) {
+        u64::from(near_distance(x, q))
+    } else {
+        far_distance(x, q)
     }
-    lane_sum(sums)
 }

@@ -1,25 +1,26 @@
-//! Eight values at a time: their differences, the squares of these, and sums of squares, each exact.
+//! Eight values at a time: their differences, each exact.
 //! A difference of two values takes 16 bits without a sign: it is held as those bits and widened by a mask.
 
-ghost use Rattle.std.specs.Prelude.{◌≡◌, ◌+◌, ◌≤◌, ◌<◌, ◌^◌, length, map, FitsSigned};
+ghost use Rattle.std.specs.Prelude.{◌≡◌, ◌+◌, ◌≤◌, ◌<◌, length, FitsSigned};
 ghost use Rattle.std.specs.List.{All};
-ghost use Rattle.std.specs.Simd.Lanes.{chunk, zip2, sum_l, Each1};
+ghost use Rattle.std.specs.Simd.Lanes.{chunk, zip2, Each1};
 ghost use mir.Syntax.{w16};
-ghost use Rattle.series_core.specs.Distance.{squared_distance};
-ghost use Rattle.simd_distance.specs.Lanes.{bits_of, difference, square};
+ghost use Rattle.simd_distance.specs.Lanes.{bits_of, difference};
 
 use std::simd::prelude::*;
 
-/// The squared differences of the eight pairs of values from place `at` on, told by their sum.
-pub(crate) fn eight_squares(x: &[i16], q: &[i16], at: usize) -> u64x8
+/// The number of values between two tests of the limit.
+pub(crate) const BLOCK: usize = 64;
+
+/// The differences of the eight pairs of values from place `at` on.
+pub(crate) fn eight_differences(x: &[i16], q: &[i16], at: usize) -> u32x8
     requires x_eight { at + 8 ≤ length x.now }
     requires q_eight { at + 8 ≤ length q.now }
     requires x_fits { All (FitsSigned w16) x.now }
     requires q_fits { All (FitsSigned w16) q.now }
-    ensures { sum_l result ≡ squared_distance (chunk at 8 x.now) (chunk at 8 q.now) }
+    ensures { result ≡ zip2 difference (chunk at 8 x.now) (chunk at 8 q.now) }
 {
-    let bits = differences(i16x8::from_slice(&x[at..]), i16x8::from_slice(&q[at..]));
-    squares(widened(bits))
+    widened(differences(i16x8::from_slice(&x[at..]), i16x8::from_slice(&q[at..])))
 }
 
 /// The differences of eight pairs of values, greater less lesser, each as the 16 bits of a number without a sign.
@@ -40,28 +41,4 @@ fn widened(bits: i16x8) -> u32x8
     ensures { result ≡ bits_of bits }
 {
     (bits.cast::<i32>() & i32x8::splat(0xffff)).cast::<u32>()
-}
-
-/// The squares of eight numbers below 65536.
-fn squares(numbers: u32x8) -> u64x8
-    requires { Each1 (λ n. n < 65536) numbers }
-    ensures { result ≡ map square numbers }
-{
-    (numbers * numbers).cast::<u64>()
-}
-
-/// The sums of two vectors, lane by lane, told by their sum.
-pub(crate) fn lanes_added(a: u64x8, b: u64x8) -> u64x8
-    requires { sum_l a + sum_l b < 2 ^ 64 }
-    ensures { sum_l result ≡ sum_l a + sum_l b }
-{
-    a.strict_add(b)
-}
-
-/// The sum of the lanes.
-pub(crate) fn lane_sum(lanes: u64x8) -> u64
-    requires { sum_l lanes < 2 ^ 64 }
-    ensures { result ≡ sum_l lanes }
-{
-    lanes.strict_reduce_sum()
 }

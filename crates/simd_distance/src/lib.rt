@@ -2,8 +2,10 @@
 //! One function computes it value by value, and one in lanes that gives up as soon as a limit is passed.
 #![tactic(auto)]
 
+mod far;
 mod kernel;
 mod lanes;
+mod near;
 mod plain;
 
 pub use kernel::distance_within;

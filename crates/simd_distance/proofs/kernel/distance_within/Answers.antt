@@ -9,7 +9,8 @@ overflow_add-sum c =
     let x = c.args.x.now in
     let q = c.args.q.now in
     let at = c.loop-block.block * 64 in
-    let step = distance_from_part x q at (at + 64 - at) (at + 64) (omega arith) (omega arith) (omega arith) in
+    let step = distance_from_part x q at (at + 64 - at) (at + 64) (omega arith) (omega arith)
+    (omega arith) in
     let whole = distance_each x q c.values_fit.ensures c.values_fit-2.ensures in
     record { fits = omega (arith, c.loop-block.invariant, c.block_distance-sum.ensures) }
 
@@ -18,7 +19,8 @@ returns-then-sum-limit c =
     let x = c.args.x.now in
     let q = c.args.q.now in
     let at = c.loop-block.block * 64 in
-    let step = distance_from_part x q at (at + 64 - at) (at + 64) (omega arith) (omega arith) (omega arith) in
+    let step = distance_from_part x q at (at + 64 - at) (at + 64) (omega arith) (omega arith)
+    (omega arith) in
     omega (arith, c.loop-block.invariant, c.block_distance-sum.ensures)
 
 pub loop-block-preserved : goal.loop-block-preserved
@@ -27,10 +29,12 @@ loop-block-preserved c =
     let q = c.args.q.now in
     let at = c.loop-block.block * 64 in
     let next = (c.loop-block.block + 1) * 64 in
-    let step = distance_from_part x q at (at + 64 - at) next (omega arith) (omega arith) (omega arith) in
+    let step = distance_from_part x q at (at + 64 - at) next (omega arith) (omega arith)
+    (omega arith) in
     omega (arith, c.loop-block.invariant, c.block_distance-sum.ensures)
 
 pub overflow_add-sum-2 : goal.overflow_add-sum-2
 overflow_add-sum-2 c =
-    let whole = distance_each c.args.x.now c.args.q.now c.values_fit.ensures c.values_fit-2.ensures in
+    let whole = distance_each c.args.x.now c.args.q.now c.values_fit.ensures
+    c.values_fit-2.ensures in
     record { fits = omega (arith, c.loop-block.invariant, c.distance-sum.ensures.value) }

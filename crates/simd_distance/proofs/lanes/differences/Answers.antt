@@ -1,5 +1,5 @@
 -- Greater less lesser is the difference.
-use Rattle.simd_distance.proofs.LaneLists.{differences_are}
+use Rattle.simd_distance.proofs.Differences.{differences_are}
 use Rattle.simd_distance.proofs.lanes.differences.Goals as goal
 
 pub returns : goal.returns

@@ -2,7 +2,7 @@
 use Rattle.std.proofs.Common.{◌∙◌, arith, w64, zero-add}
 use Rattle.std.specs.Simd.Lanes.{sum_l}
 use Rattle.std.proofs.lemmas.Simd.{sum_fits, fold-sum}
-use Rattle.simd_distance.proofs.lanes.lane_sum.Goals as goal
+use Rattle.simd_distance.proofs.far.lane_sum.Goals as goal
 
 pub overflow_add-result : goal.overflow_add-result
 overflow_add-result c = sum_fits w64 0 c.args.lanes (omega arith)

@@ -2,7 +2,7 @@
 use Rattle.std.proofs.Common.{◌≡◌, ◌+◌, ◌*◌, drop}
 use Rattle.std.specs.Simd.Lanes.{sum_l}
 use Rattle.series_core.specs.Distance.{squared_distance}
-use Rattle.simd_distance.proofs.kernel.block_distance.Given as goal
+use Rattle.simd_distance.proofs.far.far_distance.Given as goal
 
 abbrev pub invariant-loop-eight : goal.invariant-loop-eight
 invariant-loop-eight l =

@@ -1,7 +1,7 @@
--- Lanes of differences and of squares: greater less lesser in 16 bits is the difference
--- (`differences_are`), and the sum of the squares of the differences is the distance
--- (`squares_sum`).
-use Rattle.std.proofs.Common.{◌≡◌, ℕ, ◌+◌, ◌-◌, ◌*◌, ◌%◌, ◌<◌, ◌≤◌, refl, ap, sym, ◌∙◌, Bool, true, false, cond, arith, List, [], ◌∷◌, map, length, replicate, subst}
+-- Lanes of differences: greater less lesser in 16 bits is the difference (`differences_are`), a
+-- mask
+-- widens it (`widened_are`), and so it is of what vectors are handed (`handed_differences`).
+use Rattle.std.proofs.Common.{◌≡◌, ℕ, ◌+◌, ◌-◌, ◌%◌, ◌<◌, refl, ap, sym, ◌∙◌, Bool, true, false, cond, arith, List, [], ◌∷◌, map, length, replicate, subst}
 use Rattle.std.specs.Prelude.{ℤ, pos, FitsSigned, bit_and}
 use Rattle.std.specs.List.{All}
 use Rattle.std.proofs.lemmas.Int.{ints, of_z-to_z, to_z-of_z, to_z_pos}
@@ -12,14 +12,12 @@ use Rattle.std.proofs.lemmas.Simd.{Each1-zip2, Each2-splat, Each1-all, zip2_spla
 use Rattle.std.proofs.Math.ListN.{length-map}
 use Rattle.std.proofs.Math.IntN.{nat_abs}
 use Rattle.std.proofs.Math.Facts.{sfits_to_z}
-use Rattle.std.proofs.Math.Nat.{mul-le-mul}
-use lib.Lanes.{zip2, sel_l, top, sum_l, Each1}
+use lib.Lanes.{zip2, sel_l, top, Each1}
 use lib.Dec.{T}
 use lib.Signed.{lt_z, non_neg}
 use mir.Val.{to_z, of_z, Fits}
 use mir.Syntax.{w16, w32}
-use Rattle.series_core.specs.Distance.{squared_difference, squared_distance}
-use Rattle.simd_distance.specs.Lanes.{difference, square, bits_of}
+use Rattle.simd_distance.specs.Lanes.{difference, bits_of}
 
 -- what a lane compares
 abbrev pub bits_less : ℕ → ℕ → Bool
@@ -61,7 +59,8 @@ differences_are (x ∷ xs) (y ∷ ys) fx fy =
     let fits = FitsSigned w16 in
     let a = of_z w16 x in
     let b = of_z w16 y in
-    let back : of_z w16 (to_z w16 (lane_minus (bits_less a b) a b)) ≡ lane_minus (bits_less a b) a b
+    let back : of_z w16 (to_z w16 (lane_minus (bits_less a b) a b)) ≡ lane_minus (bits_less a b)
+    a b
     = of_z-to_z w16 (lane_minus (bits_less a b) a b) (omega arith) in
     let first = back
     ∙ lane_difference x y (bits_less a b) (All-head fits x xs fx) (All-head fits y ys fy) refl in
@@ -123,24 +122,6 @@ widened_are ns k long small =
     (zip2_splat bit_and (map with_sign ns) k 65535 (length-map ns with_sign ∙ long))
     ∙ lanes_are ns small
 
--- squares of numbers below 65536 do not wrap in 32 bits
-pub squares_are : (ns : List ℕ) → Each1 (λ n. n < 65536) ns
-    → map (λ n. n) (zip2 (λ a b. (a * b) % 4294967296) ns ns) ≡ map square ns
-squares_are [] small = refl
-squares_are (n ∷ ns) small =
-    let at_most : n ≤ 65535 = omega (arith, small.0) in
-    let fits : n * n ≤ 4294836225 = mul-le-mul at_most at_most in
-    let first : (n * n) % 4294967296 ≡ n * n = omega arith in
-    let rest = squares_are ns small.1 in
-    λ i. first i ∷ rest i
-
--- the squares of the differences add up to the distance
-pub squares_sum : (xs ys : List ℤ)
-    → sum_l (map square (zip2 difference xs ys)) ≡ squared_distance xs ys
-squares_sum [] ys = refl
-squares_sum (x ∷ xs) [] = refl
-squares_sum (x ∷ xs) (y ∷ ys) = ap (λ n. squared_difference x y + n) (squares_sum xs ys)
-
 -- differences of 16-bit values take 16 bits
 pub differences_small : (xs ys : List ℤ) → All (FitsSigned w16) xs → All (FitsSigned w16) ys
     → Each1 (λ n. n < 65536) (zip2 difference xs ys)
@@ -156,7 +137,8 @@ differences_small (x ∷ xs) (y ∷ ys) fx fy =
 pub read_back : (xs : List ℤ) → All (FitsSigned w16) xs → map (to_z w16) (map (of_z w16) xs) ≡ xs
 read_back [] fits = refl
 read_back (x ∷ xs) fits =
-    let first : to_z w16 (of_z w16 x) ≡ x = to_z-of_z w16 x (All-head (FitsSigned w16) x xs fits) in
+    let first : to_z w16 (of_z w16 x) ≡ x = to_z-of_z w16 x (All-head (FitsSigned w16) x xs fits)
+    in
     let rest = read_back xs (All-tail (FitsSigned w16) x xs fits) in
     λ i. first i ∷ rest i
 

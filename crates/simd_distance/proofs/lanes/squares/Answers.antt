@@ -1,6 +1,0 @@
--- The squares do not wrap.
-use Rattle.simd_distance.proofs.LaneLists.{squares_are}
-use Rattle.simd_distance.proofs.lanes.squares.Goals as goal
-
-pub returns : goal.returns
-returns c = squares_are c.args.numbers c.requires
