@@ -1,2 +1,5 @@
 -- The lemmas of this crate.
 pub mod Walks
+pub mod Differences
+pub mod Squares
+pub mod NearLists

@@ -1,11 +1,40 @@
 -- The distance as it is walked from the front: one place at a time (`distance_from_place`).
-use Rattle.std.proofs.Common.{◌≡◌, ℕ, ◌+◌, ◌<◌, ℤ, pos, List, length, drop, get_or, add-one, drop-cons}
+use Rattle.std.proofs.Common.{◌≡◌, ℕ, ◌+◌, ◌<◌, ◌≤◌, ℤ, pos, List, [], ◌∷◌, ◌++◌, length, drop, take, get_or, add-one, zero-add, drop-cons, sym, ap, ◌∙◌, arith}
+use Rattle.std.proofs.lemmas.Simd.{chunk-drop, length-chunk}
 use Rattle.series_core.specs.Distance.{squared_difference, squared_distance}
 
--- the distance of what is left at a place is the square there and the distance of what is left after it
+-- the distance of what is left at a place is the square there and the distance of what is left
+-- after it
 pub distance_from_place : (xs ys : List ℤ) (i : ℕ) → i < length xs → i < length ys
     → squared_distance (drop i xs) (drop i ys)
     ≡ squared_difference (get_or xs i (pos 0)) (get_or ys i (pos 0))
     + squared_distance (drop (i + 1) xs) (drop (i + 1) ys)
 distance_from_place xs ys i in_xs in_ys =
     rw (add-one, drop-cons xs i (pos 0), drop-cons ys i (pos 0))
+
+-- the distance of two lists that are each put together of two is the sum of the parts' distances
+pub distance_of_parts : (xs ys us vs : List ℤ) → length xs ≡ length us
+    → squared_distance (xs ++ ys) (us ++ vs) ≡ squared_distance xs us + squared_distance ys vs
+distance_of_parts [] ys [] vs long = sym (zero-add (squared_distance ys vs))
+distance_of_parts [] ys (u ∷ us) vs long = absurd (omega arith)
+distance_of_parts (x ∷ xs) ys [] vs long = absurd (omega arith)
+distance_of_parts (x ∷ xs) ys (u ∷ us) vs long =
+    let rest = distance_of_parts xs ys us vs (omega arith) in
+    omega arith
+
+-- the distance of what is left at a place is that of the next n values and that of what is left
+-- after them, at m
+pub distance_from_part : (xs ys : List ℤ) (i n m : ℕ) → i + n ≡ m → m ≤ length xs → m ≤ length ys
+    → squared_distance (drop i xs) (drop i ys)
+    ≡ squared_distance (take n (drop i xs)) (take n (drop i ys))
+    + squared_distance (drop m xs) (drop m ys)
+distance_from_part xs ys i n m is in_xs in_ys =
+    let long : length (take n (drop i xs)) ≡ length (take n (drop i ys))
+    = length-chunk i n xs (omega arith) ∙ sym (length-chunk i n ys (omega arith)) in
+    let first : drop i xs ≡ take n (drop i xs) ++ drop m xs
+    = chunk-drop i n xs ∙ ap (λ k. take n (drop i xs) ++ drop k xs) is in
+    let second : drop i ys ≡ take n (drop i ys) ++ drop m ys
+    = chunk-drop i n ys ∙ ap (λ k. take n (drop i ys) ++ drop k ys) is in
+    ap (λ l. squared_distance l (drop i ys)) first
+    ∙ ap (squared_distance (take n (drop i xs) ++ drop m xs)) second
+    ∙ distance_of_parts (take n (drop i xs)) (drop m xs) (take n (drop i ys)) (drop m ys) long

@@ -1,2 +1,3 @@
--- The definition that this crate's public clauses cite: the squared distance, as every search speaks of it.
-pub use Rattle.series_core.specs.Distance as Distance
+-- The definitions of this crate, and the one of the crate below that its public clauses cite.
+pub mod Lanes
+pub use Rattle.series_core.specs.Distance

@@ -15,7 +15,8 @@ loop-i-preserved c =
     let fits_b : FitsSigned w16 b = search rules in
     let added : c.squared_difference-sum.result ≡ squared_difference a b =
     simp to_z-of_z at c.squared_difference-sum.ensures.value in
-    let step = distance_from_place c.args.x.now c.args.q.now c.loop-i.i (omega arith) (omega arith) in
+    let step = distance_from_place c.args.x.now c.args.q.now c.loop-i.i (omega arith)
+    (omega arith) in
     record {
       whole = omega arith;
       small = omega arith;

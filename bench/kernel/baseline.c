@@ -1,0 +1,86 @@
+// The same kernel in plain C, and a plain loop that tests the limit at each value.
+// Prints for each the microseconds of a pass over all rows, and a checksum.
+#include <stdint.h>
+#include <stdio.h>
+#include <stdlib.h>
+#include <time.h>
+
+enum { ROWS = 200000, POINTS = 256, ROUNDS = 5, BLOCK = 64 };
+static const uint64_t NONE = UINT64_MAX;
+
+static double now(void) {
+    struct timespec t;
+    clock_gettime(CLOCK_MONOTONIC, &t);
+    return t.tv_sec * 1e6 + t.tv_nsec / 1e3;
+}
+
+static void fill(int16_t *values) {
+    uint64_t x = 7;
+    for (size_t i = 0; i < ROWS; i++) {
+        int value = 0;
+        for (size_t k = 0; k < POINTS; k++) {
+            x = x * 6364136223846793005u + 1442695040888963407u;
+            value += (int)((x >> 33) % 201) - 100;
+            value = value > 30000 ? 30000 : value < -30000 ? -30000 : value;
+            values[i * POINTS + k] = (int16_t)value;
+        }
+    }
+}
+
+static inline uint32_t square(int16_t a, int16_t b) {
+    uint16_t apart = (uint16_t)((a > b ? a : b) - (a > b ? b : a));
+    return (uint32_t)apart * apart;
+}
+
+// The limit is tested once a block of 64 values.
+__attribute__((noinline)) static int in_blocks(const int16_t *x, const int16_t *q, size_t n, uint64_t limit, uint64_t *found) {
+    uint64_t sum = 0;
+    size_t i = 0;
+    for (; i + BLOCK <= n; i += BLOCK) {
+        uint64_t block = 0;
+        for (size_t k = 0; k < BLOCK; k++) block += square(x[i + k], q[i + k]);
+        sum += block;
+        if (sum > limit) return 0;
+    }
+    for (; i < n; i++) sum += square(x[i], q[i]);
+    *found = sum;
+    return sum <= limit;
+}
+
+// The limit is tested at each value.
+__attribute__((noinline)) static int value_by_value(const int16_t *x, const int16_t *q, size_t n, uint64_t limit, uint64_t *found) {
+    uint64_t sum = 0;
+    for (size_t i = 0; i < n; i++) {
+        sum += square(x[i], q[i]);
+        if (sum > limit) return 0;
+    }
+    *found = sum;
+    return 1;
+}
+
+typedef int kernel(const int16_t *, const int16_t *, size_t, uint64_t, uint64_t *);
+
+static void pass(const char *name, kernel *within, const int16_t *values, size_t rows, size_t n, uint64_t limit) {
+    double begin = now();
+    uint64_t check = 0;
+    for (size_t i = 1; i < rows; i++) {
+        uint64_t found;
+        check += within(values + i * n, values, n, limit, &found) ? found : 1;
+    }
+    printf("%s, %zu of %zu, limit %llu: %.0f (%llu)\n", name, rows, n, (unsigned long long)limit, now() - begin, (unsigned long long)check);
+}
+
+int main(void) {
+    int16_t *values = malloc(sizeof(int16_t) * ROWS * POINTS);
+    if (!values) return 1;
+    fill(values);
+    uint64_t limits[] = {NONE, 100000000, 1000000};
+    for (int l = 0; l < 3; l++)
+        for (int round = 0; round < ROUNDS; round++)
+            for (size_t n = POINTS; n <= 4 * POINTS; n *= 4) {
+                pass("C in blocks", in_blocks, values, ROWS * POINTS / n, n, limits[l]);
+                pass("C value by value", value_by_value, values, ROWS * POINTS / n, n, limits[l]);
+            }
+    free(values);
+    return 0;
+}
