@@ -1,13 +1,14 @@
--- How words come to have no settings: by their first word, by `clap`, by a number or by a further rule.
-use Rattle.std.proofs.Common.{◌≡◌, ◌∙◌, ◌*◌, ◌<◌, ◌≤◌, ℕ, true, List, [], ◌∷◌, Option, Some, None}
-use Rattle.std.proofs.Common.{ap, arith, codes, option_and_then, refl, sym}
+-- How words come to have no settings: by the first word, by `clap`, a number or a further rule.
+use Rattle.std.proofs.Common.{◌≡◌, ◌∙◌, ◌+◌, ◌-◌, ◌*◌, ◌<◌, ◌≤◌, ℕ, true}
+use Rattle.std.proofs.Common.{List, [], ◌∷◌, Option, Some, None, arith, codes}
+use Rattle.std.proofs.Common.{option_and_then, refl, sym}
 use Rattle.std.specs.Prelude.{slice_get}
-use Rattle.clap.specs.Words.{Row, Text, first_of}
+use Rattle.clap.specs.Words.{Text, first_of}
 use Rattle.clap.specs.declared.error.ErrorKind.{ErrorKind}
 use Rattle.command_words.specs.CommandName.{faults_of, named_by, rows_of_words}
 use Rattle.command_words.specs.Options.{HasOptions, number_at, number_if, number_or, table_named}
 use Rattle.command_words.specs.Options.{windows_needed}
-use Rattle.command_words.specs.Settings.{Fits, has_stray_option, name_of, options_of}
+use Rattle.command_words.specs.Settings.{Fits, HasWords, has_stray_option, name_of, options_of}
 use Rattle.command_words.specs.declared.command.Command.{Command}
 use Rattle.command_words.specs.declared.command.Command.TheVariants.{Nearest, Range, Trial, Windows}
 use Rattle.command_words.specs.declared.name.CommandName.{CommandName}
@@ -17,7 +18,7 @@ use Rattle.command_words.proofs.Named.{HasNoSettings, refused_words, unfit_rows}
 use Rattle.command_words.proofs.Names.{name_is_found}
 
 -- an option is not nothing and something
-not_both : {X : Type 0} (o : Option X) (x : X) → o ≡ None → o ≡ Some x → ⊥
+pub not_both : {X : Type 0} (o : Option X) (x : X) → o ≡ None → o ≡ Some x → ⊥
 not_both o x none some = absurd (cc)
 
 -- words whose first names no command have no settings
@@ -93,7 +94,7 @@ stray words found bad = unfit_rows words name.Nearest found _ refl go
 pub bad_radius : (words : List Text)
     → option_and_then named_by (slice_get words 0) ≡ Some name.Range
     → number_at 0 281474976710656 (first_of (codes "RADIUS") (rows_of_words name.Range words))
-      ≡ None
+    ≡ None
     → HasNoSettings words
 bad_radius words found bad = unfit_rows words name.Range found _ refl go
   where
@@ -102,14 +103,48 @@ bad_radius words found bad = unfit_rows words name.Range found _ refl go
     go (Range a b r o) is h = not_both _ _ bad h.words.2
     go c is h = absurd (cc)
 
--- a bad STEP leaves no settings
-pub bad_step : (words : List Text)
-    → option_and_then named_by (slice_get words 0) ≡ Some name.Windows
-    → number_at 1 16777216 (first_of (codes "STEP") (rows_of_words name.Windows words)) ≡ None
+-- a trial of such words that fits none leaves no settings
+pub unfit_trial : (words : List Text)
+    → option_and_then named_by (slice_get words 0) ≡ Some name.Trial
+    → ((seed count length queries : ℕ) (o : Options)
+    → HasWords (rows_of_words name.Trial words) (Trial seed count length queries o) → ⊥)
     → HasNoSettings words
-bad_step words found bad = unfit_rows words name.Windows found _ refl go
+unfit_trial words found unfit = unfit_rows words name.Trial found _ refl go
   where
     -- no command fits such matches
-    go : (c : Command) → name_of c ≡ name.Windows → Fits (rows_of_words name.Windows words) c → ⊥
-    go (Windows a b s o) is h = not_both _ _ bad h.words.2
+    go : (c : Command) → name_of c ≡ name.Trial → Fits (rows_of_words name.Trial words) c → ⊥
+    go (Trial seed count length queries o) is h = unfit seed count length queries o h.words
     go c is h = absurd (cc)
+
+-- windows of such words that fit none leave no settings
+pub unfit_windows : (words : List Text)
+    → option_and_then named_by (slice_get words 0) ≡ Some name.Windows
+    → ((series queries : Text) (step : ℕ) (o : Options)
+    → HasWords (rows_of_words name.Windows words) (Windows series queries step o)
+    → HasOptions (rows_of_words name.Windows words) o → ⊥)
+    → HasNoSettings words
+unfit_windows words found unfit = unfit_rows words name.Windows found _ refl go
+  where
+    -- no command fits such matches
+    go : (c : Command) → name_of c ≡ name.Windows
+        → Fits (rows_of_words name.Windows words) c → ⊥
+    go (Windows series queries step o) is h = unfit series queries step o h.words h.options
+    go c is h = absurd (cc)
+
+-- a trial of too many values in all does not keep its limit
+pub too_many_values : (n m count length : ℕ) → Some n ≡ Some count → Some m ≡ Some length
+    → count * length ≤ 134217728 → 134217728 < n * m → ⊥
+too_many_values n m count length is has few many =
+    let c : n ≡ count = cc in
+    let l : m ≡ length = cc in
+    let small : n * m ≤ 134217728 = rw (c, l) few in
+    omega arith
+
+-- windows of which too many are needed do not keep their limit
+pub too_many_windows : (k apart : ℕ) (o : Options) → Some k ≡ Some o.k → Some apart ≡ Some o.apart
+    → windows_needed o ≤ 1024 → 1024 < (k - 1) * (2 * apart - 1) + 1 → ⊥
+too_many_windows k apart o is has few many =
+    let a : k ≡ o.k = cc in
+    let b : apart ≡ o.apart = cc in
+    let small : (k - 1) * (2 * apart - 1) + 1 ≤ 1024 = rw (a, b) few in
+    omega arith

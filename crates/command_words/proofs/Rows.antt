@@ -1,5 +1,5 @@
--- Rows of words that have no settings, and of what `clap` takes, each computed from the definitions.
-use Rattle.std.proofs.Common.{◌≡◌, ◌++◌, ℕ, true, List, [], ◌∷◌, Option, Some, None}
+-- Rows of words that have no settings, and of what `clap` takes, computed from the definitions.
+use Rattle.std.proofs.Common.{◌≡◌, ◌++◌, List, [], ◌∷◌}
 use Rattle.std.proofs.Common.{codes, map, refl}
 use Rattle.std.specs.Prelude.{replicate}
 use Rattle.clap.specs.Words.{Text}
@@ -8,7 +8,7 @@ use Rattle.clap.specs.declared.error.kind.ErrorKind.TheVariants as kind
 use Rattle.command_words.specs.CommandName.{app_for, faults_of, rows_of_words}
 use Rattle.command_words.specs.declared.name.CommandName.TheVariants as name
 use Rattle.command_words.proofs.Named.{HasNoSettings}
-use Rattle.command_words.proofs.NoSettings.{bad_k, bad_radius, faulty, stray, unnamed}
+use Rattle.command_words.proofs.NoSettings.{bad_k, bad_radius, faulty, unnamed}
 
 -- `nearest A Q` and what follows
 abbrev pub nearest : List Text → List Text
@@ -62,7 +62,7 @@ k_with_a_sign = bad_k name.Nearest _ refl refl
 
 -- `--k 2 --k 2` gives an option twice
 k_twice : HasNoSettings
-  (nearest (codes "--k" ∷ codes "2" ∷ codes "--k" ∷ codes "2" ∷ []))
+    (nearest (codes "--k" ∷ codes "2" ∷ codes "--k" ∷ codes "2" ∷ []))
 unfolding clap_on_literals app_for faults_of
 k_twice = faulty name.Nearest _ refl kind.ArgumentConflict refl
 
@@ -73,7 +73,7 @@ unknown_option = faulty name.Nearest _ refl kind.UnknownArgument refl
 
 -- a radius of 281474976710657 is above the limits
 radius_too_great : HasNoSettings
-  (codes "range" ∷ codes "A" ∷ codes "Q" ∷ codes "281474976710657" ∷ [])
+    (codes "range" ∷ codes "A" ∷ codes "Q" ∷ codes "281474976710657" ∷ [])
 unfolding clap_on_literals app_for rows_of_words
 radius_too_great = bad_radius _ refl refl
 
@@ -87,7 +87,7 @@ help = (
 
 -- `--k=3` is as `--k 3`
 k_with_equals : rows_of_words name.Nearest (nearest (codes "--k=3" ∷ []))
-  ≡ rows_of_words name.Nearest (nearest (codes "--k" ∷ codes "3" ∷ []))
+    ≡ rows_of_words name.Nearest (nearest (codes "--k" ∷ codes "3" ∷ []))
 unfolding clap_on_literals app_for rows_of_words
 k_with_equals = refl
 
@@ -106,6 +106,6 @@ taken_once = refl
 
 -- each option of `nearest` is refused twice
 refused_twice : map (λ o. faults_of name.Nearest (nearest (o ++ o))) options
-  ≡ replicate 10 (kind.ArgumentConflict ∷ [])
+    ≡ replicate 10 (kind.ArgumentConflict ∷ [])
 unfolding clap_on_literals app_for faults_of
 refused_twice = refl

@@ -1,10 +1,8 @@
--- Rows of words that have settings, each written out: values for absence, limits, names and further rules.
-use Rattle.std.proofs.Common.{◌≡◌, ◌<◌, ◌*◌, List, [], ◌∷◌, Option, Some, None, arith, codes, false, refl, true}
-use Rattle.clap.specs.Words.{Text}
+-- Rows of words that have settings, each written out: values for absence, limits and odd names.
+use Rattle.std.proofs.Common.{[], ◌∷◌, Some, None, arith, codes, false, refl, true}
 use Rattle.clap.proofs.OnLiterals.{clap_on_literals}
 use Rattle.breakpoints.specs.declared.table.Table.TheVariants.{Flat, Bent}
 use Rattle.command_words.specs.CommandName.{app_for, faults_of, rows_of_words}
-use Rattle.command_words.specs.Options.{HasOptions}
 use Rattle.command_words.specs.Settings.{HasSettings}
 use Rattle.command_words.specs.declared.command.Command.TheVariants.{Nearest, Range, Trial, Windows}
 use Rattle.command_words.specs.declared.options.Options.{Options}
@@ -47,7 +45,7 @@ least = record absent { segments = Some 1; leaf = 1; workers = 1; queues = 1; ra
 
 -- `nearest A Q` has every value for absence
 nearest_alone : HasSettings (codes "nearest" ∷ codes "A" ∷ codes "Q" ∷ [])
-  (Nearest (codes "A") (codes "Q") absent)
+    (Nearest (codes "A") (codes "Q") absent)
 unfolding clap_on_literals app_for faults_of rows_of_words
 nearest_alone = record {
   named = refl;
@@ -72,10 +70,10 @@ nearest_alone = record {
 
 -- `nearest` with each option at its least, some with `=`
 nearest_least : HasSettings
-  (codes "nearest" ∷ codes "--k=1" ∷ codes "A" ∷ codes "--segments" ∷ codes "1"
+    (codes "nearest" ∷ codes "--k=1" ∷ codes "A" ∷ codes "--segments" ∷ codes "1"
     ∷ codes "--leaf=1" ∷ codes "Q" ∷ codes "--workers" ∷ codes "1" ∷ codes "--queues=1"
     ∷ codes "--breaks" ∷ codes "flat" ∷ codes "--raw=1" ∷ [])
-  (Nearest (codes "A") (codes "Q") least)
+    (Nearest (codes "A") (codes "Q") least)
 unfolding clap_on_literals app_for faults_of rows_of_words
 nearest_least = record {
   named = refl;
@@ -100,11 +98,11 @@ nearest_least = record {
 
 -- `nearest` with each option at its greatest
 nearest_greatest : HasSettings
-  (codes "nearest" ∷ codes "A" ∷ codes "Q" ∷ codes "--sealed" ∷ codes "--k" ∷ codes "1024"
+    (codes "nearest" ∷ codes "A" ∷ codes "Q" ∷ codes "--sealed" ∷ codes "--k" ∷ codes "1024"
     ∷ codes "--segments=16" ∷ codes "--leaf" ∷ codes "65535" ∷ codes "--workers=64"
     ∷ codes "--queues" ∷ codes "64" ∷ codes "--breaks=bent" ∷ codes "--raw" ∷ codes "65536"
     ∷ codes "--certificate" ∷ [])
-  (Nearest (codes "A") (codes "Q") greatest)
+    (Nearest (codes "A") (codes "Q") greatest)
 unfolding clap_on_literals app_for faults_of rows_of_words
 nearest_greatest = record {
   named = refl;
@@ -129,9 +127,9 @@ nearest_greatest = record {
 
 -- an index beside options that may stand with it
 nearest_by_index : HasSettings
-  (codes "nearest" ∷ codes "A" ∷ codes "Q" ∷ codes "--index" ∷ codes "I" ∷ codes "--k=3"
+    (codes "nearest" ∷ codes "A" ∷ codes "Q" ∷ codes "--index" ∷ codes "I" ∷ codes "--k=3"
     ∷ codes "--workers=2" ∷ codes "--sealed" ∷ [])
-  (Nearest (codes "A") (codes "Q")
+    (Nearest (codes "A") (codes "Q")
     (record absent { k = 3; workers = 2; sealed = true; index = Some (codes "I") }))
 unfolding clap_on_literals app_for faults_of rows_of_words
 nearest_by_index = record {
@@ -157,8 +155,8 @@ nearest_by_index = record {
 
 -- names that are not ASCII, and after `--` names that begin with `-`
 nearest_by_odd_names : HasSettings
-  (codes "nearest" ∷ codes "--index=é" ∷ codes "--" ∷ codes "-A" ∷ codes "--k" ∷ [])
-  (Nearest (codes "-A") (codes "--k") (record absent { index = Some (codes "é") }))
+    (codes "nearest" ∷ codes "--index=é" ∷ codes "--" ∷ codes "-A" ∷ codes "--k" ∷ [])
+    (Nearest (codes "-A") (codes "--k") (record absent { index = Some (codes "é") }))
 unfolding clap_on_literals app_for faults_of rows_of_words
 nearest_by_odd_names = record {
   named = refl;
@@ -183,8 +181,8 @@ nearest_by_odd_names = record {
 
 -- the greatest radius
 range_greatest : HasSettings
-  (codes "range" ∷ codes "A" ∷ codes "Q" ∷ codes "281474976710656" ∷ [])
-  (Range (codes "A") (codes "Q") 281474976710656 absent)
+    (codes "range" ∷ codes "A" ∷ codes "Q" ∷ codes "281474976710656" ∷ [])
+    (Range (codes "A") (codes "Q") 281474976710656 absent)
 unfolding clap_on_literals app_for faults_of rows_of_words
 range_greatest = record {
   named = refl;
@@ -209,9 +207,9 @@ range_greatest = record {
 
 -- the greatest numbers of a trial, of 134217728 values in all
 trial_greatest : HasSettings
-  (codes "trial" ∷ codes "18446744073709551615" ∷ codes "16777216" ∷ codes "8" ∷ codes "1000"
+    (codes "trial" ∷ codes "18446744073709551615" ∷ codes "16777216" ∷ codes "8" ∷ codes "1000"
     ∷ [])
-  (Trial 18446744073709551615 16777216 8 1000 absent)
+    (Trial 18446744073709551615 16777216 8 1000 absent)
 unfolding clap_on_literals app_for faults_of rows_of_words
 trial_greatest = record {
   named = refl;
@@ -236,8 +234,8 @@ trial_greatest = record {
 
 -- the least numbers of a trial
 trial_least : HasSettings
-  (codes "trial" ∷ codes "0" ∷ codes "0" ∷ codes "1" ∷ codes "0" ∷ [])
-  (Trial 0 0 1 0 absent)
+    (codes "trial" ∷ codes "0" ∷ codes "0" ∷ codes "1" ∷ codes "0" ∷ [])
+    (Trial 0 0 1 0 absent)
 unfolding clap_on_literals app_for faults_of rows_of_words
 trial_least = record {
   named = refl;
@@ -262,9 +260,9 @@ trial_least = record {
 
 -- as many windows as may be needed: 341 * 3 + 1 = 1024
 windows_greatest : HasSettings
-  (codes "windows" ∷ codes "S" ∷ codes "Q" ∷ codes "16777216" ∷ codes "--k=342"
+    (codes "windows" ∷ codes "S" ∷ codes "Q" ∷ codes "16777216" ∷ codes "--k=342"
     ∷ codes "--apart=2" ∷ [])
-  (Windows (codes "S") (codes "Q") 16777216 (record absent { k = 342; apart = 2 }))
+    (Windows (codes "S") (codes "Q") 16777216 (record absent { k = 342; apart = 2 }))
 unfolding clap_on_literals app_for faults_of rows_of_words
 windows_greatest = record {
   named = refl;
@@ -289,8 +287,8 @@ windows_greatest = record {
 
 -- the least step, with the greatest `--apart`
 windows_least : HasSettings
-  (codes "windows" ∷ codes "S" ∷ codes "Q" ∷ codes "1" ∷ codes "--apart" ∷ codes "512" ∷ [])
-  (Windows (codes "S") (codes "Q") 1 (record absent { apart = 512 }))
+    (codes "windows" ∷ codes "S" ∷ codes "Q" ∷ codes "1" ∷ codes "--apart" ∷ codes "512" ∷ [])
+    (Windows (codes "S") (codes "Q") 1 (record absent { apart = 512 }))
 unfolding clap_on_literals app_for faults_of rows_of_words
 windows_least = record {
   named = refl;
