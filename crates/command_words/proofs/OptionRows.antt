@@ -185,3 +185,11 @@ other_forms : map (λ o. faults_of name.Nearest (nearest (o ∷ [])))
     ≡ replicate 8 (kind.UnknownArgument ∷ [])
 unfolding clap_on_literals app_for faults_of
 other_forms = refl
+
+-- `--apart` of `windows` is refused twice, and without a value
+apart_misused :
+    (faults_of name.Windows (windows (codes "--apart=2" ∷ codes "--apart" ∷ codes "2" ∷ []))
+    ≡ kind.ArgumentConflict ∷ [])
+    × (faults_of name.Windows (windows (codes "--apart" ∷ [])) ≡ kind.InvalidValue ∷ [])
+unfolding clap_on_literals app_for faults_of
+apart_misused = (refl, refl)

@@ -1,8 +1,10 @@
 -- Rows of words that have settings, each written out: values for absence, limits and odd names.
-use Rattle.std.proofs.Common.{[], ◌∷◌, Some, None, arith, codes, false, refl, true}
+use Rattle.std.proofs.Common.{◌≡◌, List, [], ◌∷◌, Some, None, arith, codes, false, refl, true}
+use Rattle.clap.specs.Words.{Row, first_of}
 use Rattle.clap.proofs.OnLiterals.{clap_on_literals}
 use Rattle.breakpoints.specs.declared.table.Table.TheVariants.{Flat, Bent}
 use Rattle.command_words.specs.CommandName.{app_for, faults_of, rows_of_words}
+use Rattle.command_words.specs.Options.{HasOptions, is_set, number_if, number_or, table_named}
 use Rattle.command_words.specs.Settings.{HasSettings}
 use Rattle.command_words.specs.declared.command.Command.TheVariants.{Nearest, Range, Trial, Windows}
 use Rattle.command_words.specs.declared.options.Options.{Options}
@@ -43,6 +45,34 @@ greatest = record {
 abbrev least : Options
 least = record absent { segments = Some 1; leaf = 1; workers = 1; queues = 1; raw = Some 1 }
 
+-- what `HasOptions` says, with its eleven facts in one row
+with_options : (rows : List Row) (o : Options)
+    → (number_or 1 1024 1 (first_of (codes "k") rows) ≡ Some o.k)
+    × (number_if 1 16 (first_of (codes "segments") rows) ≡ Some o.segments)
+    × (number_or 1 65535 1000 (first_of (codes "leaf") rows) ≡ Some o.leaf)
+    × (number_or 1 64 4 (first_of (codes "workers") rows) ≡ Some o.workers)
+    × (number_or 1 64 2 (first_of (codes "queues") rows) ≡ Some o.queues)
+    × (table_named (first_of (codes "breaks") rows) ≡ Some o.table)
+    × (number_if 1 65536 (first_of (codes "raw") rows) ≡ Some o.raw)
+    × (is_set (first_of (codes "certificate") rows) ≡ o.certificate)
+    × (is_set (first_of (codes "sealed") rows) ≡ o.sealed)
+    × (first_of (codes "index") rows ≡ o.index)
+    × (number_or 1 512 1 (first_of (codes "apart") rows) ≡ Some o.apart)
+    → HasOptions rows o
+with_options rows o h = record {
+  k = h.0;
+  segments = h.1;
+  leaf = h.2;
+  workers = h.3;
+  queues = h.4;
+  table = h.5;
+  raw = h.6;
+  certificate = h.7;
+  sealed = h.8;
+  index = h.9;
+  apart = h.10;
+}
+
 -- `nearest A Q` has every value for absence
 nearest_alone : HasSettings (codes "nearest" ∷ codes "A" ∷ codes "Q" ∷ [])
     (Nearest (codes "A") (codes "Q") absent)
@@ -52,19 +82,8 @@ nearest_alone = record {
   taken = refl;
   fits = record {
     words = (refl, refl, refl);
-    options = record {
-      k = refl;
-      segments = refl;
-      leaf = refl;
-      workers = refl;
-      queues = refl;
-      table = refl;
-      raw = refl;
-      certificate = refl;
-      sealed = refl;
-      index = refl;
-      apart = refl;
-    };
+    options = with_options _ _
+        (refl, refl, refl, refl, refl, refl, refl, refl, refl, refl, refl);
   };
 }
 
@@ -80,19 +99,8 @@ nearest_least = record {
   taken = refl;
   fits = record {
     words = (refl, refl, refl);
-    options = record {
-      k = refl;
-      segments = refl;
-      leaf = refl;
-      workers = refl;
-      queues = refl;
-      table = refl;
-      raw = refl;
-      certificate = refl;
-      sealed = refl;
-      index = refl;
-      apart = refl;
-    };
+    options = with_options _ _
+        (refl, refl, refl, refl, refl, refl, refl, refl, refl, refl, refl);
   };
 }
 
@@ -109,19 +117,8 @@ nearest_greatest = record {
   taken = refl;
   fits = record {
     words = (refl, refl, refl);
-    options = record {
-      k = refl;
-      segments = refl;
-      leaf = refl;
-      workers = refl;
-      queues = refl;
-      table = refl;
-      raw = refl;
-      certificate = refl;
-      sealed = refl;
-      index = refl;
-      apart = refl;
-    };
+    options = with_options _ _
+        (refl, refl, refl, refl, refl, refl, refl, refl, refl, refl, refl);
   };
 }
 
@@ -137,19 +134,8 @@ nearest_by_index = record {
   taken = refl;
   fits = record {
     words = (refl, refl, refl);
-    options = record {
-      k = refl;
-      segments = refl;
-      leaf = refl;
-      workers = refl;
-      queues = refl;
-      table = refl;
-      raw = refl;
-      certificate = refl;
-      sealed = refl;
-      index = refl;
-      apart = refl;
-    };
+    options = with_options _ _
+        (refl, refl, refl, refl, refl, refl, refl, refl, refl, refl, refl);
   };
 }
 
@@ -163,19 +149,8 @@ nearest_by_odd_names = record {
   taken = refl;
   fits = record {
     words = (refl, refl, refl);
-    options = record {
-      k = refl;
-      segments = refl;
-      leaf = refl;
-      workers = refl;
-      queues = refl;
-      table = refl;
-      raw = refl;
-      certificate = refl;
-      sealed = refl;
-      index = refl;
-      apart = refl;
-    };
+    options = with_options _ _
+        (refl, refl, refl, refl, refl, refl, refl, refl, refl, refl, refl);
   };
 }
 
@@ -189,19 +164,8 @@ range_greatest = record {
   taken = refl;
   fits = record {
     words = (refl, refl, refl);
-    options = record {
-      k = refl;
-      segments = refl;
-      leaf = refl;
-      workers = refl;
-      queues = refl;
-      table = refl;
-      raw = refl;
-      certificate = refl;
-      sealed = refl;
-      index = refl;
-      apart = refl;
-    };
+    options = with_options _ _
+        (refl, refl, refl, refl, refl, refl, refl, refl, refl, refl, refl);
   };
 }
 
@@ -216,19 +180,8 @@ trial_greatest = record {
   taken = refl;
   fits = record {
     words = (refl, refl, refl, refl, omega arith);
-    options = record {
-      k = refl;
-      segments = refl;
-      leaf = refl;
-      workers = refl;
-      queues = refl;
-      table = refl;
-      raw = refl;
-      certificate = refl;
-      sealed = refl;
-      index = refl;
-      apart = refl;
-    };
+    options = with_options _ _
+        (refl, refl, refl, refl, refl, refl, refl, refl, refl, refl, refl);
   };
 }
 
@@ -242,19 +195,8 @@ trial_least = record {
   taken = refl;
   fits = record {
     words = (refl, refl, refl, refl, omega arith);
-    options = record {
-      k = refl;
-      segments = refl;
-      leaf = refl;
-      workers = refl;
-      queues = refl;
-      table = refl;
-      raw = refl;
-      certificate = refl;
-      sealed = refl;
-      index = refl;
-      apart = refl;
-    };
+    options = with_options _ _
+        (refl, refl, refl, refl, refl, refl, refl, refl, refl, refl, refl);
   };
 }
 
@@ -269,19 +211,8 @@ windows_greatest = record {
   taken = refl;
   fits = record {
     words = (refl, refl, refl, omega arith);
-    options = record {
-      k = refl;
-      segments = refl;
-      leaf = refl;
-      workers = refl;
-      queues = refl;
-      table = refl;
-      raw = refl;
-      certificate = refl;
-      sealed = refl;
-      index = refl;
-      apart = refl;
-    };
+    options = with_options _ _
+        (refl, refl, refl, refl, refl, refl, refl, refl, refl, refl, refl);
   };
 }
 
@@ -295,18 +226,7 @@ windows_least = record {
   taken = refl;
   fits = record {
     words = (refl, refl, refl, omega arith);
-    options = record {
-      k = refl;
-      segments = refl;
-      leaf = refl;
-      workers = refl;
-      queues = refl;
-      table = refl;
-      raw = refl;
-      certificate = refl;
-      sealed = refl;
-      index = refl;
-      apart = refl;
-    };
+    options = with_options _ _
+        (refl, refl, refl, refl, refl, refl, refl, refl, refl, refl, refl);
   };
 }
