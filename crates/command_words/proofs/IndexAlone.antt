@@ -9,7 +9,8 @@ use Rattle.command_words.specs.Options.{HasOptions, is_set}
 use Rattle.command_words.specs.Settings.{Fits, has_stray_option, name_of, options_of}
 use Rattle.command_words.specs.declared.command.Command.{Command}
 use Rattle.command_words.specs.declared.command.Command.TheVariants.{Nearest, Range, Verify, Trial}
-use Rattle.command_words.specs.declared.command.Command.TheVariants.{Convert, Save, Windows, Discord}
+use Rattle.command_words.specs.declared.command.Command.TheVariants.{Convert, Save}
+use Rattle.command_words.specs.declared.command.Command.TheVariants.{Windows, Discord}
 use Rattle.command_words.specs.declared.options.Options.{Options}
 use Rattle.command_words.proofs.Absent.{flat_unnamed, no_number, number_absent}
 

@@ -8,3 +8,8 @@ pub mod Absent
 pub mod IndexAlone
 pub mod Within
 pub mod OneSettings
+pub mod NoSettings
+mod Rows
+mod OptionRows
+mod LimitRows
+mod TakenRows

@@ -1,4 +1,4 @@
--- Words have the settings that the command which their first word names reads from them, and no others.
+-- Words have the settings that the command named by the first word reads from them, and no others.
 use Rattle.std.proofs.Common.{◌≡◌, ◌∙◌, List, [], Some, ap, sym, subst, option_and_then}
 use Rattle.std.specs.Prelude.{slice_get}
 use Rattle.clap.specs.Words.{Row, Text}

@@ -6,7 +6,8 @@ use Rattle.command_words.specs.Options.{HasOptions}
 use Rattle.command_words.specs.Settings.{Fits, HasSettings, name_of}
 use Rattle.command_words.specs.declared.command.Command.{Command}
 use Rattle.command_words.specs.declared.command.Command.TheVariants.{Nearest, Range, Verify, Trial}
-use Rattle.command_words.specs.declared.command.Command.TheVariants.{Convert, Save, Windows, Discord}
+use Rattle.command_words.specs.declared.command.Command.TheVariants.{Convert, Save}
+use Rattle.command_words.specs.declared.command.Command.TheVariants.{Windows, Discord}
 use Rattle.command_words.specs.declared.options.Options.{Options}
 use Rattle.command_words.proofs.Names.{name_is_found}
 

@@ -43,12 +43,14 @@ module _ (id : Text) where
   at_row_lacks key change missing [] keeps m p = m
   at_row_lacks key change missing (r ∷ rs) keeps m p =
       let parts = neither (bytes_eq r.id id) (has_row id rs) p in
-      let rest : Lacks (at_row key change missing rs) = at_row_lacks key change missing rs keeps m parts.1 in
+      let rest : Lacks (at_row key change missing rs) =
+      at_row_lacks key change missing rs keeps m parts.1 in
       either Lacks (bytes_eq r.id key) (change r ++ rs) (r ∷ at_row key change missing rs)
       (lacks_both (change r) rs (keeps r parts.0) parts.1) (rw parts.0 rest)
 
   -- values for another id leave it lacking
-  values_lacks : (key : Text) (how : Reading) (s : ValueSource) (values : List Text) (rows : List Row)
+  values_lacks : (key : Text) (how : Reading) (s : ValueSource) (values : List Text)
+      (rows : List Row)
       → bytes_eq key id ≡ false → Lacks rows → Lacks (with_values key how s values rows)
   values_lacks key how s values rows other p =
       at_row_lacks key (more_values s values) _ rows (λ r e. rw e refl) (rw other refl) p
@@ -67,12 +69,14 @@ module _ (id : Text) where
   counted_lacks : (key : Text) (how : Reading) (values : List Text) (rows : List Row)
       → bytes_eq key id ≡ false → Lacks rows → Lacks (counted key how values rows)
   counted_lacks key how [] rows other p =
-      count_lacks key how CommandLine (min (count_of key rows + 1) 255) (without key rows) other (without_lacks key rows p)
+      count_lacks key how CommandLine (min (count_of key rows + 1) 255) (without key rows) other
+      (without_lacks key rows p)
   counted_lacks key how (v ∷ vs) rows other p =
       values_lacks key how CommandLine (v ∷ vs) (without key rows) other (without_lacks key rows p)
 
   -- an argument of another id that is used in any way leaves it lacking
-  used_as_lacks : (x : ArgAction) (key : Text) (how : Reading) (values : List Text) (rows : List Row)
+  used_as_lacks : (x : ArgAction) (key : Text) (how : Reading) (values : List Text)
+      (rows : List Row)
       → bytes_eq key id ≡ false → Lacks rows → Lacks (used_as x key how values rows)
   used_as_lacks Set key how values rows other p =
       values_lacks key how CommandLine values (without key rows) other (without_lacks key rows p)
@@ -80,12 +84,14 @@ module _ (id : Text) where
       values_lacks key how CommandLine values (without key rows) other (without_lacks key rows p)
   used_as_lacks SetFalse key how values rows other p =
       values_lacks key how CommandLine values (without key rows) other (without_lacks key rows p)
-  used_as_lacks Append key how values rows other p = values_lacks key how CommandLine values rows other p
+  used_as_lacks Append key how values rows other p =
+      values_lacks key how CommandLine values rows other p
   used_as_lacks Count key how values rows other p = counted_lacks key how values rows other p
   used_as_lacks _ key how values rows other p = p
 
   -- an argument of another id that is used leaves it lacking
-  pub used_lacks : (a : Rule) (values : List Text) (rows : List Row) → bytes_eq a.id id ≡ false → Lacks rows
+  pub used_lacks : (a : Rule) (values : List Text) (rows : List Row) → bytes_eq a.id id ≡ false
+      → Lacks rows
       → Lacks (used a values rows)
   used_lacks a values rows other p =
       used_as_lacks (action_of a) a.id (reading_by a) (values_or_missing a values) rows other p
@@ -103,20 +109,24 @@ module _ (id : Text) where
   Other (Some a) = bytes_eq a.id id ≡ false
 
   -- a rule that is found has another id where all have
-  pub find_other : (q : Rule → Bool) (rules : List Rule) → list_any (λ a. bytes_eq a.id id) rules ≡ false → Other (find q rules)
+  pub find_other : (q : Rule → Bool) (rules : List Rule)
+      → list_any (λ a. bytes_eq a.id id) rules ≡ false → Other (find q rules)
   find_other q [] e = tt
   find_other q (a ∷ rest) e =
       let parts = neither (bytes_eq a.id id) (list_any (λ b. bytes_eq b.id id) rest) e in
       either Other (q a) (Some a) (find q rest) parts.0 (find_other q rest parts.1)
 
   -- a default of another id leaves it lacking
-  default_lacks : (a : Rule) (values : List Text) (rows : List Row) → bytes_eq a.id id ≡ false → Lacks rows
+  default_lacks : (a : Rule) (values : List Text) (rows : List Row) → bytes_eq a.id id ≡ false
+      → Lacks rows
       → Lacks (default_rows a.id (reading_by a) values rows)
   default_lacks a [] rows other p = p
-  default_lacks a (v ∷ vs) rows other p = values_lacks a.id (reading_by a) DefaultValue (v ∷ vs) rows other p
+  default_lacks a (v ∷ vs) rows other p =
+      values_lacks a.id (reading_by a) DefaultValue (v ∷ vs) rows other p
 
   -- the defaults of arguments of other ids leave it lacking
-  pub defaults_lack : (rules : List Rule) (rows : List Row) → list_any (λ a. bytes_eq a.id id) rules ≡ false → Lacks rows
+  pub defaults_lack : (rules : List Rule) (rows : List Row)
+      → list_any (λ a. bytes_eq a.id id) rules ≡ false → Lacks rows
       → Lacks (fold with_default rows rules)
   defaults_lack [] rows e p = p
   defaults_lack (a ∷ rest) rows e p =

@@ -9,7 +9,8 @@ use Rattle.command_words.specs.Options.{HasOptions, number_at, number_if, number
 use Rattle.command_words.specs.Settings.{Fits, HasWords, options_of}
 use Rattle.command_words.specs.declared.command.Command.{Command}
 use Rattle.command_words.specs.declared.command.Command.TheVariants.{Nearest, Range, Verify, Trial}
-use Rattle.command_words.specs.declared.command.Command.TheVariants.{Convert, Save, Windows, Discord}
+use Rattle.command_words.specs.declared.command.Command.TheVariants.{Convert, Save}
+use Rattle.command_words.specs.declared.command.Command.TheVariants.{Windows, Discord}
 use Rattle.command_words.specs.declared.options.Options.{Options}
 
 -- a number that was read is within its limits

@@ -19,8 +19,8 @@ pub record HoldsAbsence (name : CommandName) (o : Options) : Type 0 where
   pub index : has_argument name (codes "index") ≡ false → o.index ≡ None
   pub apart : has_argument name (codes "apart") ≡ false → o.apart ≡ 1
 
--- where an index is named, the options that a saved index has settled hold their values for absence,
--- and no certificate is asked for
+-- where an index is named, the options that a saved index has settled hold their values for
+-- absence, and no certificate is asked for
 abbrev pub IndexStandsAlone : Options → Type 0
 IndexStandsAlone o = IfSome o.index (λ _. (o.segments ≡ None) × (o.leaf ≡ 1000)
     × (o.table ≡ Flat) × (o.certificate ≡ false))

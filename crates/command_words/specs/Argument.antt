@@ -1,4 +1,4 @@
--- A command as a list of its arguments, and what `clap` reads of it. No argument has a rule on another.
+-- A command as a list of its arguments, as `clap` reads it. No argument has a rule on another.
 use Rattle.std.specs.Prelude.{true, List, [], Some, map}
 use Rattle.clap.specs.Words.{App, Rule, Text, new_rule}
 use Rattle.clap.specs.Simple.{new_shape}

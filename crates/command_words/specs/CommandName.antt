@@ -1,4 +1,4 @@
--- The names of the commands, the arguments of each, and what `clap` finds in words read by one of them.
+-- The names of the commands, the arguments of each, and what `clap` finds in words by one of them.
 use Rattle.std.specs.Prelude.{Bool, List, [], ◌∷◌, Option, Some, None, codes, if◌then◌else◌}
 use Rattle.std.specs.List.{list_any}
 use Rattle.std.specs.Str.{bytes_eq}
@@ -6,7 +6,8 @@ use Rattle.clap.specs.Words.{App, Kinds, Row, Rule, Text, fault_of, matches_of}
 use Rattle.command_words.specs.Argument.{app_with, flag, positional, valued}
 use Rattle.command_words.specs.declared.name.CommandName.{CommandName}
 use Rattle.command_words.specs.declared.name.CommandName.TheVariants.{Nearest, Range, Verify, Trial}
-use Rattle.command_words.specs.declared.name.CommandName.TheVariants.{Convert, Save, Windows, Discord}
+use Rattle.command_words.specs.declared.name.CommandName.TheVariants.{Convert, Save}
+use Rattle.command_words.specs.declared.name.CommandName.TheVariants.{Windows, Discord}
 
 -- the word that names a command
 abbrev pub text_of : CommandName → Text

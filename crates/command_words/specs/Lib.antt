@@ -1,4 +1,4 @@
--- What a command line is, from the spelling of a number to the settings that the words have, and the
+-- What a command line is, from the spelling of a number to the settings that words have, and the
 -- definitions of the crates below that the public clauses cite.
 pub mod Number
 pub mod Argument

@@ -3,8 +3,8 @@ use Rattle.std.specs.Prelude.{◌*◌, ◌≤◌, IfSome, ℕ}
 use Rattle.command_words.specs.Options.{windows_needed}
 use Rattle.command_words.specs.Settings.{options_of}
 use Rattle.command_words.specs.declared.command.Command.{Command}
-use Rattle.command_words.specs.declared.command.Command.TheVariants.{Nearest, Range, Verify, Trial}
-use Rattle.command_words.specs.declared.command.Command.TheVariants.{Convert, Save, Windows, Discord}
+use Rattle.command_words.specs.declared.command.Command.TheVariants.{Range, Trial}
+use Rattle.command_words.specs.declared.command.Command.TheVariants.{Windows}
 use Rattle.command_words.specs.declared.options.Options.{Options}
 
 -- the number lies from `least` to `most`
@@ -21,7 +21,7 @@ pub record OptionsKeepLimits (o : Options) : Type 0 where
   pub raw : IfSome o.raw (IsWithin 1 65536)
   pub apart : IsWithin 1 512 o.apart
 
--- each number that stands before the options is within its limits, and so is what the command asks for
+-- each number before the options is within its limits, and so is what the command asks for in all
 abbrev pub WordsKeepLimits : Command → Type 0
 WordsKeepLimits (Range series queries radius o) = radius ≤ 281474976710656
 WordsKeepLimits (Trial seed count length queries o) = (count ≤ 16777216)

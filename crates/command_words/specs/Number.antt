@@ -1,4 +1,4 @@
--- How a number is spelled on a command line: plainly, with no sign, leading zero, space or separator.
+-- How a number is spelled on a command line: with no sign, leading zero, space or separator.
 use Rattle.std.specs.Prelude.{ℕ, Bool, false, List, [], ◌∷◌, length, Option, Some, None}
 use Rattle.std.specs.Prelude.{◌==◌, ◌&&◌, if◌then◌else◌, nat_le}
 use Rattle.std.specs.Char.{is_ascii_digit}

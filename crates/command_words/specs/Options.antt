@@ -53,7 +53,7 @@ pub record HasOptions (rows : List Row) (o : Options) : Type 0 where
   pub index : first_of (codes "index") rows ≡ o.index
   pub apart : number_or 1 512 1 (first_of (codes "apart") rows) ≡ Some o.apart
 
--- how many of the nearest windows are needed so that k of them that lie `apart` or more from one another
--- are among them: each chosen window shuts out at most `2 * apart - 1` numbers, its own among them
+-- how many of the nearest windows are needed so that k of them that lie `apart` or more from one
+-- another are among them: a chosen window shuts out at most `2 * apart - 1` numbers, with its own
 abbrev pub windows_needed : Options → ℕ
 windows_needed o = (o.k - 1) * (2 * o.apart - 1) + 1

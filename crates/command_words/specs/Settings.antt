@@ -1,4 +1,4 @@
--- The settings that words have: the command that the first one names, and what the words after it say.
+-- The settings that words have: the command that the first names, and what the words after it say.
 use Rattle.std.specs.Prelude.{◌≡◌, ◌*◌, ◌≤◌, ◌&&◌, ◌||◌, ℕ, Bool, false, is_some}
 use Rattle.std.specs.Prelude.{List, [], Some, codes, slice_get}
 use Rattle.clap.specs.Words.{Row, Text, first_of}
@@ -6,7 +6,8 @@ use Rattle.command_words.specs.CommandName.{faults_of, rows_of_words, text_of}
 use Rattle.command_words.specs.Options.{HasOptions, is_set, number_at, windows_needed}
 use Rattle.command_words.specs.declared.command.Command.{Command}
 use Rattle.command_words.specs.declared.command.Command.TheVariants.{Nearest, Range, Verify, Trial}
-use Rattle.command_words.specs.declared.command.Command.TheVariants.{Convert, Save, Windows, Discord}
+use Rattle.command_words.specs.declared.command.Command.TheVariants.{Convert, Save}
+use Rattle.command_words.specs.declared.command.Command.TheVariants.{Windows, Discord}
 use Rattle.command_words.specs.declared.name.CommandName.{CommandName}
 use Rattle.command_words.specs.declared.name.CommandName.TheVariants as name
 use Rattle.command_words.specs.declared.options.Options.{Options}
@@ -41,7 +42,7 @@ HasText place rows text = first_of place rows ≡ Some text
 abbrev pub HasNumber : Text → ℕ → ℕ → List Row → ℕ → Type 0
 HasNumber place least most rows n = number_at least most (first_of place rows) ≡ Some n
 
--- whether an index is named beside an option that a saved index has settled, or beside `--certificate`
+-- whether an index is named beside an option that a saved index has settled, or `--certificate`
 abbrev pub has_stray_option : List Row → Bool
 has_stray_option rows = is_some (first_of (codes "index") rows)
     && (is_some (first_of (codes "segments") rows) || (is_some (first_of (codes "leaf") rows)

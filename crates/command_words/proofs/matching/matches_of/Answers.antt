@@ -18,7 +18,9 @@ unfolding rows_of_words
 returns-in-Ok-clause-matches c =
     let same = c.in_ok-command.ensures in
     let words = map string_bytes c.args.words.now in
-    (c.in-Ok.ensures.matches (is_simple_of_free (app_of c.in_ok-command.command) (ap is_simple_and_free same ∙ is_simple_app c.args.name))).0
+    (c.in-Ok.ensures.matches
+    (is_simple_of_free (app_of c.in_ok-command.command)
+    (ap is_simple_and_free same ∙ is_simple_app c.args.name))).0
     ∙ ap (λ (a : App). matches_of a words) same
 
 pub returns : goal.returns
@@ -31,5 +33,6 @@ returns c =
       taken = tt;
       matches = tt;
       usage = λ _ none.
-          no_fault_no_refusal _ c.in-Err.error kinds (search rules) (ap (λ (a : App). fault_of a words) same ∙ none);
+          no_fault_no_refusal _ c.in-Err.error kinds (search rules)
+          (ap (λ (a : App). fault_of a words) same ∙ none);
     }

@@ -5,4 +5,5 @@ use Rattle.command_words.proofs.Within.{options_within}
 use Rattle.command_words.proofs.options.options_of.Goals as goal
 
 pub returns-clause-limits : goal.returns-clause-limits
-returns-clause-limits c = IfOk-weaker c.ok_or.result _ _ (options_within (rows c.args.matches.now)) (search rules)
+returns-clause-limits c =
+    IfOk-weaker c.ok_or.result _ _ (options_within (rows c.args.matches.now)) (search rules)

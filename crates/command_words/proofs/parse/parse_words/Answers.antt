@@ -14,7 +14,8 @@ use Rattle.command_words.proofs.parse.parse_words.Goals as goal
 pub returns-clause-ok : goal.returns-clause-ok
 returns-clause-ok c =
     let words = map string_bytes c.args.words.now in
-    let found : option_and_then named_by (slice_get words 0) ≡ Some c.in_ok-name.name = search rules in
+    let found : option_and_then named_by (slice_get words 0) ≡ Some c.in_ok-name.name =
+    search rules in
     let none = c.in_ok-matches.ensures.taken in
     let same = c.in_ok-matches.ensures.matches in
     IfOk-weaker c.command_given.result _ _
@@ -24,8 +25,10 @@ returns-clause-ok c =
 pub returns-in_err-matches-clause-usage : goal.returns-in_err-matches-clause-usage
 returns-in_err-matches-clause-usage c = λ usage given h.
     let words = map string_bytes c.args.words.now in
-    let found : option_and_then named_by (slice_get words 0) ≡ Some c.in_ok-name.name = search rules in
-    refused_words words c.in_ok-name.name found (c.in_err-matches.ensures.usage (search rules)) given h
+    let found : option_and_then named_by (slice_get words 0) ≡ Some c.in_ok-name.name =
+    search rules in
+    refused_words words c.in_ok-name.name found
+    (c.in_err-matches.ensures.usage (search rules)) given h
 
 pub returns-clause-limits : goal.returns-clause-limits
 returns-clause-limits c =
