@@ -1,0 +1,6 @@
+//! Want of memory.
+#![tactic(auto)]
+
+/// There was no memory.
+#[derive(Clone, Copy, Debug)]
+pub struct NoMemory;
