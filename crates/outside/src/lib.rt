@@ -1,20 +1,23 @@
-//! Want of memory.
+//! The outside as the search sees it: files to read, sinks to write, and a gate before each turn of a worker.
+//! Each is a trait whose ghost members say what is there; the forms in memory are for tests and for proofs.
 #![tactic(auto)]
 
-use std::alloc::{AllocError, AllocFailed};
+mod counts;
+mod faults;
+mod files;
+mod gate;
+mod held_files;
+mod mem_files;
+mod mem_sink;
+mod reading;
+mod sink;
+mod writing;
 
-/// There was no memory.
-#[derive(Clone, Copy, Debug)]
-pub struct NoMemory;
-
-impl From<AllocError> for NoMemory {
-    fn from(_: AllocError) -> NoMemory {
-        NoMemory
-    }
-}
-
-impl<T: Drop> From<AllocFailed<T>> for NoMemory {
-    fn from(_: AllocFailed<T>) -> NoMemory {
-        NoMemory
-    }
-}
+pub use faults::{AllError, Failed, NoMemory, OpenFault};
+pub use files::Files;
+pub use gate::{Gate, NoGate};
+pub use mem_files::MemFiles;
+pub use mem_sink::MemSink;
+pub use reading::read_all;
+pub use sink::Sink;
+pub use writing::write_whole;

@@ -1,0 +1,3 @@
+mod Gathering
+mod HeldLists
+mod Progress

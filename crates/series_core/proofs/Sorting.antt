@@ -1,0 +1,75 @@
+-- Lists put into ascending order, and their k smallest pairs: what a change of the list changes in them.
+use Rattle.std.proofs.Common.{◌≡◌, ℕ, zero, suc, ◌+◌, ◌≤◌, ◌<◌, ◌⊎◌, List, [], ◌∷◌, ◌++◌, length, take, drop, true, false, cond, refl, sym, ap, ◌∙◌, subst, inl, inr, ⊎_elim, arith, append_assoc}
+use Rattle.std.proofs.lemmas.Bool.{cond_both, cases_Bool, cond-true, cond-false}
+use Rattle.series_core.specs.Pairs.{is_before, insert, ascending, smallest}
+use Rattle.series_core.specs.declared.pair.Pair.{Pair}
+use Rattle.series_core.proofs.Order.{before_self, not_after, before_trans, not_before_trans, before_not_after, same_pair}
+
+-- no pair of the list is smaller than p
+abbrev pub NoneBefore : Pair → List Pair → Type 0
+NoneBefore p [] = Unit {0}
+NoneBefore p (q ∷ qs) = (is_before q p ≡ false) × NoneBefore p qs
+
+-- no pair is followed by a smaller one
+abbrev pub IsSorted : List Pair → Type 0
+IsSorted [] = Unit {0}
+IsSorted (p ∷ ps) = NoneBefore p ps × IsSorted ps
+
+-- p goes to the front of a list that begins with no smaller pair
+pub insert_front : (p q : Pair) (qs : List Pair) → is_before q p ≡ false → insert p (q ∷ qs) ≡ p ∷ q ∷ qs
+insert_front p q qs h = cond-false (is_before q p) (q ∷ insert p qs) (p ∷ q ∷ qs) h
+
+-- p goes behind a smaller first pair
+pub insert_behind : (p q : Pair) (qs : List Pair) → is_before q p ≡ true → insert p (q ∷ qs) ≡ q ∷ insert p qs
+insert_behind p q qs h = cond-true (is_before q p) (q ∷ insert p qs) (p ∷ q ∷ qs) h
+
+-- what has no smaller pair in a list has none before a pair that is not smaller
+none_before_trans : (p q : Pair) (qs : List Pair) → is_before q p ≡ false → NoneBefore q qs → NoneBefore p qs
+none_before_trans p q [] h n = tt
+none_before_trans p q (r ∷ rs) h n = (not_before_trans p q r h n.0, none_before_trans p q rs h n.1)
+
+-- a pair that is not smaller may be inserted
+none_before_insert : (p x : Pair) (qs : List Pair) → is_before x p ≡ false → NoneBefore p qs → NoneBefore p (insert x qs)
+none_before_insert p x [] h n = (h, tt)
+none_before_insert p x (q ∷ qs) h n =
+    cond_both (is_before q x) (q ∷ insert x qs) (x ∷ q ∷ qs) (NoneBefore p)
+    (λ _. (n.0, none_before_insert p x qs h n.1))
+    (λ _. (h, n))
+
+-- an insert keeps a list in order
+pub sorted_insert : (x : Pair) (qs : List Pair) → IsSorted qs → IsSorted (insert x qs)
+sorted_insert x [] s = (tt, tt)
+sorted_insert x (q ∷ qs) s =
+    cond_both (is_before q x) (q ∷ insert x qs) (x ∷ q ∷ qs) IsSorted
+    (λ before. (none_before_insert q x qs (not_after q x before) s.0, sorted_insert x qs s.1))
+    (λ not. ((not, none_before_trans x q qs not s.0), s))
+
+-- the pairs in ascending order are in order
+pub sorted_ascending : (ps : List Pair) → IsSorted (ascending ps)
+sorted_ascending [] = tt
+sorted_ascending (p ∷ ps) = sorted_insert p (ascending ps) (sorted_ascending ps)
+
+-- p goes to the front where no pair is smaller
+pub insert_first : (p : Pair) (qs : List Pair) → NoneBefore p qs → insert p qs ≡ p ∷ qs
+insert_first p [] n = refl
+insert_first p (q ∷ qs) n = insert_front p q qs n.0
+
+-- a list in order is its own ascending order
+pub ascending_sorted : (ps : List Pair) → IsSorted ps → ascending ps ≡ ps
+ascending_sorted [] s = refl
+ascending_sorted (p ∷ ps) s = ap (insert p) (ascending_sorted ps s.1) ∙ insert_first p ps s.0
+
+-- the first n of a list in order
+none_before_take : (n : ℕ) (p : Pair) (qs : List Pair) → NoneBefore p qs → NoneBefore p (take n qs)
+none_before_take zero p qs n = tt
+none_before_take (suc k) p [] n = tt
+none_before_take (suc k) p (q ∷ qs) n = (n.0, none_before_take k p qs n.1)
+
+pub sorted_take : (n : ℕ) (qs : List Pair) → IsSorted qs → IsSorted (take n qs)
+sorted_take zero qs s = tt
+sorted_take (suc n) [] s = tt
+sorted_take (suc n) (q ∷ qs) s = (none_before_take n q qs s.0, sorted_take n qs s.1)
+
+-- the k smallest are in order
+pub ascending_smallest : (k : ℕ) (ps : List Pair) → ascending (smallest k ps) ≡ smallest k ps
+ascending_smallest k ps = ascending_sorted (smallest k ps) (sorted_take k (ascending ps) (sorted_ascending ps))

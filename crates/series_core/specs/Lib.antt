@@ -1,0 +1,6 @@
+-- What a search speaks of, from one series to a whole answer.
+pub mod Collection
+pub mod Distance
+pub mod Pairs
+pub mod Answer
+pub mod Flat
