@@ -1,1 +1,10 @@
 pub mod RowsOf
+pub mod Order
+pub mod Sorting
+pub mod Smallest
+pub mod Parts
+pub mod Tallies
+pub mod Ranks
+pub mod Plain
+pub mod Room
+pub mod Limits

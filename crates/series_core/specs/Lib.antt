@@ -2,5 +2,7 @@
 pub mod Collection
 pub mod Distance
 pub mod Pairs
+pub mod Order
 pub mod Answer
 pub mod Flat
+pub mod Best

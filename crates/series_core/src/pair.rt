@@ -14,6 +14,17 @@ pub struct Pair {
     pub number: u32,
 }
 
+impl Pair {
+    ghost use Rattle.series_core.specs.Pairs.{is_before};
+
+    /// Whether this pair comes before the other: it is nearer, or as near with a smaller number.
+    pub fn is_before(&self, other: &Pair) -> bool
+        ensures { result ≡ is_before self.now other.now }
+    {
+        self < other
+    }
+}
+
 /// A list of pairs.
 #[derive(Drop, Debug)]
 pub struct PairList {
