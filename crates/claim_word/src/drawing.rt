@@ -43,17 +43,13 @@ impl Claims {
         ensures callers { IfOk result (λ r. r.0.callers ≡ callers) }
         ensures passes { IfOk result (λ r. r.1.items ≡ replicate callers (fresh_pass r.0)) }
     {
-        let Ok(mut passes) = Vec::with_capacity(alloc, callers as usize) else {
-            return Err(NoMemory);
-        };
+        let mut passes = Vec::with_capacity(alloc, callers as usize)?;
         let parts = u64::from(callers);
         let terms = Terms {
             count: n,
             callers: parts,
         };
-        let Ok((table, mut root)) = Counter::of_words(alloc, &[0], &terms) else {
-            return Err(NoMemory);
-        };
+        let (table, mut root) = Counter::of_words(alloc, &[0], &terms)?;
         for made in 0..parts {
             let seat = table.shared.split_seat::<Part>(&mut root);
             passes.push_reserved(ClaimPass::of(seat));

@@ -1,3 +1,4 @@
 -- Laws of totals.
 pub mod Totals
 pub mod Greatest
+pub mod Places

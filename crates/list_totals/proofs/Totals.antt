@@ -87,3 +87,7 @@ once_below_yes x n h = grind (arith, nat_tests)
 -- a number that counts at all is below n
 pub once_below_low : (x n : ℕ) → 0 < once_below x n → x < n
 once_below_low x n h = grind (arith, nat_tests)
+
+-- no number counts more than once
+pub once_below_most : (x n : ℕ) → once_below x n ≤ 1
+once_below_most x n = grind (arith, nat_tests)

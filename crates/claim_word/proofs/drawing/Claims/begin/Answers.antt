@@ -11,4 +11,4 @@ split_seat-seat-requires c =
     let parts = ap (λ (u : View). u.parts) v in
     let draws = ap (λ (u : View). u.draws) v in
     let ends = ap (λ (u : View). u.ends) v in
-    (inv.0, omega (arith, c.in-Ok-of_words.ensures.0), parts_off _ _ _ (omega arith) draws ends)
+    (inv.0, omega (arith, c.in_ok-table.ensures.0), parts_off _ _ _ (omega arith) draws ends)

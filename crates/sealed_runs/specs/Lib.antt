@@ -1,0 +1,7 @@
+-- What the contracts of sealed runs speak of.
+pub use Rattle.claim_word.specs.Passes
+pub use Rattle.list_totals.specs.Totals
+pub mod Entries
+pub mod Visits
+pub mod Popped
+pub mod Closed

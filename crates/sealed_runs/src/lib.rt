@@ -1,0 +1,9 @@
+//! Sealed runs: the entries of each queue in ascending order, which workers pop without a lock.
+//! Run m holds the entries of queue m and one counter, from which each pop draws the next place; `close` says which
+//! entries were taken and which limit was kept.
+#![tactic(auto)]
+
+mod pass;
+mod run;
+
+pub use pass::RunPass;
