@@ -73,9 +73,11 @@ handed_drawn v x drawn not_refused =
 pub drawn_handed : (v : Visit) (x : ℕ) → Contains (handed v) x → Contains v.claim.draws x × (v.refused ≢ Some x)
 drawn_handed v x there =
     let let_through = λ (y : ℕ). not (is_refused v.refused y) in
-    let found = filter_contains let_through v.claim.draws x there in
-    (found.0, λ (same : v.refused ≡ Some x).
-        true≢false (sym found.1 ∙ ap (λ r. not (is_refused r x)) same ∙ stops_same x))
+    let found = filter_contains let_through v.claim.draws x there in (
+      found.0,
+      λ (same : v.refused ≡ Some x).
+          true≢false (sym found.1 ∙ ap (λ r. not (is_refused r x)) same ∙ stops_same x),
+    )
 
 -- no place is handed out more often than it was drawn
 pub handed_times : (v : Visit) (x : ℕ) → times x (handed v) ≤ times x v.claim.draws
@@ -89,5 +91,5 @@ handed_times v x = fewer v.claim.draws
     fewer (y ∷ xs) =
         let rest = fewer xs in
         cond_both (not (is_refused v.refused y)) (y ∷ filter (λ y. not (is_refused v.refused y)) xs)
-            (filter (λ y. not (is_refused v.refused y)) xs) (λ ys. times x ys ≤ times x (y ∷ xs))
-            (λ _. omega arith) (λ _. omega arith)
+        (filter (λ y. not (is_refused v.refused y)) xs) (λ ys. times x ys ≤ times x (y ∷ xs))
+        (λ _. omega arith) (λ _. omega arith)

@@ -5,3 +5,5 @@ pub mod Popping
 pub mod Taking
 pub mod Limits
 pub mod Lines
+pub mod Tallying
+pub mod Columns

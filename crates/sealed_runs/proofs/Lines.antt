@@ -13,15 +13,10 @@ use Rattle.list_totals.proofs.Places.{total_some, total_two, times_at, times_con
 use Rattle.sealed_runs.specs.Entries.{Run, Before, IsAscending, no_entry, entry_at}
 use Rattle.sealed_runs.specs.Visits.{Visit, handed, leaves, IsVisit, no_visit}
 use Rattle.sealed_runs.specs.Closed.{Line, least_limit, IsLine}
+use Rattle.sealed_runs.specs.Tallied.{Refusals, reach_of, Takes}
 use Rattle.sealed_runs.proofs.Members.{contains_map, map_contains, in_or_not}
 use Rattle.sealed_runs.proofs.Handing.{handed_drawn, drawn_handed, handed_times}
-use Rattle.sealed_runs.proofs.Taking.{Takes}
 use Rattle.sealed_runs.proofs.Limits.{least_limit_at, above_least}
-
--- the places that some visit refused
-pub record Refusals (vs : List Visit) (refused : List ℕ) : Type 0 where
-  pub from : (x : ℕ) → Contains refused x → (k : ℕ) × (k < length vs) × ((get_or vs k no_visit).refused ≡ Some x)
-  pub all : (k x : ℕ) → k < length vs → (get_or vs k no_visit).refused ≡ Some x → Contains refused x
 
 -- an option that is not None has a value
 some_of : (o : Option ℕ) → o ≢ None → (n : ℕ) × (o ≡ Some n)
@@ -42,10 +37,6 @@ bounds_rise e f before = ⊎_elim (λ (less : e.bound < f.bound). omega arith) (
 -- a place is below another or not
 near_or_far : (x n : ℕ) → (x < n) ⊎ (n ≤ x)
 near_or_far x n = grind arith
-
--- how many places some pass of these visits knows drawn
-abbrev pub reach_of : List Visit → ℕ
-reach_of vs = greatest (λ (v : Visit). v.claim.met) vs
 
 module _ (run : Run) (vs : List Visit) (own : All (IsVisit run) vs) (some : 0 < length vs)
     (once : EachDrawnOnce (length run.entries) (map (λ (v : Visit). v.claim) vs))
@@ -80,11 +71,11 @@ module _ (run : Run) (vs : List Visit) (own : All (IsVisit run) vs) (some : 0 < 
       let all = drawn_times x in
       let most = once_below_most x once.drawn in
       ⊎_elim
-          (λ (less : i < j).
-              let two = total_two (λ (v : Visit). times x v.claim.draws) vs i j no_visit less j_in in omega arith)
-          (λ (more : j < i).
-              let two = total_two (λ (v : Visit). times x v.claim.draws) vs j i no_visit more i_in in omega arith)
-          (either i j differ)
+      (λ (less : i < j).
+      let two = total_two (λ (v : Visit). times x v.claim.draws) vs i j no_visit less j_in in omega arith)
+      (λ (more : j < i).
+      let two = total_two (λ (v : Visit). times x v.claim.draws) vs j i no_visit more i_in in omega arith)
+      (either i j differ)
     where
       either : (i j : ℕ) → i ≢ j → (i < j) ⊎ (j < i)
       either i j differ = grind arith
@@ -96,8 +87,8 @@ module _ (run : Run) (vs : List Visit) (own : All (IsVisit run) vs) (some : 0 < 
       let who = refusals.from x is in
       let theirs = (own who.0 no_visit who.1).refused x who.2 in
       dite (ℕ_discrete k who.0)
-          (λ (same : k ≡ who.0). mine.1 (subst (λ j. (visit j).refused ≡ Some x) (sym same) who.2))
-          (λ (differ : k ≢ who.0). apart k who.0 x in_list who.1 mine.0 theirs differ)
+      (λ (same : k ≡ who.0). mine.1 (subst (λ j. (visit j).refused ≡ Some x) (sym same) who.2))
+      (λ (differ : k ≢ who.0). apart k who.0 x in_list who.1 mine.0 theirs differ)
 
   -- the reach is at most what is drawn
   reach_low : reach_of vs ≤ once.drawn
@@ -138,7 +129,7 @@ module _ (run : Run) (vs : List Visit) (own : All (IsVisit run) vs) (some : 0 < 
   handed_once : (x : ℕ) → total (λ (v : Visit). times x (handed v)) vs ≤ 1
   handed_once x =
       let fewer = total_le (λ (v : Visit). times x (handed v)) (λ (v : Visit). times x v.claim.draws) vs
-          (λ j v at. handed_times v x) in
+      (λ j v at. handed_times v x) in
       let all = drawn_times x in
       let most = once_below_most x once.drawn in
       omega arith
@@ -159,17 +150,17 @@ module _ (run : Run) (vs : List Visit) (own : All (IsVisit run) vs) (some : 0 < 
       let v = own 0 no_visit some in
       let told = some_of (visit 0).closed (closed 0 no_visit some) in
       ⊎_elim
-          (λ (ended : (visit 0).claim.ended ≡ true).
-              let most = within 0 some in let all = v.ended ended in absurd (omega arith))
-          (λ (place : (visit 0).refused ≢ None).
-              let y = some_of (visit 0).refused place in
-              let least = least_limit_at vs 0 no_visit told.0 some told.1 in
-              let before = drawn_low 0 y.0 some (v.refused y.0 y.1) in
-              let bound = v.above y.0 told.0 y.1 told.1 in
-              let rises = bounds_rise (entry_at run.entries y.0) (entry_at run.entries x)
-                  (ascending y.0 x no_entry (omega arith) low) in
-              above_least (least_limit vs) told.0 (entry_at run.entries x).bound least (omega arith))
-          (v.shut told.0 told.1)
+      (λ (ended : (visit 0).claim.ended ≡ true).
+      let most = within 0 some in let all = v.ended ended in absurd (omega arith))
+      (λ (place : (visit 0).refused ≢ None).
+      let y = some_of (visit 0).refused place in
+      let least = least_limit_at vs 0 no_visit told.0 some told.1 in
+      let before = drawn_low 0 y.0 some (v.refused y.0 y.1) in
+      let bound = v.above y.0 told.0 y.1 told.1 in
+      let rises = bounds_rise (entry_at run.entries y.0) (entry_at run.entries x)
+      (ascending y.0 x no_entry (omega arith) low) in
+      above_least (least_limit vs) told.0 (entry_at run.entries x).bound least (omega arith))
+      (v.shut told.0 told.1)
 
   -- where each visit is closed, what was not taken is above the least limit
   rest_above : All (λ v. v.closed ≢ None) vs → (e : Entry) → Contains run.entries e → ¬ (Contains taken e)
@@ -185,9 +176,9 @@ module _ (run : Run) (vs : List Visit) (own : All (IsVisit run) vs) (some : 0 < 
       place_above x low not_there = ⊎_elim
           (λ (is : Contains refused x). refused_above x is)
           (λ (not : ¬ (Contains refused x)). ⊎_elim
-              (λ (near : x < reach_of vs). absurd (not_there (takes.all x near not)))
-              (λ (far : reach_of vs ≤ x). unknown_above closed x far low)
-              (near_or_far x (reach_of vs)))
+          (λ (near : x < reach_of vs). absurd (not_there (takes.all x near not)))
+          (λ (far : reach_of vs ≤ x). unknown_above closed x far low)
+          (near_or_far x (reach_of vs)))
           (in_or_not refused x)
 
   -- the line that these visits close

@@ -29,12 +29,12 @@ module _ {X : Type 0} where
   contains_filter p [] y there passes = absurd (none_in y there)
   contains_filter p (x ∷ xs) y there passes = ⊎_elim
       (λ (same : x ≡ y).
-          let front = cond-true (p x) (x ∷ filter p xs) (filter p xs) (ap p same ∙ passes) in
-          subst (λ ys. Contains ys y) (sym front) (subst (Contains (x ∷ filter p xs)) same (in_front x (filter p xs))))
+      let front = cond-true (p x) (x ∷ filter p xs) (filter p xs) (ap p same ∙ passes) in
+      subst (λ ys. Contains ys y) (sym front) (subst (Contains (x ∷ filter p xs)) same (in_front x (filter p xs))))
       (λ (rest : Contains xs y).
-          let more = contains_filter p xs y rest passes in
-          cond_both (p x) (x ∷ filter p xs) (filter p xs) (λ ys. Contains ys y)
-              (λ _. behind x y (filter p xs) more) (λ _. more))
+      let more = contains_filter p xs y rest passes in
+      cond_both (p x) (x ∷ filter p xs) (filter p xs) (λ ys. Contains ys y)
+      (λ _. behind x y (filter p xs) more) (λ _. more))
       (front_or_behind x y xs there)
 
   -- what a filter lets through stands in the list
@@ -42,9 +42,9 @@ module _ {X : Type 0} where
   from_filter p [] y = λ there. there
   from_filter p (x ∷ xs) y = cond_both (p x) (x ∷ filter p xs) (filter p xs) (λ ys. Contains ys y → Contains (x ∷ xs) y)
       (λ _ there. ⊎_elim
-          (λ (same : x ≡ y). subst (Contains (x ∷ xs)) same (in_front x xs))
-          (λ (rest : Contains (filter p xs) y). behind x y xs (from_filter p xs y rest))
-          (front_or_behind x y (filter p xs) there))
+      (λ (same : x ≡ y). subst (Contains (x ∷ xs)) same (in_front x xs))
+      (λ (rest : Contains (filter p xs) y). behind x y xs (from_filter p xs y rest))
+      (front_or_behind x y (filter p xs) there))
       (λ _ there. behind x y xs (from_filter p xs y there))
 
   -- and it passes
@@ -67,8 +67,8 @@ map_contains f [] y there = absurd (none_in y there)
 map_contains f (z ∷ xs) y there = ⊎_elim
     (λ (same : f z ≡ y). (z, in_front z xs, same))
     (λ (rest : Contains (map f xs) y).
-        let found = map_contains f xs y rest in
-        (found.0, behind z found.0 xs found.1, found.2))
+    let found = map_contains f xs y rest in
+    (found.0, behind z found.0 xs found.1, found.2))
     (front_or_behind (f z) y (map f xs) there)
 
 -- a number stands in a list or it does not
@@ -77,7 +77,7 @@ in_or_not [] x = inr (none_in x)
 in_or_not (y ∷ xs) x = dite (ℕ_discrete y x)
     (λ (same : y ≡ x). inl (subst (Contains (y ∷ xs)) same (in_front y xs)))
     (λ (differ : ¬ (y ≡ x)). ⊎_elim
-        (λ (rest : Contains xs x). inl (behind y x xs rest))
-        (λ (not : ¬ (Contains xs x)). inr (λ there. ⊎_elim
-            (λ (same : y ≡ x). differ same) (λ (rest : Contains xs x). not rest) (front_or_behind y x xs there)))
-        (in_or_not xs x))
+    (λ (rest : Contains xs x). inl (behind y x xs rest))
+    (λ (not : ¬ (Contains xs x)). inr (λ there. ⊎_elim
+    (λ (same : y ≡ x). differ same) (λ (rest : Contains xs x). not rest) (front_or_behind y x xs there)))
+    (in_or_not xs x))

@@ -51,7 +51,7 @@ module _ (run : Run) (limit : ℕ) (v : Visit) (own : IsVisit run v) (going : v.
     gives : (entry_at run.entries n).bound ≤ limit → Says run limit v (Leaf (entry_at run.entries n)) (drew v n)
     gives near =
         let more = ap (map (entry_at run.entries)) (handed_drew v n none_refused)
-            ∙ map-append (entry_at run.entries) (handed v) (n ∷ []) in
+        ∙ map-append (entry_at run.entries) (handed v) (n ∷ []) in
         let still : IsVisit run (drew v n) = record {
           claims = own.claims;
           most = omega arith;

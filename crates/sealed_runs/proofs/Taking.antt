@@ -4,13 +4,8 @@ use Rattle.std.proofs.lemmas.List.Elements.{Contains-push, Contains-append_left,
 use Rattle.std.proofs.lemmas.List.Quantifiers.{all_pairs_push}
 use Rattle.series_core.specs.declared.queue_words.Entry.{Entry}
 use Rattle.sealed_runs.specs.Entries.{Before, IsAscending, no_entry, entry_at}
+use Rattle.sealed_runs.specs.Tallied.{Takes}
 use Rattle.sealed_runs.proofs.Members.{none_in}
-
--- a list has exactly the entries of the places below n that were not refused, in ascending order
-pub record Takes (es : List Entry) (refused : List ℕ) (n : ℕ) (taken : List Entry) : Type 0 where
-  pub from : (e : Entry) → Contains taken e → (x : ℕ) × (x < n) × (¬ (Contains refused x)) × (entry_at es x ≡ e)
-  pub all : (x : ℕ) → x < n → ¬ (Contains refused x) → Contains taken (entry_at es x)
-  pub ascending : IsAscending taken
 
 -- at the start nothing is taken
 pub takes_none : (es : List Entry) (refused : List ℕ) → Takes es refused 0 []
@@ -46,10 +41,10 @@ takes_more es refused n taken ascending low not t = record {
       (Contains-push_cases taken (entry_at es n) e there);
   all = λ x below not_refused. ⊎_elim
       (λ (same : x ≡ n).
-          subst (λ y. Contains (taken ++ entry_at es n ∷ []) (entry_at es y)) (sym same)
-              (Contains-push taken (entry_at es n)))
+      subst (λ y. Contains (taken ++ entry_at es n ∷ []) (entry_at es y)) (sym same)
+      (Contains-push taken (entry_at es n)))
       (λ (before : x < n).
-          Contains-append_left taken (entry_at es n ∷ []) (entry_at es x) (t.all x before not_refused))
+      Contains-append_left taken (entry_at es n ∷ []) (entry_at es x) (t.all x before not_refused))
       (last_or_below x n below);
   ascending = all_pairs_push Before taken (entry_at es n) t.ascending (λ k d in_list.
       let x = t.from (get_or taken k d) (Contains-get_or taken k d in_list) in

@@ -5,3 +5,5 @@ pub mod Entries
 pub mod Visits
 pub mod Popped
 pub mod Closed
+pub mod Tallied
+pub mod Sealing

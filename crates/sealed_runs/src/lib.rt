@@ -5,5 +5,6 @@
 
 mod pass;
 mod run;
+mod tally;
 
 pub use pass::RunPass;
