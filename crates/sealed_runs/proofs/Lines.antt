@@ -1,7 +1,7 @@
 -- The visits of all passes at one run say what the closed run is.
 use Rattle.std.proofs.Common.{◌≡◌, ◌≢◌, ◌⊎◌, ◌↔◌, ℕ, zero, suc, ◌+◌, ◌<◌, ◌≤◌, List, [], ◌∷◌, length, get_or, map, All, Any, Contains, Option, Some, None, IfSome, true, refl, sym, ap, ◌∙◌, subst, inl, inr, ⊎_elim, arith}
 use Rattle.std.proofs.lemmas.List.{get_or_default}
-use Rattle.std.proofs.lemmas.List.Elements.{Contains-get_or}
+use Rattle.std.proofs.lemmas.List.Elements.{Contains-get_or, All-map}
 use mathlib.Core.Logic.{dite}
 use native.Mathlib.Decide.{ℕ_discrete}
 use Rattle.series_core.specs.declared.queue_words.Entry.{Entry}
@@ -13,7 +13,7 @@ use Rattle.list_totals.proofs.Places.{total_some, total_two, times_at, times_con
 use Rattle.sealed_runs.specs.Entries.{Run, Before, IsAscending, no_entry, entry_at}
 use Rattle.sealed_runs.specs.Visits.{Visit, handed, leaves, IsVisit, no_visit}
 use Rattle.sealed_runs.specs.Closed.{Line, least_limit, IsLine}
-use Rattle.sealed_runs.specs.Tallied.{Refusals, reach_of, Takes}
+use Rattle.sealed_runs.specs.Tallied.{Refusals, reach_of, IsTally, Takes}
 use Rattle.sealed_runs.proofs.Members.{contains_map, map_contains, in_or_not}
 use Rattle.sealed_runs.proofs.Handing.{handed_drawn, drawn_handed, handed_times}
 use Rattle.sealed_runs.proofs.Limits.{least_limit_at, above_least}
@@ -37,6 +37,14 @@ bounds_rise e f before = ⊎_elim (λ (less : e.bound < f.bound). omega arith) (
 -- a place is below another or not
 near_or_far : (x n : ℕ) → (x < n) ⊎ (n ≤ x)
 near_or_far x n = grind arith
+
+-- the reach is at most what is drawn
+reach_low : (count : ℕ) (vs : List Visit) (once : EachDrawnOnce count (map (λ (v : Visit). v.claim) vs))
+    → reach_of vs ≤ once.drawn
+reach_low count vs once =
+    let each = greatest_le (λ (p : Pass). p.met) once.drawn (map (λ (v : Visit). v.claim) vs) once.met in
+    let same = greatest_map (λ (p : Pass). p.met) (λ (v : Visit). v.claim) vs in
+    omega arith
 
 module _ (run : Run) (vs : List Visit) (own : All (IsVisit run) vs) (some : 0 < length vs)
     (once : EachDrawnOnce (length run.entries) (map (λ (v : Visit). v.claim) vs))
@@ -90,17 +98,10 @@ module _ (run : Run) (vs : List Visit) (own : All (IsVisit run) vs) (some : 0 < 
       (λ (same : k ≡ who.0). mine.1 (subst (λ j. (visit j).refused ≡ Some x) (sym same) who.2))
       (λ (differ : k ≢ who.0). apart k who.0 x in_list who.1 mine.0 theirs differ)
 
-  -- the reach is at most what is drawn
-  reach_low : reach_of vs ≤ once.drawn
-  reach_low =
-      let each = greatest_le (λ (p : Pass). p.met) once.drawn (map (λ (v : Visit). v.claim) vs) once.met in
-      let same = greatest_map (λ (p : Pass). p.met) (λ (v : Visit). v.claim) vs in
-      omega arith
-
   -- a place below the reach was drawn by some visit
   drawn_by : (x : ℕ) → x < reach_of vs → (k : ℕ) × (k < length vs) × Contains (visit k).claim.draws x
   drawn_by x low =
-      let most = reach_low in
+      let most = reach_low (length run.entries) vs once in
       let one = once_below_yes x once.drawn (omega arith) in
       let all = drawn_times x in
       let who = total_some (λ (v : Visit). times x v.claim.draws) vs no_visit (omega arith) in
@@ -190,3 +191,36 @@ module _ (run : Run) (vs : List Visit) (own : All (IsVisit run) vs) (some : 0 < 
     kept = refl;
     rest = rest_above;
   }
+
+-- the passes of visits of a run are of its counter
+pub own_claims : (run : Run) (vs : List Visit) (passes : List Pass) → passes ≡ map (λ (v : Visit). v.claim) vs
+    → All (IsVisit run) vs → All (λ p. p.claims ≡ run.claims) passes
+own_claims run vs passes is own =
+    subst (All (λ (p : Pass). p.claims ≡ run.claims)) (sym is)
+    (All-map (λ (p : Pass). p.claims ≡ run.claims) (λ (v : Visit). v.claim) vs (λ k d in_list. (own k d in_list).claims))
+
+module _ (run : Run) (vs : List Visit) (passes : List Pass) (count reach : ℕ) (refused : List ℕ) (kept : Option ℕ)
+    (count_is : count ≡ length run.entries) (tally : IsTally vs passes reach refused kept)
+    (closed : EachDrawnOnce count passes) where
+  -- what the close of the counter says of the visits
+  once_of : EachDrawnOnce (length run.entries) (map (λ (v : Visit). v.claim) vs)
+  once_of = subst (λ (n : ℕ). EachDrawnOnce n (map (λ (v : Visit). v.claim) vs)) count_is
+      (subst (EachDrawnOnce count) tally.claims closed)
+
+  -- the reach is at most the number of places
+  pub reach_fits : reach ≤ length run.entries
+  reach_fits =
+      let bound = once_of.bound in
+      let low = reach_low (length run.entries) vs once_of in
+      let is = tally.reach in
+      omega arith
+
+  -- the line that a tally closes
+  pub tally_line : (es taken : List Entry) → es ≡ run.entries → Takes es refused reach taken
+      → IsAscending run.entries → All (IsVisit run) vs → 0 < length vs
+      → IsLine run vs record { taken = taken; kept = kept }
+  tally_line es taken es_is takes ascending own some =
+      let takes_all = subst (λ (n : ℕ). Takes run.entries refused n taken) tally.reach
+      (subst (λ (xs : List Entry). Takes xs refused reach taken) es_is takes) in
+      let closes = line run vs own some once_of refused tally.refused taken takes_all ascending in
+      subst (λ (k : Option ℕ). IsLine run vs record { taken = taken; kept = k }) (sym tally.kept) closes

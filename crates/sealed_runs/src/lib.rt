@@ -3,8 +3,12 @@
 //! entries were taken and which limit was kept.
 #![tactic(auto)]
 
+mod closed;
 mod pass;
 mod run;
+mod runs;
 mod tally;
 
+pub use closed::RunsClosed;
 pub use pass::RunPass;
+pub use runs::Runs;

@@ -14,9 +14,9 @@ last_visit-visit-requires c =
     let inv = c.loop-place.invariant in
     let count = inv.count in
     let in_now : i < length now =
-        omega (arith, c.loop-place-test.true, c.len-count.ensures, count, c.loop-place.passes.ok.0) in
+    omega (arith, c.loop-place-test.true, c.len-count.ensures, count, c.loop-place.passes.ok.0) in
     let in_all : i < length all =
-        omega (arith, c.loop-place-test.true, c.len-count.ensures, c.args.passes.now.ok.0) in
+    omega (arith, c.loop-place-test.true, c.len-count.ensures, c.args.passes.now.ok.0) in
     let found = c.index_mut-in-loop-place.ensures.value in
     let came = found ∙ get_or_default now i _ [] in_now ∙ next_pass all now c.args.m i inv.left in
     let same = ap (λ (vs : List Visit). length vs) came in
@@ -32,15 +32,15 @@ loop-place-preserved c =
     let inv = c.loop-place.invariant in
     let count = inv.count in
     let in_now : i < length now =
-        omega (arith, c.loop-place-test.true, c.len-count.ensures, count, c.loop-place.passes.ok.0) in
+    omega (arith, c.loop-place-test.true, c.len-count.ensures, count, c.loop-place.passes.ok.0) in
     let in_all : i < length all =
-        omega (arith, c.loop-place-test.true, c.len-count.ensures, c.args.passes.now.ok.0) in
+    omega (arith, c.loop-place-test.true, c.len-count.ensures, c.args.passes.now.ok.0) in
     let found = c.index_mut-in-loop-place.ensures.value in
     let came = found ∙ get_or_default now i _ [] in_now ∙ next_pass all now m i inv.left in
     let rest = c.last_visit-visit.new.pass in
     let visit = c.last_visit-visit.result in
     let parts = split_last (get_or all i []) rest visit m (sym came ∙ c.last_visit-visit.ensures)
-        (c.requires.each i [] in_all) in
+    (c.requires.each i [] in_all) in
     let more = c.take_in.ensures.tally (column (take i all) m) inv.tally in
     let columns = ap (λ v. column (take i all) m ++ v ∷ []) parts.1 ∙ column_more all now m i in_all in
     let new = c.take_in.new.self in
