@@ -7,3 +7,5 @@ pub mod Limits
 pub mod Lines
 pub mod Tallying
 pub mod Columns
+pub mod Passing
+pub mod Closing

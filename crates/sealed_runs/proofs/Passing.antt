@@ -1,0 +1,33 @@
+-- A pop of one run changes the visit of that run alone, and the pass stays one of the runs.
+use Rattle.std.proofs.Common.{◌≡◌, ◌≢◌, ℕ, ◌<◌, ◌≤◌, List, [], ◌∷◌, ◌++◌, length, get_or, set, get_or-set_same, get_or-set_other, sym, ap, ◌∙◌, subst, arith}
+use Rattle.std.proofs.lemmas.List.{length-set}
+use mathlib.Core.Logic.{dite}
+use native.Mathlib.Decide.{ℕ_discrete}
+use Rattle.series_core.specs.declared.queue_words.Entry.{Entry}
+use Rattle.series_core.specs.declared.queue_words.PopReply.{PopReply}
+use Rattle.series_core.specs.declared.queue_words.PopReply.TheVariants.{Leaf, Closed}
+use Rattle.sealed_runs.specs.Entries.{Run, run_at}
+use Rattle.sealed_runs.specs.Visits.{Visit, visit_at, no_visit, leaves, IsVisit, IsPass}
+use Rattle.sealed_runs.specs.Popped.{IfLeaf, IfClosed}
+
+-- what a Leaf reply gives, it gives in weaker words
+pub if_leaf : (reply : PopReply) (P Q : Entry → Type 0) → ((e : Entry) → P e → Q e) → IfLeaf reply P → IfLeaf reply Q
+if_leaf (Leaf e) P Q weaker h = weaker e h
+if_leaf (Closed v) P Q weaker h = tt
+
+module _ (runs : List Run) (visits : List Visit) (m : ℕ) (w : Visit) (own : IsPass runs visits) (low : m < length runs) where
+  -- the visit of the run is the new one
+  pub new_visit : visit_at (set visits m w) m ≡ w
+  new_visit = let count = own.count in get_or-set_same visits m w no_visit (omega arith)
+
+  -- the pass stays one of the runs
+  pub pass_stays : IsVisit (run_at runs m) w → IsPass runs (set visits m w)
+  pass_stays new = record {
+    count = length-set visits m w ∙ own.count;
+    each = λ k in_list. dite (ℕ_discrete k m)
+        (λ (same : k ≡ m).
+            let at_m = subst (IsVisit (run_at runs m)) (sym new_visit) new in
+            subst (λ j. IsVisit (run_at runs j) (visit_at (set visits m w) j)) (sym same) at_m)
+        (λ (other : k ≢ m).
+            subst (IsVisit (run_at runs k)) (sym (get_or-set_other visits m k w no_visit other)) (own.each k in_list));
+  }
