@@ -37,13 +37,13 @@ pub prefix_last : (all rest : List Run) (run : Run) (n : ℕ) → take (n + 1) a
     → length rest ≡ n → (run ≡ run_at all n) × (rest ≡ take n all)
 prefix_last all rest run n is count =
     let last = sym (get_or-append_seam rest run [] no_run)
-        ∙ ap (run_at (rest ++ run ∷ [])) count
-        ∙ ap (λ rs. run_at rs n) (sym is)
-        ∙ get_or-take (n + 1) all n no_run (omega arith) in
+    ∙ ap (run_at (rest ++ run ∷ [])) count
+    ∙ ap (λ rs. run_at rs n) (sym is)
+    ∙ get_or-take (n + 1) all n no_run (omega arith) in
     let before = sym (take-append_seam rest (run ∷ []))
-        ∙ ap (λ k. take k (rest ++ run ∷ [])) count
-        ∙ ap (take n) (sym is)
-        ∙ take_less n all in
+    ∙ ap (λ k. take k (rest ++ run ∷ [])) count
+    ∙ ap (take n) (sym is)
+    ∙ take_less n all in
     (last, before)
 
 module _ (runs : List Run) (passes : List (List Visit)) (own : All (IsPass runs) passes) (n : ℕ) (low : n < length runs) where
@@ -60,7 +60,7 @@ module _ (runs : List Run) (passes : List (List Visit)) (own : All (IsPass runs)
   pub left_own : All (λ vs. IsVisit (run_at runs n) (visit_at vs n)) left
   left_own = All-map (λ (vs : List Visit). IsVisit (run_at runs n) (visit_at vs n)) (take (n + 1)) passes
       (λ k d in_list. subst (IsVisit (run_at runs n))
-          (sym (get_or-take (n + 1) (get_or passes k d) n no_visit (omega arith))) ((own k d in_list).each n low))
+      (sym (get_or-take (n + 1) (get_or passes k d) n no_visit (omega arith))) ((own k d in_list).each n low))
 
   -- the last visits are those of run n
   pub left_column : column left n ≡ column passes n

@@ -26,8 +26,8 @@ module _ (runs : List Run) (visits : List Visit) (m : ℕ) (w : Visit) (own : Is
     count = length-set visits m w ∙ own.count;
     each = λ k in_list. dite (ℕ_discrete k m)
         (λ (same : k ≡ m).
-            let at_m = subst (IsVisit (run_at runs m)) (sym new_visit) new in
-            subst (λ j. IsVisit (run_at runs j) (visit_at (set visits m w) j)) (sym same) at_m)
+        let at_m = subst (IsVisit (run_at runs m)) (sym new_visit) new in
+        subst (λ j. IsVisit (run_at runs j) (visit_at (set visits m w) j)) (sym same) at_m)
         (λ (other : k ≢ m).
-            subst (IsVisit (run_at runs k)) (sym (get_or-set_other visits m k w no_visit other)) (own.each k in_list));
+        subst (IsVisit (run_at runs k)) (sym (get_or-set_other visits m k w no_visit other)) (own.each k in_list));
   }

@@ -7,6 +7,7 @@ mod closed;
 mod pass;
 mod run;
 mod runs;
+mod sealing;
 mod tally;
 
 pub use closed::RunsClosed;

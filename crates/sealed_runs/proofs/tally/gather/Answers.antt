@@ -3,7 +3,7 @@ use Rattle.std.proofs.lemmas.List.{get_or_default}
 use Rattle.sealed_runs.specs.Visits.{Visit, visit_at, column}
 use Rattle.sealed_runs.specs.Tallied.{IsTally}
 use Rattle.sealed_runs.proofs.Tallying.{split_last}
-use Rattle.sealed_runs.proofs.Columns.{next_pass, gone_more, left_more, column_more}
+use Rattle.sealed_runs.proofs.Columns.{next_pass, changed_more, left_more, column_more}
 use Rattle.sealed_runs.proofs.tally.gather.Goals as goal
 
 pub last_visit-visit-requires : goal.last_visit-visit-requires
@@ -18,7 +18,7 @@ last_visit-visit-requires c =
     let in_all : i < length all =
     omega (arith, c.loop-place-test.true, c.len-count.ensures, c.args.passes.now.ok.0) in
     let found = c.index_mut-in-loop-place.ensures.value in
-    let came = found ∙ get_or_default now i _ [] in_now ∙ next_pass all now c.args.m i inv.left in
+    let came = found ∙ get_or_default now i _ [] in_now ∙ next_pass (take c.args.m) all now i inv.left in
     let same = ap (λ (vs : List Visit). length vs) came in
     let each = c.requires.each i [] in_all in
     omega arith
@@ -36,18 +36,18 @@ loop-place-preserved c =
     let in_all : i < length all =
     omega (arith, c.loop-place-test.true, c.len-count.ensures, c.args.passes.now.ok.0) in
     let found = c.index_mut-in-loop-place.ensures.value in
-    let came = found ∙ get_or_default now i _ [] in_now ∙ next_pass all now m i inv.left in
+    let came = found ∙ get_or_default now i _ [] in_now ∙ next_pass (take m) all now i inv.left in
     let rest = c.last_visit-visit.new.pass in
     let visit = c.last_visit-visit.result in
     let parts = split_last (get_or all i []) rest visit m (sym came ∙ c.last_visit-visit.ensures)
     (c.requires.each i [] in_all) in
     let more = c.take_in.ensures.tally (column (take i all) m) inv.tally in
-    let columns = ap (λ v. column (take i all) m ++ v ∷ []) parts.1 ∙ column_more all now m i in_all in
+    let columns = ap (λ v. column (take i all) m ++ v ∷ []) parts.1 ∙ column_more all m i in_all in
     let new = c.take_in.new.self in
     record {
       count = count;
-      gone = gone_more all now m i rest in_now in_all inv.gone parts.0;
-      left = left_more all now m i rest inv.left;
+      gone = changed_more (take m) all now i rest in_now in_all inv.gone parts.0;
+      left = left_more (take m) all now i rest inv.left;
       tally = subst (λ (vs : List Visit). IsTally vs new.claims.items new.reach new.refused.items new.kept) columns more;
       claims = let was = inv.claims in omega (arith, c.take_in.ensures.claims.0);
       room = let was = inv.room in omega (arith, c.take_in.ensures.claims.1);

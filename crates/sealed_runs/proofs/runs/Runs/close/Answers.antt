@@ -13,7 +13,7 @@ loop-run-init c =
     let runs = c.args.self.runs in
     let runs_are = ap (λ (s : Sealed). s.runs) c.self.view_is in
     let all : vec_len c.self.inside.runs ≡ length runs =
-        omega (arith, c.self.inside.runs.ok.0, ap (λ (rs : List Run). length rs) runs_are) in
+    omega (arith, c.self.inside.runs.ok.0, ap (λ (rs : List Run). length rs) runs_are) in
     let lines = ap (λ (ls : List Line). length ls) c.self.invariant.1 in
     record {
       runs = runs_are ∙ sym (take-length runs) ∙ ap (λ k. take k runs) (sym all);
@@ -33,15 +33,15 @@ close_run-line-requires-clause-ready c =
     let one_less : n + 1 ≡ vec_len c.loop-run.runs = omega (arith, c.len.ensures, c.in-Some.ensures.cases) in
     let rest_count : length c.pop.new.self.items ≡ n = omega (arith, c.len.ensures, c.pop.new.self.ok.0) in
     let last = next runs passes c.loop-run.passes.items c.loop-run.runs.items c.pop.new.self.items c.in-Some.run'
-        (vec_len c.loop-run.runs) n (length c.loop-run.lines.items) inv.runs c.in-Some.ensures.items one_less count
-        rest_count inv.passes in
+    (vec_len c.loop-run.runs) n (length c.loop-run.lines.items) inv.runs c.in-Some.ensures.items one_less count
+    rest_count inv.passes in
     let all_ready = c.self.invariant.3 in
     let runs_are = ap (λ (s : Sealed). s.runs) c.self.view_is in
     let callers = ap (λ (s : Sealed). s.callers) c.self.view_is in
     let low = last.low in
     let same = ap (λ (ps : List (List Visit)). length ps) inv.passes ∙ length-map passes (take (vec_len c.loop-run.runs)) in
     let many : c.self.inside.callers ≡ vec_len c.loop-run.passes =
-        omega (arith, callers, c.requires.all, c.loop-run.passes.ok.0, c.args.passes.ok.0, same) in
+    omega (arith, callers, c.requires.all, c.loop-run.passes.ok.0, c.args.passes.ok.0, same) in
     let ready = subst (λ (rs : List Run). All (IsReady c.self.inside.callers) rs) runs_are all_ready n no_run low in
     subst (λ (k : ℕ). IsReady k c.in-Some.run') many (subst (IsReady c.self.inside.callers) (sym last.run_is) ready)
 
@@ -55,8 +55,8 @@ close_run-line-requires-clause-each c =
     let one_less : n + 1 ≡ vec_len c.loop-run.runs = omega (arith, c.len.ensures, c.in-Some.ensures.cases) in
     let rest_count : length c.pop.new.self.items ≡ n = omega (arith, c.len.ensures, c.pop.new.self.ok.0) in
     let last = next runs passes c.loop-run.passes.items c.loop-run.runs.items c.pop.new.self.items c.in-Some.run'
-        (vec_len c.loop-run.runs) n (length c.loop-run.lines.items) inv.runs c.in-Some.ensures.items one_less count
-        rest_count inv.passes in
+    (vec_len c.loop-run.runs) n (length c.loop-run.lines.items) inv.runs c.in-Some.ensures.items one_less count
+    rest_count inv.passes in
     let each = left_count runs passes c.requires.own n last.low in
     subst (λ (ps : List (List Visit)). All (λ vs. length vs ≡ n + 1) ps) (sym last.passes_are) each
 
@@ -70,11 +70,11 @@ close_run-line-requires-clause-own c =
     let one_less : n + 1 ≡ vec_len c.loop-run.runs = omega (arith, c.len.ensures, c.in-Some.ensures.cases) in
     let rest_count : length c.pop.new.self.items ≡ n = omega (arith, c.len.ensures, c.pop.new.self.ok.0) in
     let last = next runs passes c.loop-run.passes.items c.loop-run.runs.items c.pop.new.self.items c.in-Some.run'
-        (vec_len c.loop-run.runs) n (length c.loop-run.lines.items) inv.runs c.in-Some.ensures.items one_less count
-        rest_count inv.passes in
+    (vec_len c.loop-run.runs) n (length c.loop-run.lines.items) inv.runs c.in-Some.ensures.items one_less count
+    rest_count inv.passes in
     let own = left_own runs passes c.requires.own n last.low in
     let now = subst (λ (ps : List (List Visit)). All (λ vs. IsVisit (run_at runs n) (visit_at vs n)) ps)
-        (sym last.passes_are) own in
+    (sym last.passes_are) own in
     subst (λ (run : Run). All (λ vs. IsVisit run (visit_at vs n)) c.loop-run.passes.items) (sym last.run_is) now
 
 pub loop-run-preserved : goal.loop-run-preserved
@@ -87,12 +87,12 @@ loop-run-preserved c =
     let one_less : n + 1 ≡ vec_len c.loop-run.runs = omega (arith, c.len.ensures, c.in-Some.ensures.cases) in
     let rest_count : length c.pop.new.self.items ≡ n = omega (arith, c.len.ensures, c.pop.new.self.ok.0) in
     let last = next runs passes c.loop-run.passes.items c.loop-run.runs.items c.pop.new.self.items c.in-Some.run'
-        (vec_len c.loop-run.runs) n (length c.loop-run.lines.items) inv.runs c.in-Some.ensures.items one_less count
-        rest_count inv.passes in
+    (vec_len c.loop-run.runs) n (length c.loop-run.lines.items) inv.runs c.in-Some.ensures.items one_less count
+    rest_count inv.passes in
     let m : vec_len c.pop.new.self ≡ n = sym c.len.ensures in
     let line = c.close_run-line.ensures.line in
     let columns = ap (λ (ps : List (List Visit)). column ps n) last.passes_are
-        ∙ left_column runs passes c.requires.own n last.low in
+    ∙ left_column runs passes c.requires.own n last.low in
     let of_run = subst (λ (run : Run). IsLine run (column c.loop-run.passes.items n) c.close_run-line.result) last.run_is line in
     let of_column = subst (λ (vs : List Visit). IsLine (run_at runs n) vs c.close_run-line.result) columns of_run in
     let old = subst (λ (k : ℕ). LinesFrom runs passes k c.loop-run.lines.items) (sym one_less) inv.lines in

@@ -11,7 +11,7 @@ use Rattle.sealed_runs.proofs.runs.Runs.pop.Goals as goal
 -- what the pop of the run says of the pass's visit
 says : (c : goal.After-pass-1)
     → Says (run_at c.args.self.now.runs c.args.m) c.args.limit (visit_at c.args.pass.now c.args.m) c.pop.result
-        c.pop.new.visit
+    c.pop.new.visit
 says c =
     let m = c.args.m in
     let run = run_at c.args.self.now.runs m in
@@ -23,15 +23,15 @@ says c =
     let in_runs : m < length c.self.inside.runs.items = omega arith in
     let in_visits : m < length c.pass.inside.visits.items = omega arith in
     let run_is = c.index.ensures
-        ∙ get_or_default c.self.inside.runs.items m _ no_run in_runs
-        ∙ ap (λ (s : Sealed). run_at s.runs m) c.self.view_is in
+    ∙ get_or_default c.self.inside.runs.items m _ no_run in_runs
+    ∙ ap (λ (s : Sealed). run_at s.runs m) c.self.view_is in
     let visit_is = c.index_mut.ensures.value
-        ∙ get_or_default c.pass.inside.visits.items m _ no_visit in_visits
-        ∙ ap (λ (vs : List Visit). visit_at vs m) c.pass.view_is in
+    ∙ get_or_default c.pass.inside.visits.items m _ no_visit in_visits
+    ∙ ap (λ (vs : List Visit). visit_at vs m) c.pass.view_is in
     let pops = subst (λ (r : Run). Pops r c.args.limit c.pop.result c.index_mut.result.now c.pop.new.visit) run_is
-        c.pop.ensures.pops in
+    c.pop.ensures.pops in
     pops_say run c.args.limit visit (c.requires.own.each m queue) c.requires.goes_on c.pop.result c.pop.new.visit
-        (subst (λ (v : Visit). Pops run c.args.limit c.pop.result v c.pop.new.visit) visit_is pops)
+    (subst (λ (v : Visit). Pops run c.args.limit c.pop.result v c.pop.new.visit) visit_is pops)
 
 pub returns-clause-leaf : goal.returns-clause-leaf
 returns-clause-leaf c =
@@ -41,10 +41,10 @@ returns-clause-leaf c =
     let w = c.pop.new.visit in
     let queue = c.requires.queue in
     let set_is = ap (λ (vs : List Visit). visit_at (set vs m w) m) c.pass.view_is
-        ∙ new_visit runs c.args.pass.now m w c.requires.own queue in
+    ∙ new_visit runs c.args.pass.now m w c.requires.own queue in
     if_leaf c.pop.result (Gives (run_at runs m) c.args.limit (visit_at c.args.pass.now m) w) _
-        (λ e gives. (gives.0, ap (leaves es) set_is ∙ gives.2))
-        (says c).leaf
+    (λ e gives. (gives.0, ap (leaves es) set_is ∙ gives.2))
+    (says c).leaf
 
 pub returns-clause-own : goal.returns-clause-own
 returns-clause-own c =
