@@ -2,3 +2,4 @@
 pub mod Totals
 pub mod Greatest
 pub mod Places
+pub mod Pigeons

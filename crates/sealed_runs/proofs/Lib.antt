@@ -9,3 +9,4 @@ pub mod Tallying
 pub mod Columns
 pub mod Passing
 pub mod Closing
+pub mod Ordering

@@ -1,13 +1,14 @@
 -- A pop of one run changes the visit of that run alone, and the pass stays one of the runs.
-use Rattle.std.proofs.Common.{◌≡◌, ◌≢◌, ℕ, ◌<◌, ◌≤◌, List, [], ◌∷◌, ◌++◌, length, get_or, set, get_or-set_same, get_or-set_other, sym, ap, ◌∙◌, subst, arith}
-use Rattle.std.proofs.lemmas.List.{length-set}
+use Rattle.std.proofs.Common.{◌≡◌, ◌≢◌, ℕ, ◌<◌, ◌≤◌, List, [], ◌∷◌, ◌++◌, length, get_or, set, get_or-set_same, get_or-set_other, Option, Some, None, true, false, refl, sym, ap, ◌∙◌, subst, arith}
+use Rattle.std.proofs.lemmas.List.{length-set, length-map, get_or-map}
 use mathlib.Core.Logic.{dite}
 use native.Mathlib.Decide.{ℕ_discrete}
 use Rattle.series_core.specs.declared.queue_words.Entry.{Entry}
 use Rattle.series_core.specs.declared.queue_words.PopReply.{PopReply}
 use Rattle.series_core.specs.declared.queue_words.PopReply.TheVariants.{Leaf, Closed}
-use Rattle.sealed_runs.specs.Entries.{Run, run_at}
-use Rattle.sealed_runs.specs.Visits.{Visit, visit_at, no_visit, leaves, IsVisit, IsPass}
+use Rattle.sealed_runs.specs.Entries.{Run, no_run, run_at}
+use Rattle.sealed_runs.specs.Visits.{Visit, fresh_visit, visit_at, no_visit, leaves, IsVisit, IsPass}
+use Rattle.sealed_runs.specs.Sealing.{fresh_visits}
 use Rattle.sealed_runs.specs.Popped.{IfLeaf, IfClosed}
 
 -- what a Leaf reply gives, it gives in weaker words
@@ -31,3 +32,30 @@ module _ (runs : List Run) (visits : List Visit) (m : ℕ) (w : Visit) (own : Is
         (λ (other : k ≢ m).
         subst (IsVisit (run_at runs k)) (sym (get_or-set_other visits m k w no_visit other)) (own.each k in_list));
   }
+
+-- a visit that has done nothing is one of its run
+fresh_is_visit : (run : Run) → IsVisit run (fresh_visit run.claims)
+fresh_is_visit run = record {
+  claims = refl;
+  most = omega arith;
+  below = λ k d in_list. absurd (omega arith);
+  ended = λ e. absurd (false_true e);
+  going = λ _. (refl, refl);
+  shut = λ limit e. absurd (none_some limit e);
+  refused = λ x e. absurd (none_some x e);
+  above = λ x limit e f. absurd (none_some x e);
+}
+  where
+    none_some : (n : ℕ) → None ≡ Some n → ⊥
+    none_some n e = grind arith
+
+    false_true : false ≡ true → ⊥
+    false_true e = grind arith
+
+-- a pass that has done nothing is one of the runs
+pub fresh_is_pass : (runs : List Run) → IsPass runs (fresh_visits runs)
+fresh_is_pass runs = record {
+  count = length-map runs (λ (run : Run). fresh_visit run.claims);
+  each = λ m low. subst (IsVisit (run_at runs m))
+      (sym (get_or-map (λ (run : Run). fresh_visit run.claims) runs m no_run no_visit low)) (fresh_is_visit (run_at runs m));
+}

@@ -1,8 +1,9 @@
 -- Entries in ascending order, and the runs that they make: the rule is that run m has the leaves that leave m.
-use Rattle.std.specs.Prelude.{◌≡◌, ◌≢◌, ℕ, ◌<◌, ◌%◌, ◌⊎◌, ◌↔◌, List, [], slice_index_or, AllPairs, Contains}
+use Rattle.std.specs.Prelude.{◌≡◌, ℕ, ◌<◌, ◌≤◌, ◌%◌, ◌⊎◌, ◌↔◌, List, [], slice_index_or, AllPairs, Contains}
 use Rattle.claim_word.specs.Seated.{TableId}
 use Rattle.series_core.specs.declared.queue_words.Entry.{Entry}
 use Rattle.claim_word.specs.Passes.{Claim, claim_of}
+use Rattle.list_totals.specs.Totals.{total, one_if_same}
 
 -- e comes before f: its bound is less, or is the same and its leaf is less
 abbrev pub Before : Entry → Entry → Type 0
@@ -14,7 +15,7 @@ IsAscending es = AllPairs Before es
 
 -- no leaf has two entries
 abbrev pub LeavesDiffer : List Entry → Type 0
-LeavesDiffer es = AllPairs (λ e f. e.leaf ≢ f.leaf) es
+LeavesDiffer es = (leaf : ℕ) → total (λ e. one_if_same leaf e.leaf) es ≤ 1
 
 -- the run of queue m: in ascending order, exactly those of the entries whose leaf leaves m
 pub record IsRun (entries : List Entry) (queues m : ℕ) (es : List Entry) : Type 0 where

@@ -11,7 +11,10 @@ ghost use Rattle.sealed_runs.specs.Sealing.{fresh_visits};
 use crate::closed::{Line, RunsClosed, close_run};
 use crate::pass::RunPass;
 use crate::run::Run;
-use series_core::PopReply;
+use crate::sealing::{divide, seal_rows};
+use outside::NoMemory;
+use series_core::{Entry, PopReply};
+use std::alloc::Global;
 use std::collections::VecDeque;
 use std::marker::Model;
 
@@ -37,6 +40,35 @@ impl Model for Runs {
 }
 
 impl Runs {
+    /// Seals entries whose leaves differ as one run for each of the 1 to 64 queues, with one pass for each of the 1 to
+    /// 64 callers. It sorts once, and takes the memory that `close` needs.
+    pub fn seal(
+        alloc: Global,
+        mut entries: Vec<Entry>,
+        queues: u32,
+        callers: u32,
+    ) -> Result<(Runs, Vec<RunPass>), NoMemory>
+        requires leaves { LeavesDiffer entries.items }
+        requires queues { (1 ≤ queues) × (queues ≤ 64) }
+        requires callers { (1 ≤ callers) × (callers ≤ 64) }
+        ensures count { IfOk result (λ r. length r.0.runs ≡ queues) }
+        ensures runs { IfOk result (λ r. (m : ℕ) → m < queues → IsRun entries.items queues m (run_at r.0.runs m).entries) }
+        ensures callers { IfOk result (λ r. r.0.callers ≡ callers) }
+        ensures passes { IfOk result (λ r. r.1.items ≡ replicate callers (fresh_visits r.0.runs)) }
+        ensures own { IfOk result (λ r. All (IsPass r.0.runs) r.1.items) }
+    {
+        entries.sort_unstable();
+        let rows = divide(alloc, &entries, queues)?;
+        let (runs, passes) = seal_rows(alloc, rows, callers)?;
+        let lines = VecDeque::with_capacity(alloc, runs.len())?;
+        let runs = Runs {
+            runs,
+            lines,
+            callers: u64::from(callers),
+        };
+        Ok((runs, passes))
+    }
+
     /// Pops run m, which is below the number of runs and has not closed to this pass: draws the next place, and hands
     /// out its entry where the bound is at most `far(limit)`. Where it is above, and where the run has ended, the run
     /// is closed to this pass with the limit. It takes no memory and waits for nobody.

@@ -1,5 +1,5 @@
 //! Sealing: one sort, one pass that divides the entries into rows, and one counter for each row.
-ghost use Rattle.std.specs.Prelude.{◌≡◌, ℕ, ◌+◌, ◌^◌, ◌<◌, ◌≤◌, [], ◌∷◌, ◌++◌, List, All, IfOk, map};
+ghost use Rattle.std.specs.Prelude.{◌≡◌, ℕ, ◌+◌, ◌^◌, ◌%◌, ◌<◌, ◌≤◌, [], ◌∷◌, ◌++◌, List, All, IfOk, map};
 ghost use Rattle.std.specs.Prelude.{replicate, length, slice_index_or, vec_len};
 ghost use Rattle.claim_word.specs.Passes.{Claim, fresh_pass};
 ghost use Rattle.sealed_runs.specs.Entries.{Run as Seen, IsAscending};
@@ -52,15 +52,25 @@ fn empty_rows(alloc: Global, queues: u32) -> Result<Vec<Row>, NoMemory>
     Ok(rows)
 }
 
+/// The queue of an entry's leaf.
+fn queue_of(entry: Entry, queues: u32) -> usize
+    requires { 0 < queues }
+    ensures queue { result ≡ entry.leaf % queues }
+    ensures leaf { entry.leaf < 2 ^ 32 }
+{
+    (entry.leaf % queues) as usize
+}
+
 /// Divides entries into one row for each queue, each in their order.
 pub(crate) fn divide(alloc: Global, entries: &[Entry], queues: u32) -> Result<Vec<Row>, NoMemory>
     requires { 0 < queues }
     ensures count { IfOk result (λ rows. vec_len rows ≡ queues) }
     ensures rows { IfOk result (λ rows. (m : ℕ) → m < queues → slice_index_or rows.items m [] ≡ row_of queues entries.now m) }
+    ensures leaves { IfOk result (λ _. All (λ e. e.leaf < 2 ^ 32) entries.now) }
 {
     let mut rows = empty_rows(alloc, queues)?;
     for entry in entries {
-        rows[(entry.leaf % queues) as usize].push(*entry)?;
+        rows[queue_of(*entry, queues)].push(*entry)?;
     }
     Ok(rows)
 }

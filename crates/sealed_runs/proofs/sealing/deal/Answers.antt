@@ -19,13 +19,13 @@ loop-pass-preserved c =
     let in_all : i < length all.items = omega (arith, c.loop-pass-test.true, slice, all.ok.0) in
     let last = Some c.in-Some.claim in
     let fresh = All-pop (λ (p : Pass). p ≡ fresh_pass run.claims) c.loop-pass.claims.items c.pop.new.self.items last
-        c.in-Some.ensures.items inv.claims in
+    c.in-Some.ensures.items inv.claims in
     let came = get_or_default now i _ [] in_now ∙ next_pass more all.items now i inv.left in
     let claim = ap (λ (p : Pass). p.claims) fresh.1 in
     let visit = c.fresh.ensures ∙ ap fresh_visit claim in
     let new = c.in_ok-push.ensures
-        ∙ ap (λ (vs : List Visit). vs ++ c.fresh.result ∷ []) came
-        ∙ ap (λ (v : Visit). get_or all.items i [] ++ v ∷ []) visit in
+    ∙ ap (λ (vs : List Visit). vs ++ c.fresh.result ∷ []) came
+    ∙ ap (λ (v : Visit). get_or all.items i [] ++ v ∷ []) visit in
     record {
       claims = fresh.0;
       count = let count = inv.count in omega (arith, c.in-Some.ensures.cases);
@@ -42,4 +42,4 @@ returns c =
     let same : length now ≡ length all.items = omega (arith, c.loop-pass.auto.pass-items, slice, all.ok.0) in
     let far : length now ≤ c.loop-pass.pass-index = omega (arith, c.loop-pass.auto.pass-items, c.loop-pass-test.false) in
     all_changed (λ vs. vs ++ fresh_visit c.args.run.now.claims ∷ []) all.items now c.loop-pass.pass-index all.len same far
-        all.ok.0 inv.dealt
+    all.ok.0 inv.dealt

@@ -15,7 +15,7 @@ at_seam : (P : List Entry → Type 0) (rows before after : List (List Entry)) (r
 at_seam P rows before after row is all =
     let longer = length-append before (row ∷ after) in
     subst P (get_or-append_seam before row after [])
-        (subst (All P) (sym is) all (length before) [] (omega arith))
+    (subst (All P) (sym is) all (length before) [] (omega arith))
 
 pub loop-row-preserved : goal.loop-row-preserved
 loop-row-preserved c =
@@ -36,18 +36,17 @@ loop-row-preserved c =
     } in
     let visits = sym (map-append (λ (r : Run). fresh_visit r.claims) c.loop-row.runs.items (run ∷ [])) in
     let dealt = c.in_ok-deal.ensures
-        ∙ ap (map (λ (vs : List Visit). vs ++ fresh_visit run.claims ∷ [])) inv.6
-        ∙ map_replicate (λ (vs : List Visit). vs ++ fresh_visit run.claims ∷ []) c.args.callers (fresh_visits c.loop-row.runs.items)
-        ∙ ap (replicate c.args.callers) visits
-        ∙ ap (λ (rs : List Run). replicate c.args.callers (fresh_visits rs)) (sym items) in
+    ∙ ap (map (λ (vs : List Visit). vs ++ fresh_visit run.claims ∷ [])) inv.6
+    ∙ map_replicate (λ (vs : List Visit). vs ++ fresh_visit run.claims ∷ []) c.args.callers (fresh_visits c.loop-row.runs.items)
+    ∙ ap (replicate c.args.callers) visits
+    ∙ ap (λ (rs : List Run). replicate c.args.callers (fresh_visits rs)) (sym items) in
     let mapped = ap (map (λ (r : Run). r.entries)) items
-        ∙ map-append (λ (r : Run). r.entries) c.loop-row.runs.items (run ∷ [])
-        ∙ ap (λ (es : List (List Entry)). es ++ run.entries ∷ []) inv.4
-        ∙ ap (λ (es : List Entry). yielded ++ es ∷ []) entries in
+    ∙ map-append (λ (r : Run). r.entries) c.loop-row.runs.items (run ∷ [])
+    ∙ ap (λ (es : List (List Entry)). es ++ run.entries ∷ []) inv.4
+    ∙ ap (λ (es : List Entry). yielded ++ es ∷ []) entries in
     let all_ready = subst (All (IsReady c.args.callers)) (sym items)
-        (All-push (IsReady c.args.callers) c.loop-row.runs.items run inv.5 ready) in
-    let longer = length-append yielded (row ∷ []) in
-    (
+    (All-push (IsReady c.args.callers) c.loop-row.runs.items run inv.5 ready) in
+    let longer = length-append yielded (row ∷ []) in (
       tt,
       tt,
       omega (arith, c.push_reserved.ensures.len, inv.2),
