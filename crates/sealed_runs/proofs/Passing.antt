@@ -3,18 +3,9 @@ use Rattle.std.proofs.Common.{◌≡◌, ◌≢◌, ℕ, ◌<◌, ◌≤◌, Lis
 use Rattle.std.proofs.lemmas.List.{length-set, length-map, get_or-map}
 use mathlib.Core.Logic.{dite}
 use native.Mathlib.Decide.{ℕ_discrete}
-use Rattle.series_core.specs.declared.queue_words.Entry.{Entry}
-use Rattle.series_core.specs.declared.queue_words.PopReply.{PopReply}
-use Rattle.series_core.specs.declared.queue_words.PopReply.TheVariants.{Leaf, Closed}
 use Rattle.sealed_runs.specs.Entries.{Run, no_run, run_at}
 use Rattle.sealed_runs.specs.Visits.{Visit, fresh_visit, visit_at, no_visit, leaves, IsVisit, IsPass}
 use Rattle.sealed_runs.specs.Sealing.{fresh_visits}
-use Rattle.sealed_runs.specs.Popped.{IfLeaf, IfClosed}
-
--- what a Leaf reply gives, it gives in weaker words
-pub if_leaf : (reply : PopReply) (P Q : Entry → Type 0) → ((e : Entry) → P e → Q e) → IfLeaf reply P → IfLeaf reply Q
-if_leaf (Leaf e) P Q weaker h = weaker e h
-if_leaf (Closed v) P Q weaker h = tt
 
 module _ (runs : List Run) (visits : List Visit) (m : ℕ) (w : Visit) (own : IsPass runs visits) (low : m < length runs) where
   -- the visit of the run is the new one

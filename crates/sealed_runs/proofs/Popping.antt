@@ -10,17 +10,8 @@ use Rattle.series_core.specs.declared.queue_words.PopReply.{PopReply}
 use Rattle.series_core.specs.declared.queue_words.PopReply.TheVariants.{Leaf, Closed}
 use Rattle.sealed_runs.specs.Entries.{Run, entry_at}
 use Rattle.sealed_runs.specs.Visits.{Visit, handed, leaves, IsVisit}
-use Rattle.sealed_runs.specs.Popped.{IfLeaf, IfClosed, drew, ended, popped, Pops}
+use Rattle.sealed_runs.specs.Popped.{IfLeaf, IfClosed, Gives, Shuts, drew, ended, popped, Pops}
 use Rattle.sealed_runs.proofs.Handing.{handed_drew, handed_refused}
-
--- what a Leaf reply says of a visit before and after it
-abbrev pub Gives : Run → ℕ → Visit → Visit → Entry → Type 0
-Gives run limit v w e =
-    (e.bound ≤ limit) × (w.closed ≡ None) × (leaves run.entries w ≡ leaves run.entries v ++ e ∷ [])
-
--- what a Closed reply says of a visit before and after it
-abbrev pub Shuts : Run → ℕ → Visit → Visit → ℕ → Type 0
-Shuts run limit v w told = (told ≡ limit) × (w.closed ≡ Some limit) × (leaves run.entries w ≡ leaves run.entries v)
 
 -- what a pop says: the visit stays one of the run, and the reply is one of these
 pub record Says (run : Run) (limit : ℕ) (v : Visit) (reply : PopReply) (w : Visit) : Type 0 where

@@ -4,7 +4,7 @@ use Rattle.series_core.specs.declared.queue_words.Entry.{Entry}
 use Rattle.series_core.specs.declared.queue_words.PopReply.{PopReply}
 use Rattle.series_core.specs.declared.queue_words.PopReply.TheVariants.{Leaf, Closed}
 use Rattle.sealed_runs.specs.Entries.{Run, entry_at}
-use Rattle.sealed_runs.specs.Visits.{Visit}
+use Rattle.sealed_runs.specs.Visits.{Visit, leaves}
 
 -- P holds of the entry of a Leaf reply
 abbrev pub IfLeaf : PopReply → (Entry → Type 0) → Type 0
@@ -38,3 +38,12 @@ pub record Pops (run : Run) (limit : ℕ) (reply : PopReply) (v w : Visit) : Typ
   pub drawn : Option ℕ
   pub place : IfSome drawn (λ n. (n < length run.entries) × (v.claim.met ≤ n) × All (λ x. x < n) v.claim.draws)
   pub is : (reply, w) ≡ popped run.entries limit v drawn
+
+-- what a Leaf reply says: the entry's bound is at most the limit, it is the visit's next Leaf reply, and the run goes on
+abbrev pub Gives : Run → ℕ → Visit → Visit → Entry → Type 0
+Gives run limit v w e =
+    (e.bound ≤ limit) × (w.closed ≡ None) × (leaves run.entries w ≡ leaves run.entries v ++ e ∷ [])
+
+-- what a Closed reply says: its limit is the pop's, the visit keeps it, and no entry is handed out
+abbrev pub Shuts : Run → ℕ → Visit → Visit → ℕ → Type 0
+Shuts run limit v w told = (told ≡ limit) × (w.closed ≡ Some limit) × (leaves run.entries w ≡ leaves run.entries v)

@@ -13,3 +13,6 @@ mod tally;
 pub use closed::RunsClosed;
 pub use pass::RunPass;
 pub use runs::Runs;
+
+#[cfg(test)]
+mod tests;

@@ -1,7 +1,7 @@
 //! What one worker pops with: for each run the pass of its counter, and how the worker's pops of that run ended.
-ghost use Rattle.std.specs.Prelude.{◌≡◌, ◌≤◌, [], Some, None, Option, vec_capacity};
+ghost use Rattle.std.specs.Prelude.{◌≡◌, ◌<◌, ◌≤◌, [], None, vec_capacity, length, is_some};
 ghost use Rattle.claim_word.specs.Passes.{fresh_pass};
-ghost use Rattle.sealed_runs.specs.Visits.{Visit, fresh_visit};
+ghost use Rattle.sealed_runs.specs.Visits.{Visit, fresh_visit, visit_at};
 
 use claim_word::ClaimPass;
 use std::marker::Model;
@@ -60,4 +60,14 @@ impl Model for RunPass {
     ghost view = { λ p. p.visits.items };
 
     ghost invariant = { λ p. Unit {0} };
+}
+
+impl RunPass {
+    /// Whether run m has answered Closed to this pass. It takes no memory.
+    pub fn is_closed(&self, m: u32) -> bool
+        requires { m < length self.now }
+        ensures { result ≡ is_some (visit_at self.now m).closed }
+    {
+        self.visits[m as usize].closed.is_some()
+    }
 }

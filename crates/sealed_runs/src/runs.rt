@@ -4,7 +4,7 @@ ghost use Rattle.std.specs.Prelude.{replicate, length, slice_set, vec_len};
 ghost use Rattle.claim_word.specs.Passes.{fresh_pass};
 ghost use Rattle.sealed_runs.specs.Entries.{LeavesDiffer, IsRun, run_at};
 ghost use Rattle.sealed_runs.specs.Visits.{Visit as Seen, IsPass, fresh_visit, visit_at, leaves};
-ghost use Rattle.sealed_runs.specs.Popped.{IfLeaf, IfClosed, Pops};
+ghost use Rattle.sealed_runs.specs.Popped.{IfLeaf, IfClosed, Gives, Shuts, Pops};
 ghost use Rattle.sealed_runs.specs.Closed.{AreLines};
 ghost use Rattle.sealed_runs.specs.Sealing.{fresh_visits};
 
@@ -78,8 +78,8 @@ impl Runs {
         requires goes_on { (visit_at pass.old m).closed ≡ None }
         ensures place { Pops (run_at self.now.runs m) limit result (visit_at pass.old m) (visit_at pass.new m) }
         ensures others { pass.new ≡ slice_set pass.old m (visit_at pass.new m) }
-        ensures leaf { IfLeaf result (λ e. (e.bound ≤ limit) × (leaves (run_at self.now.runs m).entries (visit_at pass.new m) ≡ leaves (run_at self.now.runs m).entries (visit_at pass.old m) ++ e ∷ [])) }
-        ensures closed { IfClosed result (λ v. (v ≡ limit) × ((visit_at pass.new m).closed ≡ Some limit)) }
+        ensures leaf { IfLeaf result (Gives (run_at self.now.runs m) limit (visit_at pass.old m) (visit_at pass.new m)) }
+        ensures closed { IfClosed result (Shuts (run_at self.now.runs m) limit (visit_at pass.old m) (visit_at pass.new m)) }
         ensures own { IsPass self.now.runs pass.new }
     {
         self.runs[m as usize].pop(&mut pass.visits[m as usize], limit)

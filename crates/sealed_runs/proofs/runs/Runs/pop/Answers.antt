@@ -3,9 +3,9 @@ use Rattle.std.proofs.lemmas.List.{get_or_default}
 use Rattle.series_core.specs.declared.queue_words.Entry.{Entry}
 use Rattle.sealed_runs.specs.Entries.{Run, Sealed, no_run, run_at}
 use Rattle.sealed_runs.specs.Visits.{Visit, no_visit, visit_at, leaves, IsPass}
-use Rattle.sealed_runs.specs.Popped.{IfLeaf, Pops}
-use Rattle.sealed_runs.proofs.Popping.{Gives, Says, pops_say}
-use Rattle.sealed_runs.proofs.Passing.{if_leaf, new_visit, pass_stays}
+use Rattle.sealed_runs.specs.Popped.{IfLeaf, IfClosed, Gives, Shuts, Pops}
+use Rattle.sealed_runs.proofs.Popping.{Says, pops_say}
+use Rattle.sealed_runs.proofs.Passing.{new_visit, pass_stays}
 use Rattle.sealed_runs.proofs.runs.Runs.pop.Goals as goal
 
 -- what the pop of the run says of the pass's visit
@@ -33,18 +33,26 @@ says c =
     pops_say run c.args.limit visit (c.requires.own.each m queue) c.requires.goes_on c.pop.result c.pop.new.visit
     (subst (λ (v : Visit). Pops run c.args.limit c.pop.result v c.pop.new.visit) visit_is pops)
 
+-- the visit of the run after the pop is the one that the pop left
+left : (c : goal.After-pass-1)
+    → visit_at (set c.pass.inside.visits.items c.args.m c.pop.new.visit) c.args.m ≡ c.pop.new.visit
+left c =
+    let m = c.args.m in
+    let w = c.pop.new.visit in
+    ap (λ (vs : List Visit). visit_at (set vs m w) m) c.pass.view_is
+    ∙ new_visit c.args.self.now.runs c.args.pass.now m w c.requires.own c.requires.queue
+
 pub returns-clause-leaf : goal.returns-clause-leaf
 returns-clause-leaf c =
-    let m = c.args.m in
-    let runs = c.args.self.now.runs in
-    let es = (run_at runs m).entries in
-    let w = c.pop.new.visit in
-    let queue = c.requires.queue in
-    let set_is = ap (λ (vs : List Visit). visit_at (set vs m w) m) c.pass.view_is
-    ∙ new_visit runs c.args.pass.now m w c.requires.own queue in
-    if_leaf c.pop.result (Gives (run_at runs m) c.args.limit (visit_at c.args.pass.now m) w) _
-    (λ e gives. (gives.0, ap (leaves es) set_is ∙ gives.2))
-    (says c).leaf
+    let run = run_at c.args.self.now.runs c.args.m in
+    let v = visit_at c.args.pass.now c.args.m in
+    subst (λ (w : Visit). IfLeaf c.pop.result (Gives run c.args.limit v w)) (sym (left c)) (says c).leaf
+
+pub returns-clause-closed : goal.returns-clause-closed
+returns-clause-closed c =
+    let run = run_at c.args.self.now.runs c.args.m in
+    let v = visit_at c.args.pass.now c.args.m in
+    subst (λ (w : Visit). IfClosed c.pop.result (Shuts run c.args.limit v w)) (sym (left c)) (says c).closed
 
 pub returns-clause-own : goal.returns-clause-own
 returns-clause-own c =

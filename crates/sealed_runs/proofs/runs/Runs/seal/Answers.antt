@@ -21,8 +21,8 @@ seal_rows-requires-clause-ascending c k d in_list =
     let low : k < c.args.queues = omega (arith, c.in_ok-rows.ensures.count, rows.ok.0) in
     let run = row_is_run es sorted c.args.queues k moved ascends in
     let row = get_or_default rows.items k d [] in_list
-        ∙ c.in_ok-rows.ensures.rows k low
-        ∙ ap (λ (xs : List Entry). row_of c.args.queues xs k) c.deref.ensures.value in
+    ∙ c.in_ok-rows.ensures.rows k low
+    ∙ ap (λ (xs : List Entry). row_of c.args.queues xs k) c.deref.ensures.value in
     subst IsAscending (sym row) run.ascending
 
 pub seal_rows-requires-clause-count : goal.seal_rows-requires-clause-count
@@ -32,9 +32,9 @@ seal_rows-requires-clause-count c k d in_list =
     let rows = c.in_ok-rows.rows in
     let low : k < c.args.queues = omega (arith, c.in_ok-rows.ensures.count, rows.ok.0) in
     let row = ap (λ (xs : List Entry). length xs)
-        (get_or_default rows.items k d [] in_list ∙ c.in_ok-rows.ensures.rows k low) in
+    (get_or_default rows.items k d [] in_list ∙ c.in_ok-rows.ensures.rows k low) in
     let differ = subst LeavesDiffer (sym c.deref.ensures.value)
-        (differ_sorted es c.sort_unstable.new.self.items c.sort_unstable.ensures.permutation c.requires.leaves) in
+    (differ_sorted es c.sort_unstable.new.self.items c.sort_unstable.ensures.permutation c.requires.leaves) in
     let most = at_most_holes (λ (e : Entry). e.leaf) (2 ^ 32) sorted c.in_ok-rows.ensures.leaves differ in
     let part = length-filter (is_of c.args.queues k) sorted in
     let less = count_by-le-length (is_of c.args.queues k) sorted in
@@ -52,13 +52,13 @@ returns-clause-runs c m low =
     let mapped = length-map runs (λ (run : Run). run.entries) in
     let in_runs : m < length runs = omega (arith, c.in_ok-rows.ensures.count, rows.ok.0, same, mapped) in
     let row = sym (get_or-map (λ (run : Run). run.entries) runs m no_run [] in_runs)
-        ∙ ap (λ (rs : List (List Entry)). get_or rs m []) c.in_ok-runs.ensures.entries
-        ∙ c.in_ok-rows.ensures.rows m low
-        ∙ ap (λ (xs : List Entry). row_of c.args.queues xs m) c.deref.ensures.value in
+    ∙ ap (λ (rs : List (List Entry)). get_or rs m []) c.in_ok-runs.ensures.entries
+    ∙ c.in_ok-rows.ensures.rows m low
+    ∙ ap (λ (xs : List Entry). row_of c.args.queues xs m) c.deref.ensures.value in
     subst (IsRun es c.args.queues m) (sym row) (row_is_run es sorted c.args.queues m moved ascends)
 
 pub returns-clause-own : goal.returns-clause-own
 returns-clause-own c =
     let runs = c.in_ok-runs.runs.items in
     subst (All (IsPass runs)) (sym c.in_ok-runs.ensures.passes)
-        (All-replicate (IsPass runs) c.args.callers (fresh_visits runs) (fresh_is_pass runs))
+    (All-replicate (IsPass runs) c.args.callers (fresh_visits runs) (fresh_is_pass runs))
