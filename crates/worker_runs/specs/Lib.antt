@@ -1,0 +1,3 @@
+-- What workers find together.
+pub use Rattle.list_totals.specs.Totals
+pub mod Drawn
