@@ -53,7 +53,11 @@ module _ (run : Run) (limit : ℕ) (v : Visit) (own : IsVisit run v) (going : v.
           refused = λ x e. absurd (some_none x v.refused e none_refused);
           above = λ x l e. absurd (some_none x v.refused e none_refused);
         } in
-        record { own = still; leaf = (near, going, more); closed = tt }
+        record {
+          own = still;
+          leaf = record { near = near; going = going; next = more; drawn = omega arith; most = omega arith };
+          closed = tt;
+        }
       where
         not_both : v.claim.ended ≡ true → v.claim.ended ≡ false → ⊥
         not_both is not = grind arith
@@ -78,7 +82,7 @@ module _ (run : Run) (limit : ℕ) (v : Visit) (own : IsVisit run v) (going : v.
               let bound = ap (λ y. (entry_at run.entries y).bound) place in
               omega arith;
         } in
-        record { own = still; leaf = tt; closed = (refl, refl, same) }
+        record { own = still; leaf = tt; closed = record { same = refl; shut = refl; none = same } }
       where
         not_both : v.claim.ended ≡ true → v.claim.ended ≡ false → ⊥
         not_both is not = grind arith
@@ -98,7 +102,7 @@ module _ (run : Run) (limit : ℕ) (v : Visit) (own : IsVisit run v) (going : v.
         refused = own.refused;
         above = λ x l e f. absurd (some_none x v.refused e none_refused);
       } in
-      record { own = still; leaf = tt; closed = (refl, refl, refl) }
+      record { own = still; leaf = tt; closed = record { same = refl; shut = refl; none = refl } }
 
   -- what one draw decides says so
   decides : (drawn : Option ℕ)

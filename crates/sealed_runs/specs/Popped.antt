@@ -39,11 +39,17 @@ pub record Pops (run : Run) (limit : ℕ) (reply : PopReply) (v w : Visit) : Typ
   pub place : IfSome drawn (λ n. (n < length run.entries) × (v.claim.met ≤ n) × All (λ x. x < n) v.claim.draws)
   pub is : (reply, w) ≡ popped run.entries limit v drawn
 
--- what a Leaf reply says: the entry's bound is at most the limit, it is the visit's next Leaf reply, and the run goes on
-abbrev pub Gives : Run → ℕ → Visit → Visit → Entry → Type 0
-Gives run limit v w e =
-    (e.bound ≤ limit) × (w.closed ≡ None) × (leaves run.entries w ≡ leaves run.entries v ++ e ∷ [])
+-- what a Leaf reply says: the entry's bound is at most the limit, it is the visit's next Leaf reply, the run goes on,
+-- and one more place of the run is known drawn
+pub record Gives (run : Run) (limit : ℕ) (v w : Visit) (e : Entry) : Type 0 where
+  pub near : e.bound ≤ limit
+  pub going : w.closed ≡ None
+  pub next : leaves run.entries w ≡ leaves run.entries v ++ e ∷ []
+  pub drawn : v.claim.met < w.claim.met
+  pub most : w.claim.met ≤ length run.entries
 
 -- what a Closed reply says: its limit is the pop's, the visit keeps it, and no entry is handed out
-abbrev pub Shuts : Run → ℕ → Visit → Visit → ℕ → Type 0
-Shuts run limit v w told = (told ≡ limit) × (w.closed ≡ Some limit) × (leaves run.entries w ≡ leaves run.entries v)
+pub record Shuts (run : Run) (limit : ℕ) (v w : Visit) (told : ℕ) : Type 0 where
+  pub same : told ≡ limit
+  pub shut : w.closed ≡ Some limit
+  pub none : leaves run.entries w ≡ leaves run.entries v

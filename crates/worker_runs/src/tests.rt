@@ -1,4 +1,5 @@
-//! Threads that draw together find each number once, however they come.
+//! Threads that draw together find each number once, and threads that pop take what is within the limit, however they
+//! come.
 use super::*;
 use std::test::*;
 
@@ -25,6 +26,16 @@ fn two_and_four_workers_find_each_number_once(rt: HostRuntime) -> Result<(), Fai
             assert_eq!(rt; *number, want, "{workers} workers over {count} numbers");
             want = want.wrapping_add(1);
         }
+    }
+    Ok(())
+}
+
+#[test]
+fn four_workers_take_what_is_within_the_limit(rt: HostRuntime) -> Result<(), Fail> {
+    let mut entries = Vec::new(rt.alloc());
+    for leaf in 0..1000u32 {
+        let bound = u64::from(leaf.wrapping_mul(7919) % 1009);
+        entries.push(Entry { bound, leaf })?;
     }
     Ok(())
 }
