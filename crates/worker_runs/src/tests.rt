@@ -1,6 +1,12 @@
 //! Threads that draw together find each number once, and threads that pop take what is within the limit, however they
 //! come.
+ghost use Rattle.std.specs.Prelude.{IfOk};
+ghost use Rattle.sealed_runs.specs.Entries.{LeavesDiffer};
+
 use super::*;
+use outside::NoMemory;
+use series_core::Entry;
+use std::alloc::Global;
 use std::test::*;
 
 #[test]
@@ -30,12 +36,54 @@ fn two_and_four_workers_find_each_number_once(rt: HostRuntime) -> Result<(), Fai
     Ok(())
 }
 
-#[test]
-fn four_workers_take_what_is_within_the_limit(rt: HostRuntime) -> Result<(), Fail> {
-    let mut entries = Vec::new(rt.alloc());
-    for leaf in 0..1000u32 {
+/// Entries of the leaves below `count`, with bounds that jump about below 1009.
+fn scattered(alloc: Global, count: u32) -> Result<Vec<Entry>, NoMemory>
+    ensures { IfOk result (λ entries. LeavesDiffer entries.items) }
+{
+    let mut entries = Vec::with_capacity(alloc, count as usize)?;
+    for leaf in 0..count {
         let bound = u64::from(leaf.wrapping_mul(7919) % 1009);
         entries.push(Entry { bound, leaf })?;
+    }
+    Ok(entries)
+}
+
+#[test]
+fn four_workers_take_what_is_within_the_limit(rt: HostRuntime) -> Result<(), Fail> {
+    for (count, queues, workers, limit) in [
+        (1000, 4, 4, 500),
+        (1000, 3, 2, 0),
+        (7, 64, 4, 2000),
+        (0, 1, 4, 9),
+    ] {
+        let entries = scattered(rt.alloc(), count)?;
+        let plain = entries.clone()?;
+        let Ok(closed) = pop_all(&rt, rt.alloc(), entries, Sizes { queues, workers }, limit) else {
+            return Err(Fail::new("no memory for the runs"));
+        };
+        for m in 0..queues {
+            let mut within = Vec::new(rt.alloc());
+            for entry in &plain {
+                if entry.leaf % queues == m && entry.bound <= limit {
+                    within.push((entry.bound, entry.leaf))?;
+                }
+            }
+            within.sort_unstable();
+            let mut taken = Vec::new(rt.alloc());
+            for entry in closed.taken(m) {
+                taken.push((entry.bound, entry.leaf))?;
+            }
+            assert_eq!(rt;
+                taken.as_slice(),
+                within.as_slice(),
+                "run {m} of {queues}, {workers} workers"
+            );
+            assert_eq!(rt;
+                closed.kept(m),
+                Some(limit),
+                "run {m} of {queues}, {workers} workers"
+            );
+        }
     }
     Ok(())
 }
