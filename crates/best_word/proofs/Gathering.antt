@@ -30,7 +30,8 @@ together_push rest p =
     ∙ ap (λ (xs : List Event). together rest ++ xs) (append-nil p.trace)
 
 -- the last pass is taken in first
-pub first : (rest : List Pass) (t : TableId) (v : View) → v.parts ≡ 1 → Gathered (rest ++ pass_of t v ∷ []) rest v
+pub first : (rest : List Pass) (t : TableId) (v : View) → v.parts ≡ 1
+    → Gathered (rest ++ pass_of t v ∷ []) rest v
 first rest t v part = record {
   is = sym (together_push rest (pass_of t v));
   parts = let h = length-append rest (pass_of t v ∷ []) in omega arith;
@@ -74,6 +75,7 @@ module _ (terms : Terms) (id : ℕ) (v : View) (s : State ℕ View) (h : Kept te
       let mine = h.each id v at in
       record {
         least = least_is h.low terms.start v.trace h.start mine.below (met_here h.low h.source);
-        replies = λ k d in_list. met_here (reply (get_or v.trace k d)) (h.replies id v at k d in_list);
+        replies = λ k d in_list. met_here (reply (get_or v.trace k d))
+            (h.replies id v at k d in_list);
         crossed = mine.crossed;
       }

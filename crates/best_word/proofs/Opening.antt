@@ -30,14 +30,17 @@ module _ (terms : Terms) (id floor : ℕ) (v : View) (s : State ℕ View) (h : K
   -- every record has an empty trace
   no_trace : (j : ℕ) (u : View) → get_elem? s.views j ≡ some u → u.trace ≡ []
   no_trace j u there = dite (ℕ_discrete j id)
-      (λ (same : j ≡ id). ap (λ (w : View). w.trace) (same_record s.views j id u v same there at) ∙ none)
-      (λ (other : j ≢ id). (h.each j u there).idle (others_idle s.views id j v u at (h.parts ∙ sym all) other there))
+      (λ (same : j ≡ id). ap (λ (w : View). w.trace) (same_record s.views j id u v same there at)
+      ∙ none)
+      (λ (other : j ≢ id). (h.each j u there).idle
+      (others_idle s.views id j v u at (h.parts ∙ sym all) other there))
 
   -- the number is the start
   number_is_start : h.low ≡ terms.start
   number_is_start = ⊎_elim
       (λ (first : h.low ≡ terms.start). first)
-      (λ (m : Met h.low s.views). absurd (subst (Offered h.low) (no_trace m.seat m.view m.there) m.offered))
+      (λ (m : Met h.low s.views). absurd
+      (subst (Offered h.low) (no_trace m.seat m.view m.there) m.offered))
       h.source
 
   -- the records after the opening
@@ -90,7 +93,8 @@ module _ (terms : Terms) (id floor : ℕ) (v : View) (s : State ℕ View) (h : K
         parts = omega arith;
         each = told_fits;
         replies = λ j u there.
-            let Replies : List Event → Type 0 = λ es. All (λ e. Source terms.start told_views (reply e)) es in
+            let Replies : List Event
+            → Type 0 = λ es. All (λ e. Source terms.start told_views (reply e)) es in
             subst Replies (sym (no_trace_told j u there)) (λ k d in_list. absurd (omega arith));
         crossed = λ i j u w apart ti tj.
             subst (λ (es : List Event). CrossAll es w.trace) (sym (no_trace_told i u ti))
@@ -110,6 +114,7 @@ pub opens : (terms : Terms) (slots id floor : ℕ) (me : Me ℕ View) (st : Step
     → me.0.parts ≡ terms.callers → me.0.trace ≡ [] → floor ≤ terms.start
     → Allows (Kept terms) slots id me 0 (λ n. n) (Opens floor st me)
 opens terms slots id floor me st empty all none below s h homes at small =
-    let opened : Opens floor st me h.low (floored me.0 floor, me.1) = record { slots = empty; view = refl } in
+    let opened : Opens floor st me h.low (floored me.0 floor, me.1) =
+    record { slots = empty; view = refl } in
     let kept = told terms id floor me.0 s h at all none below in
     subst (Gives terms floor id me st s) (sym h.word) (floored me.0 floor, keeps, tt, kept, opened)

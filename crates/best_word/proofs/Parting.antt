@@ -20,8 +20,11 @@ none_of P es none = subst (All P) (sym none) (λ k d in_list. absurd (omega arit
 
 -- an empty trace crosses every other, on both sides
 crosses_none : (es fs : List Event) → es ≡ [] → CrossAll es fs × CrossAll fs es
-crosses_none es fs none =
-    (none_of (λ a. All (Crosses a) fs) es none, λ k d in_list. none_of (Crosses (get_or fs k d)) es none)
+crosses_none es fs none = (
+  none_of (λ a. All (Crosses a) fs) es none,
+  λ k d in_list. none_of (Crosses (get_or fs k d)) es
+      none,
+)
 
 module _ (terms : Terms) (id : ℕ) (v : View) (some_part : 0 < v.parts) (none : v.trace ≡ [])
     (s : State ℕ View) (h : Kept terms s) (at : get_elem? s.views id ≡ some v) where
@@ -98,7 +101,8 @@ module _ (terms : Terms) (id : ℕ) (v : View) (some_part : 0 < v.parts) (none :
         replies = λ j u there. ⊎_elim
             (λ (was : get_elem? s.views j ≡ some u).
             replies_stay terms.start s.views split_views u.trace split_stays (h.replies j u was))
-            (λ (idle : u.trace ≡ []). none_of (λ e. Source terms.start split_views (reply e)) u.trace idle)
+            (λ (idle : u.trace ≡ []). none_of (λ e. Source terms.start split_views (reply e))
+            u.trace idle)
             (old_or_none j u there);
         crossed = λ i j u w apart ti tj. ⊎_elim
             (λ (a : get_elem? s.views i ≡ some u). ⊎_elim
@@ -180,13 +184,15 @@ module _ (terms : Terms) (id : ℕ) (v : View) (other : ℕ) (w : View) (part : 
   -- the replies of old records stay met
   old_replies : (j : ℕ) (u : View) → get_elem? s.views j ≡ some u
       → All (λ e. Source terms.start joined_views (reply e)) u.trace
-  old_replies j u was = replies_stay terms.start s.views joined_views u.trace join_stays (h.replies j u was)
+  old_replies j u was =
+      replies_stay terms.start s.views joined_views u.trace join_stays (h.replies j u was)
 
   -- the replies of each record are met after the join
   replies_after : (j : ℕ) (u : View) → Place s.views id other (both v w) j u
       → All (λ e. Source terms.start joined_views (reply e)) u.trace
   replies_after j u (at_spent e) =
-      none_of (λ a. Source terms.start joined_views (reply a)) u.trace (sym (ap (λ (x : View). x.trace) e))
+      none_of (λ a. Source terms.start joined_views (reply a)) u.trace
+      (sym (ap (λ (x : View). x.trace) e))
   replies_after j u (at_joined e is) =
       subst (λ (x : View). All (λ a. Source terms.start joined_views (reply a)) x.trace) is
       (All-append (λ a. Source terms.start joined_views (reply a)) w.trace v.trace
@@ -196,7 +202,8 @@ module _ (terms : Terms) (id : ℕ) (v : View) (other : ℕ) (w : View) (part : 
   -- offers cross after the join
   crossed_after : (i j : ℕ) (a b : View) → i ≢ j → Place s.views id other (both v w) i a
       → Place s.views id other (both v w) j b → CrossAll a.trace b.trace
-  crossed_after i j a b i_j (at_spent e) q = (crosses_none a.trace b.trace (sym (ap (λ (x : View). x.trace) e))).0
+  crossed_after i j a b i_j (at_spent e) q =
+      (crosses_none a.trace b.trace (sym (ap (λ (x : View). x.trace) e))).0
   crossed_after i j a b i_j (at_joined e is) (at_spent f) =
       (crosses_none b.trace a.trace (sym (ap (λ (x : View). x.trace) f))).1
   crossed_after i j a b i_j (at_joined e is) (at_joined f is_too) = absurd (i_j (e ∙ sym f))
@@ -210,7 +217,8 @@ module _ (terms : Terms) (id : ℕ) (v : View) (other : ℕ) (w : View) (part : 
   crossed_after i j a b i_j (elsewhere e g was) (at_joined f is) =
       subst (λ (x : View). CrossAll a.trace x.trace) is
       (λ k d in_list. All-append (Crosses (get_or a.trace k d)) w.trace v.trace
-      (h.crossed i other a w g was other_there k d in_list) (h.crossed i id a v e was at k d in_list))
+      (h.crossed i other a w g was other_there k d in_list)
+      (h.crossed i id a v e was at k d in_list))
   crossed_after i j a b i_j (elsewhere e g was) (elsewhere f k too) = h.crossed i j a b i_j was too
 
   -- the rule holds after the join

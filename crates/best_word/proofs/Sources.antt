@@ -25,13 +25,15 @@ same_record views i id u v same there at =
     some-injective u v (sym there ∙ ap (get_elem? views) same ∙ at)
 
 -- a source stays one where each offer stays met
-pub source_stays : (start n : ℕ) (before after : List View) → (Met n before → Met n after) → Source start before n
+pub source_stays : (start n : ℕ) (before after : List View) → (Met n before → Met n after)
+    → Source start before n
     → Source start after n
 source_stays start n before after stays source =
     ⊎_elim (λ (first : n ≡ start). inl first) (λ (m : Met n before). inr (stays m)) source
 
 -- the replies of a trace stay met where each offer stays met
-pub replies_stay : (start : ℕ) (before after : List View) (es : List Event) → ((n : ℕ) → Met n before → Met n after)
+pub replies_stay : (start : ℕ) (before after : List View) (es : List Event)
+    → ((n : ℕ) → Met n before → Met n after)
     → All (λ e. Source start before (reply e)) es → All (λ e. Source start after (reply e)) es
 replies_stay start before after es stays replies k d in_list =
     source_stays start _ before after (stays _) (replies k d in_list)
@@ -79,7 +81,8 @@ met_joined n views id v other w apart at there m = dite (ℕ_discrete m.seat id)
     (λ (not_other : m.seat ≢ other). record {
       seat = m.seat;
       view = m.view;
-      there = set_else now other m.seat spent not_other ∙ set_else views id m.seat (both v w) not_id ∙ m.there;
+      there = set_else now other m.seat spent not_other
+          ∙ set_else views id m.seat (both v w) not_id ∙ m.there;
       offered = m.offered;
     }))
   where

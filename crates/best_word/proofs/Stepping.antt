@@ -45,16 +45,18 @@ le_or_lt n k = grind arith
 
 -- the less of the number and an offer is the number or the offer
 offer_made : (k n : ℕ) → (min n k ≡ n) ⊎ Offered (min n k) (Offer k n ∷ [])
-offer_made k n = ⊎_elim (λ (le : n ≤ k). inl (omega arith)) (λ (lt : k < n). inr (inl (omega arith))) (le_or_lt n k)
+offer_made k n = ⊎_elim (λ (le : n ≤ k). inl (omega arith))
+    (λ (lt : k < n). inr (inl (omega arith))) (le_or_lt n k)
 
 -- what a step of a pass owes: it finds the number `low`, leaves `now` and adds the event e to its trace
-record Owes (terms : Terms) (s : State ℕ View) (h : Kept terms s) (now : ℕ) (e : Event) : Type 0 where
-  falls : now ≤ h.low
-  bound : h.floor ≤ now
-  fits : AtMost now e
-  made : (now ≡ h.low) ⊎ Offered now (e ∷ [])
-  answers : reply e ≡ h.low
-  crosses : (a : Event) → AtMost h.low a → Crosses a e × Crosses e a
+record Owes (terms : Terms) (s : State ℕ View) (h : Kept terms s) (now : ℕ) (e : Event) : Type 0
+  where
+    falls : now ≤ h.low
+    bound : h.floor ≤ now
+    fits : AtMost now e
+    made : (now ≡ h.low) ⊎ Offered now (e ∷ [])
+    answers : reply e ≡ h.low
+    crosses : (a : Event) → AtMost h.low a → Crosses a e × Crosses e a
 
 module _ (terms : Terms) (id now : ℕ) (v : View) (e : Event) (s : State ℕ View) (h : Kept terms s)
     (at : get_elem? s.views id ≡ some v) (part : v.parts ≡ 1) (owes : Owes terms s h now e) where
@@ -69,7 +71,8 @@ module _ (terms : Terms) (id now : ℕ) (v : View) (e : Event) (s : State ℕ Vi
       record {
         idle = λ none. absurd (omega arith);
         floor = λ some_part. mine.floor (omega arith);
-        below = All-push (AtMost now) v.trace e (all_less now h.low v.trace owes.falls mine.below) owes.fits;
+        below = All-push (AtMost now) v.trace e (all_less now h.low v.trace owes.falls mine.below)
+            owes.fits;
         crossed = all_pairs_push Crosses v.trace e mine.crossed
             (λ k d in_list. (owes.crosses (get_or v.trace k d) (mine.below k d in_list)).0);
       }
@@ -97,13 +100,15 @@ module _ (terms : Terms) (id now : ℕ) (v : View) (e : Event) (s : State ℕ Vi
       (source_stays terms.start h.low s.views views_after (stays_met h.low) h.source)
 
   -- the event crosses each trace of another record, on both sides
-  cross_left : (j : ℕ) (w : View) → j ≢ id → get_elem? s.views j ≡ some w → CrossAll (seen v e).trace w.trace
+  cross_left : (j : ℕ) (w : View) → j ≢ id → get_elem? s.views j ≡ some w
+      → CrossAll (seen v e).trace w.trace
   cross_left j w apart there = All-push (λ x. All (Crosses x) w.trace) v.trace e
       (h.crossed id j v w (λ same. apart (sym same)) at there)
       (λ k d in_list. (owes.crosses (get_or w.trace k d) ((h.each j w there).below k d in_list)).1)
 
   -- the same with the other trace first
-  cross_right : (i : ℕ) (u : View) → i ≢ id → get_elem? s.views i ≡ some u → CrossAll u.trace (seen v e).trace
+  cross_right : (i : ℕ) (u : View) → i ≢ id → get_elem? s.views i ≡ some u
+      → CrossAll u.trace (seen v e).trace
   cross_right i u apart there k d in_list = All-push (Crosses (get_or u.trace k d)) v.trace e
       (h.crossed i id u v apart there at k d in_list)
       (owes.crosses (get_or u.trace k d) ((h.each i u there).below k d in_list)).0
@@ -131,7 +136,8 @@ module _ (terms : Terms) (id now : ℕ) (v : View) (e : Event) (s : State ℕ Vi
       (λ (t : (j ≡ id) × (seen v e ≡ u)).
       subst (λ (x : View). All (λ a. Source terms.start views_after (reply a)) x.trace) t.1
       (All-push (λ a. Source terms.start views_after (reply a)) v.trace e
-      (replies_stay terms.start s.views views_after v.trace stays_met (h.replies id v at)) reply_met))
+      (replies_stay terms.start s.views views_after v.trace stays_met (h.replies id v at))
+      reply_met))
       (λ (t : (j ≢ id) × (get_elem? s.views j ≡ some u)).
       replies_stay terms.start s.views views_after u.trace stays_met (h.replies j u t.1))
       (at_set s.views id j (seen v e) u there)
@@ -161,7 +167,8 @@ module _ (terms : Terms) (id now : ℕ) (v : View) (e : Event) (s : State ℕ Vi
       }
 
 -- what a step of a pass that leaves `f n` gives where the word is ws: a new record that keeps the rule and is told
-abbrev Gives : Terms → ℕ → Me ℕ View → (ℕ → ℕ) → (ℕ → Me ℕ View → Type 0) → State ℕ View → List ℕ → Type 0
+abbrev Gives : Terms → ℕ → Me ℕ View → (ℕ → ℕ) → (ℕ → Me ℕ View → Type 0) → State ℕ View → List ℕ
+    → Type 0
 Gives terms id me f tell s ws =
     let state : State ℕ View = record { words = ws; homes = s.homes; views = s.views } in
     (w : View) × (a : Act ℕ) × Valid s.homes me.1 a
@@ -174,7 +181,8 @@ pub record OnePass (terms : Terms) (v : View) : Type 0 where
   pub part : v.parts ≡ 1
 
 -- a seat of one pass may load
-pub reads : (terms : Terms) (slots id : ℕ) (me : Me ℕ View) (st : Step ℕ) → me.1 ≡ [] → OnePass terms me.0
+pub reads : (terms : Terms) (slots id : ℕ) (me : Me ℕ View) (st : Step ℕ) → me.1 ≡ []
+    → OnePass terms me.0
     → Allows (Kept terms) slots id me 0 (λ n. n) (Reads st me)
 reads terms slots id me st none one s h homes at small =
     let v = me.0 in
@@ -200,11 +208,14 @@ reads terms slots id me st none one s h homes at small =
       below = mine.below;
       view = refl;
     } in
-    subst (Gives terms id me (λ n. n) (Reads st me) s) (sym h.word) (seen v (Read h.low), keeps, tt, kept, told)
+    subst (Gives terms id me (λ n. n) (Reads st me) s) (sym h.word)
+    (seen v (Read h.low), keeps, tt, kept, told)
 
 -- a seat of one pass may make the number the less of itself and an offer that is at least the floor
-pub offers : (terms : Terms) (slots id k : ℕ) (me : Me ℕ View) (st : Step ℕ) → st.first ≡ k → me.1 ≡ []
-    → OnePass terms me.0 → me.0.floor ≤ k → Allows (Kept terms) slots id me 0 (λ n. min n k) (Offers st me)
+pub offers : (terms : Terms) (slots id k : ℕ) (me : Me ℕ View) (st : Step ℕ) → st.first ≡ k
+    → me.1 ≡ []
+    → OnePass terms me.0 → me.0.floor ≤ k
+    → Allows (Kept terms) slots id me 0 (λ n. min n k) (Offers st me)
 offers terms slots id k me st first none one up s h homes at small =
     let v = me.0 in
     let bound = h.bound in

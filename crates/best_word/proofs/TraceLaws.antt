@@ -18,7 +18,8 @@ pub all_less : (m n : ℕ) (es : List Event) → m ≤ n → All (AtMost n) es �
 all_less m n es le h k d in_list = at_most_less m n (get_or es k d) le (h k d in_list)
 
 -- a legal trace stays legal with one event more that is in bounds and at most all before it
-pub legal_push : (start floor : ℕ) (es : List Event) (e : Event) → IsLegal start floor es → InBounds start floor e
+pub legal_push : (start floor : ℕ) (es : List Event) (e : Event) → IsLegal start floor es
+    → InBounds start floor e
     → All (AtMost (reply e)) es → IsLegal start floor (es ++ e ∷ [])
 legal_push start floor es e legal bounds falls = record {
   bounds = All-push (InBounds start floor) es e legal.bounds bounds;
@@ -64,7 +65,8 @@ least_offered n start (Offer v r ∷ es) h = ⊎_elim
     h
 
 -- what is within reach of all, and is the start or was offered, is the least
-pub least_is : (n start : ℕ) (es : List Event) → n ≤ start → All (AtMost n) es → (n ≡ start) ⊎ Offered n es
+pub least_is : (n start : ℕ) (es : List Event) → n ≤ start → All (AtMost n) es → (n ≡ start)
+    ⊎ Offered n es
     → n ≡ least start es
 least_is n start es le below met =
     let up = least_le n start es le below in
@@ -81,6 +83,7 @@ pairs_append [] ys a b both = b
 pairs_append (x ∷ xs) ys a b both =
     let head = All-append (Crosses x) xs ys
     (λ k d in_list. a 0 (suc k) d (omega arith) (omega arith)) (both 0 x (omega arith)) in
-    let inner : AllPairs Crosses xs = λ i j d lt in_list. a (suc i) (suc j) d (omega arith) (omega arith) in
+    let inner : AllPairs Crosses xs =
+    λ i j d lt in_list. a (suc i) (suc j) d (omega arith) (omega arith) in
     let across : CrossAll xs ys = λ k d in_list. both (suc k) d (omega arith) in
     AllPairs-cons Crosses x (xs ++ ys) head (pairs_append xs ys inner b across)

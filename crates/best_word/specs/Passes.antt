@@ -44,7 +44,8 @@ pub record IsPass (v : View) : Type 0 where
 -- the number's table has one word, keeps these terms, and has some pass
 abbrev pub IsBest : TableId → Terms → ℕ → ℕ → Type 0
 IsBest t key start callers =
-    (key ≡ record { start = start; callers = callers }) × (t.words ≡ 1) × (t.slots ≡ 0) × (0 < callers)
+    (key ≡ record { start = start; callers = callers }) × (t.words ≡ 1) × (t.slots ≡ 0)
+    × (0 < callers)
 
 -- the traces of all passes, one after another
 abbrev pub together : List Pass → List Event

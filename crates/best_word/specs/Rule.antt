@@ -12,7 +12,8 @@ use Rattle.best_word.specs.declared.rule.Event.TheVariants.{Read, Offer}
 
 -- the record of so many passes of this floor that have read and offered nothing
 abbrev pub fresh : Terms → ℕ → ℕ → View
-fresh t floor parts = record { start = t.start; floor = floor; callers = t.callers; parts = parts; trace = [] }
+fresh t floor parts =
+    record { start = t.start; floor = floor; callers = t.callers; parts = parts; trace = [] }
 
 -- the first record stands for all passes and has yet to be told their floor
 abbrev pub root : Terms → View
@@ -76,8 +77,10 @@ pub record Kept (terms : Terms) (s : State ℕ View) : Type 0 where
   pub source : Source terms.start s.views low
   pub parts : total (λ v. v.parts) s.views ≡ terms.callers
   pub each : (j : ℕ) (v : View) → get_elem? s.views j ≡ some v → Fits floor low v
-  pub replies : (j : ℕ) (v : View) → get_elem? s.views j ≡ some v → All (λ e. Source terms.start s.views (reply e)) v.trace
-  pub crossed : (i j : ℕ) (u v : View) → i ≢ j → get_elem? s.views i ≡ some u → get_elem? s.views j ≡ some v → CrossAll u.trace v.trace
+  pub replies : (j : ℕ) (v : View) → get_elem? s.views j ≡ some v
+      → All (λ e. Source terms.start s.views (reply e)) v.trace
+  pub crossed : (i j : ℕ) (u v : View) → i ≢ j → get_elem? s.views i ≡ some u
+      → get_elem? s.views j ≡ some v → CrossAll u.trace v.trace
 
 -- the opening load tells the record this floor
 pub record Opens (floor : ℕ) (s : Step ℕ) (v : Me ℕ View) (n : ℕ) (w : Me ℕ View) : Type 0 where

@@ -13,19 +13,22 @@ use Rattle.claim_word.specs.Rule.{taken, ended, Fits, Kept, Draws}
 use Rattle.claim_word.proofs.Records.{all_below, EachFits, fits_set, after}
 
 -- where the counter is below the count, no pass has ended
-none_ended : (ends drawn n count : ℕ) → (0 < ends → drawn ≡ count) → n ≡ drawn + ends → n < count → ends ≡ 0
+none_ended : (ends drawn n count : ℕ) → (0 < ends → drawn ≡ count) → n ≡ drawn + ends → n < count
+    → ends ≡ 0
 none_ended zero drawn n count whole is low = refl
 none_ended (suc ends) drawn n count whole is low =
     let full : drawn ≡ count = whole (omega arith) in absurd (omega arith)
 
 -- where the counter is at the count or above, all is drawn
-all_drawn : (ends drawn n count : ℕ) → (0 < ends → drawn ≡ count) → n ≡ drawn + ends → drawn ≤ count → count ≤ n
+all_drawn : (ends drawn n count : ℕ) → (0 < ends → drawn ≡ count) → n ≡ drawn + ends
+    → drawn ≤ count → count ≤ n
     → drawn ≡ count
 all_drawn zero drawn n count whole is bound high = omega arith
 all_drawn (suc ends) drawn n count whole is bound high = whole (omega arith)
 
 module _ (terms : Terms) (id n : ℕ) (v : View) (s : State ℕ View) (h : Kept terms s)
-    (at : get_elem? s.views id ≡ some v) (is : n ≡ h.drawn + total (λ u. u.ends) s.views) (part : v.parts ≡ 1) where
+    (at : get_elem? s.views id ≡ some v) (is : n ≡ h.drawn + total (λ u. u.ends) s.views)
+    (part : v.parts ≡ 1) where
   -- the rule holds after a number is drawn
   takes : n < terms.count → Kept terms (after s ((n + 1) % 2 ^ 64) id (taken v n))
   takes low =
@@ -105,7 +108,8 @@ Adds terms id v st s ws =
     × Draws st (v, []) found (w, carried_after {S = ℕ} [] a)
 
 -- a seat of one pass that has not ended may add one
-draws : (terms : Terms) (slots id : ℕ) (v : View) (st : Step ℕ) → v.count ≡ terms.count → v.parts ≡ 1 → v.ends ≡ 0
+draws : (terms : Terms) (slots id : ℕ) (v : View) (st : Step ℕ) → v.count ≡ terms.count
+    → v.parts ≡ 1 → v.ends ≡ 0
     → Allows (Kept terms) slots id (v, []) 0 (λ n. (n + 1) % 2 ^ 64) (Draws st (v, []))
 draws terms slots id v st count part fresh_end s h homes at small =
     let n : ℕ = h.drawn + total (λ u. u.ends) s.views in
@@ -135,8 +139,13 @@ draws terms slots id v st count part fresh_end s h homes at small =
           met = λ low. absurd (omega arith);
           taken = λ low. absurd (omega arith);
           ended = λ _. refl;
-        } in
-        (ended v, keeps, tt, ends_here terms id n v s h at is part fresh_end count (omega arith), told)
+        } in (
+          ended v,
+          keeps,
+          tt,
+          ends_here terms id n v s h at is part fresh_end count (omega arith),
+          told,
+        )
 
 -- the same for a seat whose list of slots is known to be empty
 pub draws_as : (terms : Terms) (slots id : ℕ) (me : Me ℕ View) (st : Step ℕ) → me.1 ≡ []

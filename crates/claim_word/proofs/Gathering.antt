@@ -19,7 +19,8 @@ one_if_ended p = cond p.ended 1 0
 
 -- v has taken in all the passes but the rest
 pub record Gathered (all rest : List Pass) (v : View) : Type 0 where
-  pub once : (x : ℕ) → times x v.draws + total (λ (p : Pass). times x p.draws) rest ≡ total (λ (p : Pass). times x p.draws) all
+  pub once : (x : ℕ) → times x v.draws + total (λ (p : Pass). times x p.draws) rest ≡ total
+      (λ (p : Pass). times x p.draws) all
   pub ends : total one_if_ended all ≤ v.ends + total one_if_ended rest
   pub met : greatest (λ (p : Pass). p.met) all ≤ max v.met (greatest (λ (p : Pass). p.met) rest)
   pub parts : v.parts + length rest ≡ length all
@@ -29,10 +30,12 @@ one_end : (n : ℕ) → cond (ltb 0 n) 1 0 ≤ n
 one_end n = grind (arith, nat_tests)
 
 -- the last pass is taken in first
-pub first : (rest : List Pass) (t : TableId) (v : View) → v.parts ≡ 1 → Gathered (rest ++ pass_of t v ∷ []) rest v
+pub first : (rest : List Pass) (t : TableId) (v : View) → v.parts ≡ 1
+    → Gathered (rest ++ pass_of t v ∷ []) rest v
 first rest t v part = record {
   once = λ x. let h = total_push (λ (p : Pass). times x p.draws) rest (pass_of t v) in omega arith;
-  ends = let h = total_push one_if_ended rest (pass_of t v) in let e = one_end v.ends in omega arith;
+  ends = let h = total_push one_if_ended rest (pass_of t v) in let e = one_end v.ends in
+      omega arith;
   met = let h = greatest_push (λ (p : Pass). p.met) rest (pass_of t v) in omega arith;
   parts = let h = length-append rest (pass_of t v ∷ []) in omega arith;
 }
@@ -51,7 +54,8 @@ more all rest t v w part g = record {
       let e = one_end w.ends in
       let was = g.ends in
       omega arith;
-  met = let h = greatest_push (λ (p : Pass). p.met) rest (pass_of t w) in let was = g.met in omega arith;
+  met = let h = greatest_push (λ (p : Pass). p.met) rest (pass_of t w) in let was = g.met in
+      omega arith;
   parts = let h = length-append rest (pass_of t w ∷ []) in let was = g.parts in omega arith;
 }
 
@@ -87,7 +91,8 @@ ended_there : (xs : List Pass) (k : ℕ) (d : Pass) → k < length xs → (get_o
 ended_there [] k d in_list e = absurd (omega arith)
 ended_there (p ∷ xs) zero d in_list e =
     let here : one_if_ended p ≡ 1 = ap (λ (b : Bool). cond b 1 0) e in omega arith
-ended_there (p ∷ xs) (suc k) d in_list e = let rest = ended_there xs k d (omega arith) e in omega arith
+ended_there (p ∷ xs) (suc k) d in_list e = let rest = ended_there xs k d (omega arith) e in
+    omega arith
 
 -- the records of all passes fit together
 pub each_once : (count : ℕ) (all : List Pass) (v : View) → Gathered all [] v → KnowsAll count v

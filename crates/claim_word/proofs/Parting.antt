@@ -33,7 +33,8 @@ parts_off terms id v some_part none open_still s h at =
     let room = h.room in
     let all = h.parts in
     let before = h.each id v at in
-    let same : total (λ (u : View). u.ends) (left_views ++ one v ∷ []) ≡ total (λ (u : View). u.ends) s.views =
+    let same : total (λ (u : View). u.ends) (left_views ++ one v ∷ []) ≡ total
+    (λ (u : View). u.ends) s.views =
     omega arith in
     let left : Fits h.drawn (less v) = record {
       ends = omega arith;
@@ -73,7 +74,8 @@ fits_both drawn v w mine theirs =
     let together = both v w in
     record {
       ends = omega arith;
-      idle = λ none. ap (λ (xs : List ℕ). xs ++ w.draws) (mine.idle (omega arith)) ∙ theirs.idle (omega arith);
+      idle = λ none. ap (λ (xs : List ℕ). xs ++ w.draws) (mine.idle (omega arith))
+          ∙ theirs.idle (omega arith);
       below = All-append (λ x. x < together.met) v.draws w.draws
           (all_below v.met together.met v.draws (omega arith) mine.below)
           (all_below w.met together.met w.draws (omega arith) theirs.below);
@@ -101,7 +103,8 @@ joins terms id v other w s h at apart there =
     let bound = h.bound in
     let room = h.room in
     let all = h.parts in
-    let same : total (λ (u : View). u.ends) (set now other spent) ≡ total (λ (u : View). u.ends) s.views =
+    let same : total (λ (u : View). u.ends) (set now other spent) ≡ total (λ (u : View). u.ends)
+    s.views =
     omega arith in
     let glued = fits_both h.drawn v w (h.each id v at) (h.each other w other_there) in
     record {
@@ -118,7 +121,8 @@ joins terms id v other w s h at apart there =
           let was = h.once x in
           omega arith;
       each = fits_set h.drawn h.drawn now other spent (omega arith)
-          (fits_set h.drawn h.drawn s.views id (both v w) (omega arith) h.each glued) (fits_spent h.drawn);
+          (fits_set h.drawn h.drawn s.views id (both v w) (omega arith) h.each glued)
+          (fits_spent h.drawn);
     }
   where
     other_there : get_elem? s.views other ≡ some w

@@ -8,7 +8,8 @@ use Rattle.claim_word.specs.declared.rule.View.{View}
 use Rattle.claim_word.specs.Rule.{Fits}
 
 -- numbers below a bound are below a greater one
-pub all_below : (before after : ℕ) (xs : List ℕ) → before ≤ after → All (λ x. x < before) xs → All (λ x. x < after) xs
+pub all_below : (before after : ℕ) (xs : List ℕ) → before ≤ after → All (λ x. x < before) xs
+    → All (λ x. x < after) xs
 all_below before after xs le h k d in_list = let here = h k d in_list in omega arith
 
 -- a record fits where more is drawn

@@ -1,5 +1,5 @@
 -- What contracts see of claims and of a pass: the record of a pass is its own, and nothing of it is ever undone.
-use Rattle.std.specs.Prelude.{◌≡◌, ℕ, ◌≤◌, ◌<◌, List, [], Bool, true, false, refl, ltb, All}
+use Rattle.std.specs.Prelude.{◌≡◌, ℕ, ◌+◌, ◌≤◌, ◌<◌, List, [], ◌∷◌, ◌++◌, Bool, true, false, refl, ltb, All}
 use Rattle.std.specs.Coded.{Coded, code_by, coded×, coded_ℕ, coded_list, coded_bool}
 use Rattle.atomic_table.specs.Seated.{TableId, table_id_coded}
 use Rattle.list_totals.specs.Totals.{total, times, once_below}
@@ -41,14 +41,25 @@ pass_code = code_by (Claim × (List ℕ × (ℕ × Bool)))
 abbrev pub fresh_pass : Claim → Pass
 fresh_pass c = record { claims = c; draws = []; met = 0; ended = false }
 
+-- the pass after it drew n
+abbrev pub drew : Pass → ℕ → Pass
+drew p n = record p { draws = p.draws ++ n ∷ []; met = n + 1 }
+
 -- the pass that a seat of this table with this record is
 abbrev pub pass_of : TableId → View → Pass
-pass_of t v = record { claims = claim_of t v.count v.callers; draws = v.draws; met = v.met; ended = ltb 0 v.ends }
+pass_of t v = record {
+  claims = claim_of t v.count v.callers;
+  draws = v.draws;
+  met = v.met;
+  ended =
+      ltb 0 v.ends;
+}
 
 -- the counter's table has one word, keeps these terms, and has some pass
 abbrev pub IsClaim : TableId → Terms → ℕ → ℕ → Type 0
 IsClaim t key count callers =
-    (key ≡ record { count = count; callers = callers }) × (t.words ≡ 1) × (t.slots ≡ 0) × (0 < callers)
+    (key ≡ record { count = count; callers = callers }) × (t.words ≡ 1) × (t.slots ≡ 0)
+    × (0 < callers)
 
 -- the draws of all passes together are the numbers below `drawn`, each once; as many were drawn at least as any
 -- pass had met; and all were drawn where a pass has ended

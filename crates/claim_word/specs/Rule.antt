@@ -9,7 +9,15 @@ use Rattle.claim_word.specs.declared.rule.Terms.{Terms}
 
 -- the record of so many passes that have drawn nothing
 abbrev pub fresh : Terms → ℕ → View
-fresh t parts = record { count = t.count; callers = t.callers; parts = parts; draws = []; met = 0; ends = 0 }
+fresh t parts = record {
+  count = t.count;
+  callers = t.callers;
+  parts = parts;
+  draws = [];
+  met =
+      0;
+  ends = 0;
+}
 
 -- the first record stands for all passes
 abbrev pub root : Terms → View
@@ -25,7 +33,13 @@ one v = record { count = v.count; callers = v.callers; parts = 1; draws = []; me
 
 -- two records as one
 abbrev pub both : View → View → View
-both v w = record v { parts = v.parts + w.parts; draws = v.draws ++ w.draws; met = max v.met w.met; ends = v.ends + w.ends }
+both v w = record v {
+  parts = v.parts + w.parts;
+  draws = v.draws ++ w.draws;
+  met =
+      max v.met w.met;
+  ends = v.ends + w.ends;
+}
 
 -- the record of no pass
 abbrev pub spent : View

@@ -1,7 +1,7 @@
 //! The shared counter. Its one rule: each draw is one add of one, and what it found is the draw.
-ghost use Rattle.std.specs.Prelude.{◌≡◌, ℕ, ◌+◌, ◌^◌, ◌<◌, ◌≤◌, [], ◌∷◌, ◌++◌, true, false, All};
+ghost use Rattle.std.specs.Prelude.{◌≡◌, ℕ, ◌^◌, ◌<◌, ◌≤◌, [], true, false, All};
 ghost use Rattle.std.specs.Prelude.{IfOk, IfSome, IfNone, replicate, vec_len};
-ghost use Rattle.claim_word.specs.Passes.{fresh_pass, pass_of, EachDrawnOnce};
+ghost use Rattle.claim_word.specs.Passes.{fresh_pass, drew, pass_of, EachDrawnOnce};
 
 use crate::pass::ClaimPass;
 use crate::rule::{Counted, Draw, Gather, Part, Terms, View};
@@ -69,7 +69,7 @@ impl Claims {
         requires goes_on { pass.old.ended ≡ false }
         ensures number { IfSome result (λ n. (n < self.now.count) × (pass.old.met ≤ n)) }
         ensures above { IfSome result (λ n. All (λ x. x < n) pass.old.draws) }
-        ensures drawn { IfSome result (λ n. pass.new ≡ record pass.old { draws = pass.old.draws ++ n ∷ []; met = n + 1 }) }
+        ensures drawn { IfSome result (λ n. pass.new ≡ drew pass.old n) }
         ensures ended { IfNone result (pass.new ≡ record pass.old { met = self.now.count; ended = true }) }
     {
         let n = self.table.shared.fetch_add::<Draw>(&mut pass.seat, 0, 1);

@@ -1,5 +1,5 @@
 -- The greatest of a list: nothing of it is above.
-use Rattle.std.proofs.Common.{◌≡◌, ℕ, zero, suc, ◌<◌, ◌≤◌, max, List, [], ◌∷◌, ◌++◌, length, map, All, refl, ap, arith}
+use Rattle.std.proofs.Common.{◌≡◌, ℕ, zero, suc, ◌≤◌, max, List, [], ◌∷◌, ◌++◌, map, All, refl, ap, arith}
 use Rattle.list_totals.specs.Totals.{greatest}
 
 module _ {X : Type 0} (f : X → ℕ) where
@@ -12,7 +12,8 @@ module _ {X : Type 0} (f : X → ℕ) where
   pub at_most_greatest : (xs : List X) → All (λ x. f x ≤ greatest f xs) xs
   at_most_greatest [] k d in_list = absurd (omega arith)
   at_most_greatest (x ∷ xs) zero d in_list = omega arith
-  at_most_greatest (x ∷ xs) (suc k) d in_list = let h = at_most_greatest xs k d (omega arith) in omega arith
+  at_most_greatest (x ∷ xs) (suc k) d in_list = let h = at_most_greatest xs k d (omega arith) in
+      omega arith
 
   -- the greatest is at most what each item is at most
   pub greatest_le : (n : ℕ) (xs : List X) → All (λ x. f x ≤ n) xs → greatest f xs ≤ n

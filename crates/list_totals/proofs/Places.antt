@@ -1,5 +1,5 @@
 -- Totals by place: a total that is not 0 has a place that is not, and two places have at most the total.
-use Rattle.std.proofs.Common.{◌≡◌, ◌≢◌, ◌⊎◌, ℕ, zero, suc, ◌+◌, ◌<◌, ◌≤◌, List, [], ◌∷◌, length, get_or, Contains, refl, sym, inl, inr, ⊎_elim, arith}
+use Rattle.std.proofs.Common.{◌≡◌, ◌⊎◌, ℕ, zero, suc, ◌+◌, ◌<◌, ◌≤◌, List, [], ◌∷◌, length, get_or, Contains, refl, sym, inl, inr, ⊎_elim, arith}
 use Rattle.std.proofs.lemmas.Bool.Decides.{nat_tests}
 use Rattle.list_totals.specs.Totals.{total, one_if_same, times}
 
@@ -26,7 +26,8 @@ module _ {X : Type 0} (f : X → ℕ) where
   behind x xs d place = let in_list = place.1 in (suc place.0, omega arith, place.2)
 
   -- where the total is not 0, some place has a part
-  pub total_some : (xs : List X) (d : X) → 0 < total f xs → (k : ℕ) × (k < length xs) × (0 < f (get_or xs k d))
+  pub total_some : (xs : List X) (d : X) → 0 < total f xs → (k : ℕ) × (k < length xs)
+      × (0 < f (get_or xs k d))
   total_some [] d some = absurd (omega arith)
   total_some (x ∷ xs) d some = ⊎_elim
       (λ (here : 0 < f x). (0, omega arith, here))

@@ -45,7 +45,8 @@ total_le f g (x ∷ xs) le =
 
 -- where p has no total and f is 0 wherever p is, f has none
 pub none_left : {X : Type 0} (p f : X → ℕ) (xs : List X)
-    → ((j : ℕ) (x : X) → get_elem? xs j ≡ some x → p x ≡ 0 → f x ≡ 0) → total p xs ≡ 0 → total f xs ≡ 0
+    → ((j : ℕ) (x : X) → get_elem? xs j ≡ some x → p x ≡ 0 → f x ≡ 0) → total p xs ≡ 0
+    → total f xs ≡ 0
 none_left p f [] idle e = refl
 none_left p f (x ∷ xs) idle e =
     let here : f x ≡ 0 = idle 0 x refl (omega arith) in
@@ -60,12 +61,14 @@ alone p f [] i x idle at e = absurd (some-ne-none x (sym at))
 alone p f (z ∷ xs) zero x idle at e =
     let samep : p z ≡ p x = ap p (some-injective z x at) in
     let samef : f z ≡ f x = ap f (some-injective z x at) in
-    let rest : total f xs ≡ 0 = none_left p f xs (λ j y there. idle (suc j) y there) (omega arith) in
+    let rest : total f xs ≡ 0 =
+    none_left p f xs (λ j y there. idle (suc j) y there) (omega arith) in
     omega arith
 alone p f (z ∷ xs) (suc i) x idle at e =
     let most = total_at p xs i x at in
     let here : f z ≡ 0 = idle 0 z refl (omega arith) in
-    let rest : total f xs ≡ f x = alone p f xs i x (λ j y there. idle (suc j) y there) at (omega arith) in
+    let rest : total f xs ≡ f x =
+    alone p f xs i x (λ j y there. idle (suc j) y there) at (omega arith) in
     omega arith
 
 -- a number stands as often in two lists in a row as in both
@@ -73,11 +76,13 @@ pub times_append : (x : ℕ) (xs ys : List ℕ) → times x (xs ++ ys) ≡ times
 times_append x = total_append (one_if_same x)
 
 -- a new last number stands there once more
-pub times_push : (x : ℕ) (xs : List ℕ) (n : ℕ) → times x (xs ++ n ∷ []) ≡ times x xs + one_if_same x n
+pub times_push : (x : ℕ) (xs : List ℕ) (n : ℕ)
+    → times x (xs ++ n ∷ []) ≡ times x xs + one_if_same x n
 times_push x = total_push (one_if_same x)
 
 -- where the numbers below n stand once each, and n is added, the numbers below n + 1 stand once each
-pub once_below_more : (x n below : ℕ) → n ≡ below → once_below x below + one_if_same x n ≡ once_below x (n + 1)
+pub once_below_more : (x n below : ℕ) → n ≡ below
+    → once_below x below + one_if_same x n ≡ once_below x (n + 1)
 once_below_more x n below e = grind (arith, nat_tests)
 
 -- a number below n counts once

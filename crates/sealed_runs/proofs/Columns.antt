@@ -1,11 +1,12 @@
 -- A step of a loop that changes the visits of each pass in turn.
-use Rattle.std.proofs.Common.{◌≡◌, ℕ, zero, suc, ◌+◌, ◌<◌, ◌≤◌, List, [], ◌∷◌, ◌++◌, length, get_or, take, drop, map, replicate, set, All, refl, sym, ap, ◌∙◌, add-zero, drop_of_length-le, arith}
+use Rattle.std.proofs.Common.{◌≡◌, ℕ, zero, suc, ◌+◌, ◌<◌, ◌≤◌, List, [], ◌∷◌, ◌++◌, length, get_or, take, drop, map, replicate, set, refl, sym, ap, ◌∙◌, add-zero, drop_of_length-le, arith}
 use Rattle.std.proofs.lemmas.List.{append-nil, take_more, take_more_set, take_all, drop-set-lt, get_or-drop, map-append}
 use Rattle.std.proofs.Math.Numerals.{add-one}
 use Rattle.sealed_runs.specs.Visits.{Visit, visit_at, column}
 
 -- a map of copies is copies of what they are mapped to
-pub map_replicate : {X Y : Type 0} (f : X → Y) (n : ℕ) (x : X) → map f (replicate n x) ≡ replicate n (f x)
+pub map_replicate : {X Y : Type 0} (f : X → Y) (n : ℕ) (x : X)
+    → map f (replicate n x) ≡ replicate n (f x)
 map_replicate f zero x = refl
 map_replicate f (suc n) x = ap (λ ys. f x ∷ ys) (map_replicate f n x)
 
@@ -20,7 +21,8 @@ drop_suc (suc i) [] = refl
 drop_suc (suc i) (x ∷ xs) = drop_suc i xs
 
 -- two lists that are the same behind i are the same behind i + 1
-drop_more : (i : ℕ) (xs ys : List (List Visit)) → drop i xs ≡ drop i ys → drop (i + 1) xs ≡ drop (i + 1) ys
+drop_more : (i : ℕ) (xs ys : List (List Visit)) → drop i xs ≡ drop i ys
+    → drop (i + 1) xs ≡ drop (i + 1) ys
 drop_more i xs ys same =
     ap (λ n. drop n xs) (add-one i)
     ∙ drop_suc i xs
@@ -45,7 +47,8 @@ module _ (f : List Visit → List Visit) (all now : List (List Visit)) (i : ℕ)
       ∙ ap (map f) (sym (take_more all i [] in_all))
 
   -- the passes behind it are as they came
-  pub left_more : (new : List Visit) → drop i now ≡ drop i all → drop (i + 1) (set now i new) ≡ drop (i + 1) all
+  pub left_more : (new : List Visit) → drop i now ≡ drop i all
+      → drop (i + 1) (set now i new) ≡ drop (i + 1) all
   left_more new left = drop-set-lt (i + 1) now i new (omega arith) ∙ drop_more i now all left
 
   -- at the end all passes are changed by f

@@ -1,5 +1,5 @@
 -- What a visit hands out: a place that it drew and did not refuse.
-use Rattle.std.proofs.Common.{◌≡◌, ◌≢◌, ◌⊎◌, ℕ, zero, suc, ◌+◌, ◌<◌, ◌≤◌, List, [], ◌∷◌, ◌++◌, length, get_or, map, All, Contains, Option, Some, None, Bool, true, false, not, cond, eqb, refl, sym, ap, ◌∙◌, subst, inl, inr, ⊎_elim, arith}
+use Rattle.std.proofs.Common.{◌≡◌, ◌≢◌, ℕ, suc, ◌<◌, ◌≤◌, List, [], ◌∷◌, ◌++◌, All, Contains, Option, Some, None, Bool, true, false, not, refl, sym, ap, ◌∙◌, arith}
 use Rattle.std.proofs.lemmas.Bool.{cond_both, cond-true, cond-false}
 use Rattle.std.proofs.lemmas.Bool.Decides.{nat_tests}
 use Rattle.std.proofs.lemmas.List.{append-nil}
@@ -7,10 +7,8 @@ use Rattle.std.proofs.lemmas.List.Elements.{filter-append}
 use mathlib.Core.Bool.{true≢false}
 use Rattle.std.specs.List.{filter}
 use Rattle.std.specs.Prelude.{nat_eq}
-use Rattle.series_core.specs.declared.queue_words.Entry.{Entry}
-use Rattle.list_totals.specs.Totals.{total, one_if_same, times}
-use Rattle.sealed_runs.specs.Entries.{entry_at}
-use Rattle.sealed_runs.specs.Visits.{Visit, is_refused, handed, leaves}
+use Rattle.list_totals.specs.Totals.{times}
+use Rattle.sealed_runs.specs.Visits.{Visit, is_refused, handed}
 use Rattle.sealed_runs.specs.Popped.{drew}
 use Rattle.sealed_runs.proofs.Members.{contains_filter, filter_contains}
 
@@ -35,23 +33,28 @@ stops_same n = grind (arith, nat_tests)
 
 -- a visit that refused no place has handed out all that it drew
 handed_all : (v : Visit) → v.refused ≡ None → handed v ≡ v.claim.draws
-handed_all v none = filter_all (λ x. not (is_refused v.refused x)) v.claim.draws (λ k d in_list. passes_none v.refused _ none)
+handed_all v none = filter_all (λ x. not (is_refused v.refused x)) v.claim.draws
+    (λ k d in_list. passes_none v.refused _ none)
 
 -- a place more is handed out where none is refused
 pub handed_drew : (v : Visit) (n : ℕ) → v.refused ≡ None → handed (drew v n) ≡ handed v ++ n ∷ []
 handed_drew v n none =
     let let_through = λ (x : ℕ). not (is_refused v.refused x) in
     filter-append let_through v.claim.draws (n ∷ [])
-    ∙ ap (λ ys. handed v ++ ys) (cond-true (let_through n) (n ∷ []) [] (passes_none v.refused n none))
+    ∙ ap (λ ys. handed v ++ ys)
+    (cond-true (let_through n) (n ∷ []) [] (passes_none v.refused n none))
 
 -- a place that is refused is not handed out
-pub handed_refused : (v : Visit) (n : ℕ) (limit : Option ℕ) → v.refused ≡ None → All (λ x. x < n) v.claim.draws
+pub handed_refused : (v : Visit) (n : ℕ) (limit : Option ℕ) → v.refused ≡ None
+    → All (λ x. x < n) v.claim.draws
     → handed (record (drew v n) { refused = Some n; closed = limit }) ≡ handed v
 handed_refused v n limit none above =
     let let_through = λ (x : ℕ). not (is_refused (Some n) x) in
-    let before = filter_all let_through v.claim.draws (λ k d in_list. passes_other n _ (above k d in_list)) in
+    let before = filter_all let_through v.claim.draws
+    (λ k d in_list. passes_other n _ (above k d in_list)) in
     filter-append let_through v.claim.draws (n ∷ [])
-    ∙ ap (λ ys. filter let_through v.claim.draws ++ ys) (cond-false (let_through n) (n ∷ []) [] (stops_same n))
+    ∙ ap (λ ys. filter let_through v.claim.draws ++ ys)
+    (cond-false (let_through n) (n ∷ []) [] (stops_same n))
     ∙ append-nil (filter let_through v.claim.draws)
     ∙ before
     ∙ sym (handed_all v none)
@@ -61,16 +64,19 @@ differs : (y x : ℕ) → y ≢ x → not (nat_eq y x) ≡ true
 differs y x other = grind (arith, nat_tests)
 
 -- a place that a visit drew and did not refuse is handed out
-pub handed_drawn : (v : Visit) (x : ℕ) → Contains v.claim.draws x → v.refused ≢ Some x → Contains (handed v) x
+pub handed_drawn : (v : Visit) (x : ℕ) → Contains v.claim.draws x → v.refused ≢ Some x
+    → Contains (handed v) x
 handed_drawn v x drawn not_refused =
-    contains_filter (λ y. not (is_refused v.refused y)) v.claim.draws x drawn (passes v.refused x not_refused)
+    contains_filter (λ y. not (is_refused v.refused y)) v.claim.draws x drawn
+    (passes v.refused x not_refused)
   where
     passes : (r : Option ℕ) (x : ℕ) → r ≢ Some x → not (is_refused r x) ≡ true
     passes None x other = refl
     passes (Some y) x other = differs y x (λ (same : y ≡ x). other (ap Some same))
 
 -- a place that was handed out was drawn, and was not refused
-pub drawn_handed : (v : Visit) (x : ℕ) → Contains (handed v) x → Contains v.claim.draws x × (v.refused ≢ Some x)
+pub drawn_handed : (v : Visit) (x : ℕ) → Contains (handed v) x → Contains v.claim.draws x
+    × (v.refused ≢ Some x)
 drawn_handed v x there =
     let let_through = λ (y : ℕ). not (is_refused v.refused y) in
     let found = filter_contains let_through v.claim.draws x there in (

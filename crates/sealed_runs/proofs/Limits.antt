@@ -1,5 +1,5 @@
 -- The least limit: it is at most each limit of the visits, and a visit more makes it the lesser.
-use Rattle.std.proofs.Common.{◌≡◌, ◌≢◌, ◌⊎◌, ℕ, zero, suc, ◌<◌, ◌≤◌, min, List, [], ◌∷◌, ◌++◌, length, get_or, Option, Some, None, IfSome, refl, sym, ap, ◌∙◌, subst, arith}
+use Rattle.std.proofs.Common.{◌≡◌, ℕ, zero, suc, ◌<◌, ◌≤◌, min, List, [], ◌∷◌, ◌++◌, length, get_or, Option, Some, None, IfSome, refl, sym, ap, ◌∙◌, subst, arith}
 use Rattle.sealed_runs.specs.Visits.{Visit}
 use Rattle.sealed_runs.specs.Closed.{lesser, least_limit}
 
@@ -19,10 +19,12 @@ lesser_none None = refl
 lesser_none (Some a) = refl
 
 -- a visit more makes the least limit the lesser of it and its own
-pub least_limit_push : (vs : List Visit) (v : Visit) → least_limit (vs ++ v ∷ []) ≡ lesser (least_limit vs) v.closed
+pub least_limit_push : (vs : List Visit) (v : Visit)
+    → least_limit (vs ++ v ∷ []) ≡ lesser (least_limit vs) v.closed
 least_limit_push [] v = lesser_none v.closed
 least_limit_push (w ∷ vs) v =
-    ap (lesser w.closed) (least_limit_push vs v) ∙ sym (lesser_brackets w.closed (least_limit vs) v.closed)
+    ap (lesser w.closed) (least_limit_push vs v)
+    ∙ sym (lesser_brackets w.closed (least_limit vs) v.closed)
 
 -- there is a limit, and it is at most n
 abbrev pub IsAtMost : Option ℕ → ℕ → Type 0
@@ -45,7 +47,8 @@ pub least_limit_at : (vs : List Visit) (k : ℕ) (d : Visit) (limit : ℕ) → k
     → (get_or vs k d).closed ≡ Some limit → IsAtMost (least_limit vs) limit
 least_limit_at [] k d limit in_list is = absurd (omega arith)
 least_limit_at (v ∷ vs) zero d limit in_list is =
-    subst (λ (a : Option ℕ). IsAtMost (lesser a (least_limit vs)) limit) (sym is) (lesser_first limit (least_limit vs))
+    subst (λ (a : Option ℕ). IsAtMost (lesser a (least_limit vs)) limit) (sym is)
+    (lesser_first limit (least_limit vs))
 least_limit_at (v ∷ vs) (suc k) d limit in_list is =
     lesser_second v.closed (least_limit vs) limit (least_limit_at vs k d limit (omega arith) is)
 

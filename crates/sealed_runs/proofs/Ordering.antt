@@ -1,5 +1,5 @@
 -- Sorted entries whose leaves differ ascend, and so does each row of them.
-use Rattle.std.proofs.Common.{◌≡◌, ◌≢◌, ◌⊎◌, ℕ, zero, suc, ◌+◌, ◌<◌, ◌≤◌, List, [], ◌∷◌, length, get_or, AllPairs, Contains, is_lt, nat_cmp, true, false, IsPermutation, refl, sym, ap, ◌∙◌, subst, inl, inr, ⊎_elim, arith}
+use Rattle.std.proofs.Common.{◌≡◌, ◌≢◌, ◌⊎◌, ℕ, zero, suc, ◌+◌, ◌<◌, ◌≤◌, List, length, get_or, is_lt, nat_cmp, true, false, IsPermutation, refl, sym, ◌∙◌, subst, inl, inr, ⊎_elim, arith}
 use Rattle.std.specs.Ordering.{ordering_then}
 use Rattle.std.specs.Prelude.{nat_eq}
 use Rattle.std.specs.List.{sum_by}
@@ -11,7 +11,7 @@ use Rattle.std.proofs.Math.Numerals.{add-one}
 use Rattle.series_core.specs.declared.queue_words.Entry.{Entry}
 use Rattle.list_totals.specs.Totals.{total, one_if_same}
 use Rattle.list_totals.proofs.Places.{total_two}
-use Rattle.sealed_runs.specs.Entries.{Before, IsAscending, LeavesDiffer, IsRun, no_entry}
+use Rattle.sealed_runs.specs.Entries.{Before, IsAscending, LeavesDiffer, IsRun}
 use Rattle.sealed_runs.specs.Sealing.{is_of, row_of}
 use Rattle.sealed_runs.proofs.Members.{contains_filter, filter_contains}
 
@@ -30,7 +30,8 @@ before_trans e f g first second = ⊎_elim
     (λ (same : (e.bound ≡ f.bound) × (e.leaf < f.leaf)). ⊎_elim
     (λ (more : f.bound < g.bound). let is = same.0 in inl (omega arith))
     (λ (tied : (f.bound ≡ g.bound) × (f.leaf < g.leaf)).
-    let is = same.0 in let less = same.1 in let too = tied.0 in let more = tied.1 in inr (omega arith, omega arith))
+    let is = same.0 in let less = same.1 in let too = tied.0 in let more = tied.1 in
+    inr (omega arith, omega arith))
     second)
     first
 
@@ -58,8 +59,10 @@ module _ (es : List Entry) (in_order : InOrder es) (once : LeavesDiffer es) wher
   -- an entry comes before the next
   step : (k : ℕ) (d : Entry) → suc k < length es → Before (get_or es k d) (get_or es (suc k) d)
   step k d in_list =
-      let next = ordered (get_or es k d).bound (get_or es (k + 1) d).bound (get_or es k d).leaf (get_or es (k + 1) d).leaf
-      (in_order k d (omega arith) (omega arith)) (differ_at es once k (k + 1) d (omega arith) (omega arith)) in
+      let next = ordered (get_or es k d).bound (get_or es (k + 1) d).bound (get_or es k d).leaf
+      (get_or es (k + 1) d).leaf
+      (in_order k d (omega arith) (omega arith))
+      (differ_at es once k (k + 1) d (omega arith) (omega arith)) in
       subst (λ (n : ℕ). Before (get_or es k d) (get_or es n d)) (add-one k) next
 
   -- an entry comes before all later ones
@@ -67,8 +70,10 @@ module _ (es : List Entry) (in_order : InOrder es) (once : LeavesDiffer es) wher
   rises zero i d less in_list = absurd (omega arith)
   rises (suc j) i d less in_list = ⊎_elim
       (λ (before : i < j).
-      before_trans (get_or es i d) (get_or es j d) (get_or es (suc j) d) (rises j i d before (omega arith)) (step j d in_list))
-      (λ (same : i ≡ j). subst (λ (k : ℕ). Before (get_or es k d) (get_or es (suc j) d)) (sym same) (step j d in_list))
+      before_trans (get_or es i d) (get_or es j d) (get_or es (suc j) d)
+      (rises j i d before (omega arith)) (step j d in_list))
+      (λ (same : i ≡ j). subst (λ (k : ℕ). Before (get_or es k d) (get_or es (suc j) d)) (sym same)
+      (step j d in_list))
       (less_or_same i j (omega arith))
     where
       less_or_same : (i j : ℕ) → i ≤ j → (i < j) ⊎ (i ≡ j)
@@ -83,10 +88,12 @@ total_is_sum : (f : Entry → ℕ) (es : List Entry) → total f es ≡ sum_by f
 total_is_sum f es = is_sum_by (total f) f refl (λ x xs. refl) es
 
 -- leaves differ in any order
-pub differ_sorted : (es sorted : List Entry) → IsPermutation es sorted → LeavesDiffer es → LeavesDiffer sorted
+pub differ_sorted : (es sorted : List Entry) → IsPermutation es sorted → LeavesDiffer es
+    → LeavesDiffer sorted
 differ_sorted es sorted moved once leaf =
     let f = λ (e : Entry). one_if_same leaf e.leaf in
-    let same = total_is_sum f sorted ∙ sum_by-IsPermutation f es sorted moved ∙ sym (total_is_sum f es) in
+    let same = total_is_sum f sorted ∙ sum_by-IsPermutation f es sorted moved
+    ∙ sym (total_is_sum f es) in
     let most = once leaf in
     omega arith
 
@@ -99,15 +106,20 @@ queue_of : (a m : ℕ) → a ≡ m → nat_eq a m ≡ true
 queue_of a m e = grind (arith, nat_tests)
 
 -- a row of sorted entries is the run of its queue
-pub row_is_run : (es sorted : List Entry) (queues m : ℕ) → IsPermutation es sorted → IsAscending sorted
+pub row_is_run : (es sorted : List Entry) (queues m : ℕ) → IsPermutation es sorted
+    → IsAscending sorted
     → IsRun es queues m (row_of queues sorted m)
 row_is_run es sorted queues m moved ascending = record {
   ascending = AllPairs-filter Before (is_of queues m) sorted ascending;
   exactly = λ e. (
     λ there.
-        let found = filter_contains (is_of queues m) sorted e there in
-        (Contains-permutation sorted es e (IsPermutation-sym es sorted moved) found.0, of_queue _ m found.1),
+        let found = filter_contains (is_of queues m) sorted e there in (
+          Contains-permutation sorted es e (IsPermutation-sym es sorted moved) found.0,
+          of_queue _ m
+              found.1,
+        ),
     λ there.
-        contains_filter (is_of queues m) sorted e (Contains-permutation es sorted e moved there.0) (queue_of _ m there.1),
+        contains_filter (is_of queues m) sorted e (Contains-permutation es sorted e moved there.0)
+        (queue_of _ m there.1),
   );
 }

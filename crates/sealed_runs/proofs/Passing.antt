@@ -1,13 +1,14 @@
 -- A pop of one run changes the visit of that run alone, and the pass stays one of the runs.
-use Rattle.std.proofs.Common.{◌≡◌, ◌≢◌, ℕ, ◌<◌, ◌≤◌, List, [], ◌∷◌, ◌++◌, length, get_or, set, get_or-set_same, get_or-set_other, Option, Some, None, true, false, refl, sym, ap, ◌∙◌, subst, arith}
+use Rattle.std.proofs.Common.{◌≡◌, ◌≢◌, ℕ, ◌<◌, List, length, set, get_or-set_same, get_or-set_other, Some, None, true, false, refl, sym, ◌∙◌, subst, arith}
 use Rattle.std.proofs.lemmas.List.{length-set, length-map, get_or-map}
 use mathlib.Core.Logic.{dite}
 use native.Mathlib.Decide.{ℕ_discrete}
 use Rattle.sealed_runs.specs.Entries.{Run, no_run, run_at}
-use Rattle.sealed_runs.specs.Visits.{Visit, fresh_visit, visit_at, no_visit, leaves, IsVisit, IsPass}
+use Rattle.sealed_runs.specs.Visits.{Visit, fresh_visit, visit_at, no_visit, IsVisit, IsPass}
 use Rattle.sealed_runs.specs.Sealing.{fresh_visits}
 
-module _ (runs : List Run) (visits : List Visit) (m : ℕ) (w : Visit) (own : IsPass runs visits) (low : m < length runs) where
+module _ (runs : List Run) (visits : List Visit) (m : ℕ) (w : Visit) (own : IsPass runs visits)
+    (low : m < length runs) where
   -- the visit of the run is the new one
   pub new_visit : visit_at (set visits m w) m ≡ w
   new_visit = let count = own.count in get_or-set_same visits m w no_visit (omega arith)
@@ -21,7 +22,8 @@ module _ (runs : List Run) (visits : List Visit) (m : ℕ) (w : Visit) (own : Is
         let at_m = subst (IsVisit (run_at runs m)) (sym new_visit) new in
         subst (λ j. IsVisit (run_at runs j) (visit_at (set visits m w) j)) (sym same) at_m)
         (λ (other : k ≢ m).
-        subst (IsVisit (run_at runs k)) (sym (get_or-set_other visits m k w no_visit other)) (own.each k in_list));
+        subst (IsVisit (run_at runs k)) (sym (get_or-set_other visits m k w no_visit other))
+        (own.each k in_list));
   }
 
 -- a visit that has done nothing is one of its run
@@ -48,5 +50,6 @@ pub fresh_is_pass : (runs : List Run) → IsPass runs (fresh_visits runs)
 fresh_is_pass runs = record {
   count = length-map runs (λ (run : Run). fresh_visit run.claims);
   each = λ m low. subst (IsVisit (run_at runs m))
-      (sym (get_or-map (λ (run : Run). fresh_visit run.claims) runs m no_run no_visit low)) (fresh_is_visit (run_at runs m));
+      (sym (get_or-map (λ (run : Run). fresh_visit run.claims) runs m no_run no_visit low))
+      (fresh_is_visit (run_at runs m));
 }

@@ -1,5 +1,5 @@
 -- What closing a run takes: the entries of all places up to one, without those that were refused.
-use Rattle.std.proofs.Common.{◌≡◌, ◌≢◌, ◌⊎◌, ℕ, ◌+◌, ◌<◌, ◌≤◌, List, [], ◌∷◌, ◌++◌, length, get_or, AllPairs, Contains, refl, sym, ap, ◌∙◌, subst, inl, inr, ⊎_elim, arith}
+use Rattle.std.proofs.Common.{◌≡◌, ◌⊎◌, ℕ, ◌+◌, ◌<◌, List, [], ◌∷◌, ◌++◌, length, get_or, Contains, sym, subst, ⊎_elim, arith}
 use Rattle.std.proofs.lemmas.List.Elements.{Contains-push, Contains-append_left, Contains-push_cases, Contains-get_or}
 use Rattle.std.proofs.lemmas.List.Quantifiers.{all_pairs_push}
 use Rattle.series_core.specs.declared.queue_words.Entry.{Entry}
@@ -20,7 +20,8 @@ last_or_below : (x n : ℕ) → x < n + 1 → (x ≡ n) ⊎ (x < n)
 last_or_below x n low = grind arith
 
 -- a refused place is passed over
-pub takes_past : (es : List Entry) (refused : List ℕ) (n : ℕ) (taken : List Entry) → Contains refused n
+pub takes_past : (es : List Entry) (refused : List ℕ) (n : ℕ) (taken : List Entry)
+    → Contains refused n
     → Takes es refused n taken → Takes es refused (n + 1) taken
 takes_past es refused n taken is t = record {
   from = λ e there. let x = t.from e there in let low = x.1 in (x.0, omega arith, x.2, x.3);
@@ -32,11 +33,14 @@ takes_past es refused n taken is t = record {
 }
 
 -- another place is taken
-pub takes_more : (es : List Entry) (refused : List ℕ) (n : ℕ) (taken : List Entry) → IsAscending es → n < length es
-    → ¬ (Contains refused n) → Takes es refused n taken → Takes es refused (n + 1) (taken ++ entry_at es n ∷ [])
+pub takes_more : (es : List Entry) (refused : List ℕ) (n : ℕ) (taken : List Entry) → IsAscending es
+    → n < length es
+    → ¬ (Contains refused n) → Takes es refused n taken
+    → Takes es refused (n + 1) (taken ++ entry_at es n ∷ [])
 takes_more es refused n taken ascending low not t = record {
   from = λ e there. ⊎_elim
-      (λ (was : Contains taken e). let x = t.from e was in let below = x.1 in (x.0, omega arith, x.2, x.3))
+      (λ (was : Contains taken e). let x = t.from e was in let below = x.1 in
+      (x.0, omega arith, x.2, x.3))
       (λ (new : entry_at es n ≡ e). (n, omega arith, not, new))
       (Contains-push_cases taken (entry_at es n) e there);
   all = λ x below not_refused. ⊎_elim

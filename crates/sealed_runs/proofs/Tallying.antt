@@ -1,13 +1,13 @@
 -- A tally takes in a visit more.
-use Rattle.std.proofs.Common.{◌≡◌, ◌⊎◌, ℕ, ◌+◌, ◌<◌, ◌≤◌, max, List, [], ◌∷◌, ◌++◌, length, get_or, take, map, Contains, Option, Some, None, refl, sym, ap, ◌∙◌, subst, inl, inr, ⊎_elim, arith, length-append}
+use Rattle.std.proofs.Common.{◌≡◌, ◌⊎◌, ℕ, ◌+◌, ◌<◌, max, List, [], ◌∷◌, ◌++◌, length, get_or, take, Contains, Option, Some, None, sym, ap, ◌∙◌, subst, inl, inr, ⊎_elim, arith, length-append}
 use Rattle.std.proofs.lemmas.List.{map-append, get_or_append_left}
 use Rattle.std.proofs.Math.Seq.{get_or-append_seam, take-append_seam}
 use Rattle.std.proofs.lemmas.List.Elements.{Contains-push, Contains-append_left, Contains-push_cases}
 use Rattle.claim_word.specs.Passes.{Pass}
 use Rattle.list_totals.proofs.Greatest.{greatest_push}
 use Rattle.sealed_runs.specs.Visits.{Visit, no_visit, visit_at}
-use Rattle.sealed_runs.specs.Closed.{lesser, least_limit}
-use Rattle.sealed_runs.specs.Tallied.{with_place, Refusals, reach_of, IsTally}
+use Rattle.sealed_runs.specs.Closed.{lesser}
+use Rattle.sealed_runs.specs.Tallied.{with_place, Refusals, IsTally}
 use Rattle.sealed_runs.proofs.Limits.{least_limit_push}
 
 -- what stands in front of the last is read where it was, and the last is read at the end
@@ -17,14 +17,19 @@ read_push : (vs : List Visit) (v : Visit) (k : ℕ) → k < length (vs ++ v ∷ 
 read_push vs v k in_list = ⊎_elim
     (λ (low : k < length vs). inl (low, get_or_append_left vs (v ∷ []) no_visit k low))
     (λ (last : k ≡ length vs).
-    inr (last, ap (λ j. get_or (vs ++ v ∷ []) j no_visit) last ∙ get_or-append_seam vs v [] no_visit))
+    inr (
+      last,
+      ap (λ j. get_or (vs ++ v ∷ []) j no_visit) last
+          ∙ get_or-append_seam vs v [] no_visit,
+    ))
     (low_or_last k (length vs) (let h = length-append vs (v ∷ []) in omega arith))
   where
     low_or_last : (k n : ℕ) → k < n + 1 → (k < n) ⊎ (k ≡ n)
     low_or_last k n low = grind arith
 
 -- what stands among the places with one more stood there, or is the one
-cases_place : (xs : List ℕ) (p : Option ℕ) (x : ℕ) → Contains (with_place xs p) x → Contains xs x ⊎ (p ≡ Some x)
+cases_place : (xs : List ℕ) (p : Option ℕ) (x : ℕ) → Contains (with_place xs p) x → Contains xs x
+    ⊎ (p ≡ Some x)
 cases_place xs None x there = inl there
 cases_place xs (Some y) x there = ⊎_elim
     (λ (was : Contains xs x). inl was)
@@ -38,7 +43,8 @@ keeps_place xs (Some y) x there = Contains-append_left xs (y ∷ []) x there
 
 -- the one more stands there
 new_place : (xs : List ℕ) (p : Option ℕ) (x : ℕ) → p ≡ Some x → Contains (with_place xs p) x
-new_place xs p x is = subst (λ (q : Option ℕ). Contains (with_place xs q) x) (sym is) (Contains-push xs x)
+new_place xs p x is =
+    subst (λ (q : Option ℕ). Contains (with_place xs q) x) (sym is) (Contains-push xs x)
 
 -- a visit more adds the place that it refused
 refusals_push : (vs : List Visit) (v : Visit) (refused : List ℕ) → Refusals vs refused
@@ -65,7 +71,8 @@ refusals_push vs v refused r = record {
       (read_push vs v k in_list);
 }
 
-module _ (vs : List Visit) (v : Visit) (claims claims' : List Pass) (reach reach' : ℕ) (refused refused' : List ℕ)
+module _ (vs : List Visit) (v : Visit) (claims claims' : List Pass) (reach reach' : ℕ)
+    (refused refused' : List ℕ)
     (kept kept' : Option ℕ) where
   -- a tally takes in a visit more, where each of its parts does
   pub tally_push : claims' ≡ claims ++ v.claim ∷ [] → reach' ≡ max reach v.claim.met
@@ -91,6 +98,8 @@ split_last p q v m is count =
     let longer = length-append q (v ∷ []) in
     let same = ap (λ (xs : List Visit). length xs) is in
     let m_is : length q ≡ m = omega arith in
-    let rest = ap (take m) is ∙ ap (λ n. take n (q ++ v ∷ [])) (sym m_is) ∙ take-append_seam q (v ∷ []) in
-    let last = ap (λ xs. visit_at xs m) is ∙ ap (visit_at (q ++ v ∷ [])) (sym m_is) ∙ get_or-append_seam q v [] no_visit in
+    let rest = ap (take m) is ∙ ap (λ n. take n (q ++ v ∷ [])) (sym m_is)
+    ∙ take-append_seam q (v ∷ []) in
+    let last = ap (λ xs. visit_at xs m) is ∙ ap (visit_at (q ++ v ∷ [])) (sym m_is)
+    ∙ get_or-append_seam q v [] no_visit in
     (sym rest, sym last)

@@ -33,12 +33,15 @@ least_limit (v ∷ vs) = lesser v.closed (least_limit vs)
 -- place was handed out twice, the least limit is kept, and where each visit had Closed, what was not taken is above it
 pub record IsLine (run : Run) (visits : List Visit) (line : Line) : Type 0 where
   pub ascending : IsAscending line.taken
-  pub exactly : (e : Entry) → Contains line.taken e ↔ Any (λ v. Contains (leaves run.entries v) e) visits
+  pub exactly : (e : Entry)
+      → Contains line.taken e ↔ Any (λ v. Contains (leaves run.entries v) e) visits
   pub once : (x : ℕ) → total (λ v. times x (handed v)) visits ≤ 1
   pub kept : line.kept ≡ least_limit visits
-  pub rest : All (λ v. v.closed ≢ None) visits → (e : Entry) → Contains run.entries e → ¬ (Contains line.taken e) → IfSome line.kept (λ limit. limit < e.bound)
+  pub rest : All (λ v. v.closed ≢ None) visits → (e : Entry) → Contains run.entries e
+      → ¬ (Contains line.taken e) → IfSome line.kept (λ limit. limit < e.bound)
 
 -- one line for each run
-pub record AreLines (runs : List Run) (passes : List (List Visit)) (lines : List Line) : Type 0 where
-  pub count : length lines ≡ length runs
-  pub each : (m : ℕ) → m < length runs → IsLine (run_at runs m) (column passes m) (line_at lines m)
+pub record AreLines (runs : List Run) (passes : List (List Visit)) (lines : List Line) : Type 0
+  where
+    pub count : length lines ≡ length runs
+    pub each : (m : ℕ) → m < length runs → IsLine (run_at runs m) (column passes m) (line_at lines m)

@@ -42,7 +42,16 @@ entry_at es x = slice_index_or es x no_entry
 
 -- what is read past the end of a list of tables
 abbrev pub no_table : TableId
-no_table = record { words = 0; slots = 0; views_name = 0; atom = 0; block = 0; offset = 0; slot_names = [] }
+no_table = record {
+  words = 0;
+  slots = 0;
+  views_name = 0;
+  atom = 0;
+  block = 0;
+  offset =
+      0;
+  slot_names = [];
+}
 
 -- what is read past the end of a list of runs
 abbrev pub no_run : Run

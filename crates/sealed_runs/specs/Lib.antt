@@ -6,4 +6,5 @@ pub mod Visits
 pub mod Popped
 pub mod Closed
 pub mod Tallied
+pub mod Tallies
 pub mod Sealing

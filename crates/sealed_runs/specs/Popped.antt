@@ -1,8 +1,9 @@
 -- What a pop answers and what it leaves: the rule is that one draw decides both.
-use Rattle.std.specs.Prelude.{◌≡◌, ℕ, ◌+◌, ◌<◌, ◌≤◌, ◌∷◌, [], ◌++◌, List, true, All, Option, Some, None, IfSome, length, nat_le, if◌then◌else◌}
+use Rattle.std.specs.Prelude.{◌≡◌, ℕ, ◌<◌, ◌≤◌, ◌∷◌, [], ◌++◌, List, true, All, Option, Some, None, IfSome, length, nat_le, if◌then◌else◌}
 use Rattle.series_core.specs.declared.queue_words.Entry.{Entry}
 use Rattle.series_core.specs.declared.queue_words.PopReply.{PopReply}
 use Rattle.series_core.specs.declared.queue_words.PopReply.TheVariants.{Leaf, Closed}
+use Rattle.claim_word.specs.Passes.{drew as drawn}
 use Rattle.sealed_runs.specs.Entries.{Run, entry_at}
 use Rattle.sealed_runs.specs.Visits.{Visit, leaves}
 
@@ -18,7 +19,7 @@ IfClosed (Closed v) P = P v
 
 -- the visit after its pass drew place n
 abbrev pub drew : Visit → ℕ → Visit
-drew v n = record v { claim = record (v.claim) { draws = v.claim.draws ++ n ∷ []; met = n + 1 } }
+drew v n = record v { claim = drawn (v.claim) n }
 
 -- the visit after its pass found all places drawn
 abbrev pub ended : Visit → ℕ → Visit
@@ -36,7 +37,8 @@ popped es limit v (Some n) =
 -- a reply and the visit after it are those of one draw: a place of the run above those drawn before, or none
 pub record Pops (run : Run) (limit : ℕ) (reply : PopReply) (v w : Visit) : Type 0 where
   pub drawn : Option ℕ
-  pub place : IfSome drawn (λ n. (n < length run.entries) × (v.claim.met ≤ n) × All (λ x. x < n) v.claim.draws)
+  pub place : IfSome drawn
+      (λ n. (n < length run.entries) × (v.claim.met ≤ n) × All (λ x. x < n) v.claim.draws)
   pub is : (reply, w) ≡ popped run.entries limit v drawn
 
 -- what a Leaf reply says: the entry's bound is at most the limit, it is the visit's next Leaf reply, the run goes on,

@@ -1,5 +1,5 @@
 -- What sealing keeps: the rule is that runs are ascending and each has a counter of its own over its places.
-use Rattle.std.specs.Prelude.{◌≡◌, ℕ, ◌<◌, ◌%◌, List, [], Bool, map, length, All, nat_eq, slice_index_or}
+use Rattle.std.specs.Prelude.{◌≡◌, ℕ, ◌%◌, List, Bool, map, length, nat_eq}
 use Rattle.std.specs.List.{filter}
 use Rattle.series_core.specs.declared.queue_words.Entry.{Entry}
 use Rattle.sealed_runs.specs.Entries.{Run, IsAscending}

@@ -14,15 +14,18 @@ with_place xs (Some x) = xs ++ x ∷ []
 
 -- the places that some visit refused
 pub record Refusals (vs : List Visit) (refused : List ℕ) : Type 0 where
-  pub from : (x : ℕ) → Contains refused x → (k : ℕ) × (k < length vs) × ((slice_index_or vs k no_visit).refused ≡ Some x)
-  pub all : (k x : ℕ) → k < length vs → (slice_index_or vs k no_visit).refused ≡ Some x → Contains refused x
+  pub from : (x : ℕ) → Contains refused x → (k : ℕ) × (k < length vs)
+      × ((slice_index_or vs k no_visit).refused ≡ Some x)
+  pub all : (k x : ℕ) → k < length vs → (slice_index_or vs k no_visit).refused ≡ Some x
+      → Contains refused x
 
 -- how many places some pass of these visits knows drawn
 abbrev pub reach_of : List Visit → ℕ
 reach_of vs = greatest (λ v. v.claim.met) vs
 
 -- a tally of these visits: their passes, the reach, the refused places and the least limit
-pub record IsTally (vs : List Visit) (passes : List Pass) (most : ℕ) (places : List ℕ) (least : Option ℕ) : Type 0 where
+pub record IsTally (vs : List Visit) (passes : List Pass) (most : ℕ) (places : List ℕ)
+    (least : Option ℕ) : Type 0 where
   pub claims : passes ≡ map (λ v. v.claim) vs
   pub reach : most ≡ reach_of vs
   pub refused : Refusals vs places
@@ -30,6 +33,7 @@ pub record IsTally (vs : List Visit) (passes : List Pass) (most : ℕ) (places :
 
 -- a list has exactly the entries of the places below n that were not refused, in ascending order
 pub record Takes (es : List Entry) (refused : List ℕ) (n : ℕ) (taken : List Entry) : Type 0 where
-  pub from : (e : Entry) → Contains taken e → (x : ℕ) × (x < n) × (¬ (Contains refused x)) × (entry_at es x ≡ e)
+  pub from : (e : Entry) → Contains taken e → (x : ℕ) × (x < n) × (¬ (Contains refused x))
+      × (entry_at es x ≡ e)
   pub all : (x : ℕ) → x < n → ¬ (Contains refused x) → Contains taken (entry_at es x)
   pub ascending : IsAscending taken

@@ -3,7 +3,8 @@ ghost use Rattle.std.specs.Prelude.{◌≡◌, ℕ, ◌+◌, ◌-◌, ◌<◌, �
 ghost use Rattle.std.specs.Prelude.{vec_len, vec_capacity};
 ghost use Rattle.sealed_runs.specs.Visits.{Visit as Seen, visit_at, column};
 ghost use Rattle.sealed_runs.specs.Closed.{lesser};
-ghost use Rattle.sealed_runs.specs.Tallied.{IsTally, with_place};
+ghost use Rattle.sealed_runs.specs.Tallied.{with_place};
+ghost use Rattle.sealed_runs.specs.Tallies.{Tallies};
 
 use crate::pass::{RunPass, Visit};
 use claim_word::ClaimPass;
@@ -42,7 +43,7 @@ impl Tally {
     fn of(visit: Visit, mut refused: Vec<u64>) -> Tally
         requires callers { 0 < visit.claim.claims.callers }
         requires refused { (refused.items ≡ []) × (0 < vec_capacity refused) }
-        ensures tally { IsTally (visit ∷ []) result.claims.items result.reach result.refused.items result.kept }
+        ensures tally { Tallies (visit ∷ []) result }
         ensures claims { (vec_len result.claims ≡ 1) × (visit.claim.claims.callers ≤ vec_capacity result.claims) }
         ensures refused { (vec_len result.refused ≤ 1) × (vec_capacity result.refused ≡ vec_capacity refused) }
     {
@@ -66,7 +67,7 @@ impl Tally {
     fn take_in(&mut self, visit: Visit)
         requires claims { vec_len self.old.claims < vec_capacity self.old.claims }
         requires refused { vec_len self.old.refused < vec_capacity self.old.refused }
-        ensures tally { (vs : List Seen) → IsTally vs self.old.claims.items self.old.reach self.old.refused.items self.old.kept → IsTally (vs ++ visit ∷ []) self.new.claims.items self.new.reach self.new.refused.items self.new.kept }
+        ensures tally { (vs : List Seen) → Tallies vs self.old → Tallies (vs ++ visit ∷ []) self.new }
         ensures claims { (vec_len self.new.claims ≡ vec_len self.old.claims + 1) × (vec_capacity self.new.claims ≡ vec_capacity self.old.claims) }
         ensures refused { (vec_len self.new.refused ≤ vec_len self.old.refused + 1) × (vec_capacity self.new.refused ≡ vec_capacity self.old.refused) }
     {
@@ -100,7 +101,7 @@ pub(crate) fn gather(passes: &mut Vec<RunPass>, m: usize, refused: Vec<u64>) -> 
     requires each { All (λ p. length p ≡ m + 1) passes.old.items }
     requires callers { All (λ p. (visit_at p m).claim.claims.callers ≡ vec_len passes.old) passes.old.items }
     requires refused { (refused.items ≡ []) × (vec_len passes.old ≤ vec_capacity refused) }
-    ensures tally { IsTally (column passes.old.items m) result.claims.items result.reach result.refused.items result.kept }
+    ensures tally { Tallies (column passes.old.items m) result }
     ensures rest { passes.new.items ≡ map (take m) passes.old.items }
 {
     let count = passes.len();

@@ -1,10 +1,9 @@
 //! Workers pop sealed runs, each until every run has closed to it.
-ghost use Rattle.std.specs.Prelude.{◌≡◌, ◌≢◌, ℕ, ◌%◌, ◌<◌, ◌≤◌, [], None, All, Contains, IfOk, IfSome, length, vec_len};
-ghost use Rattle.sealed_runs.specs.Entries.{LeavesDiffer, run_at};
-ghost use Rattle.sealed_runs.specs.Visits.{IsPass, fresh_visit, visit_at};
+ghost use Rattle.std.specs.Prelude.{◌≡◌, ◌≢◌, ℕ, ◌<◌, ◌≤◌, None, All, IfOk, length, vec_len};
+ghost use Rattle.sealed_runs.specs.Entries.{LeavesDiffer};
+ghost use Rattle.sealed_runs.specs.Visits.{IsPass, visit_at};
 ghost use Rattle.sealed_runs.specs.Closed.{line_at};
-ghost use Rattle.sealed_runs.specs.Sealing.{fresh_visits};
-ghost use Rattle.worker_runs.specs.Popped.{IsFresh, IsDone};
+ghost use Rattle.worker_runs.specs.Popped.{IsFresh, IsDone, RestAbove};
 
 use outside::NoMemory;
 use sealed_runs::{RunPass, Runs, RunsClosed};
@@ -76,7 +75,7 @@ pub fn pop_all<R: Threads + Sync>(
     requires queues { (1 ≤ sizes.queues) × (sizes.queues ≤ 64) }
     requires workers { (1 ≤ sizes.workers) × (sizes.workers ≤ 64) }
     ensures count { IfOk result (λ closed. length closed ≡ sizes.queues) }
-    ensures rest { IfOk result (λ closed. (m : ℕ) → m < sizes.queues → (e : Entry) → Contains entries.items e → e.leaf % sizes.queues ≡ m → ¬ (Contains (line_at closed m).taken e) → IfSome (line_at closed m).kept (λ kept. kept < e.bound)) }
+    ensures rest { IfOk result (λ r. (m : ℕ) → m < sizes.queues → RestAbove entries.items sizes.queues m (line_at r m)) }
 {
     let (runs, mut passes) = Runs::seal(alloc, entries, sizes.queues, sizes.workers)?;
     pop_together(rt, &runs, &mut passes, sizes.queues, limit);

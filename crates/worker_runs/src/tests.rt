@@ -1,6 +1,6 @@
 //! Threads that draw together find each number once, and threads that pop take what is within the limit, however they
 //! come.
-ghost use Rattle.std.specs.Prelude.{IfOk};
+ghost use Rattle.std.specs.Prelude.{◌<◌, IfOk};
 ghost use Rattle.sealed_runs.specs.Entries.{LeavesDiffer};
 
 use super::*;
@@ -48,6 +48,34 @@ fn scattered(alloc: Global, count: u32) -> Result<Vec<Entry>, NoMemory>
     Ok(entries)
 }
 
+/// The entries of queue m within the limit, by bound and leaf, out of the plain list.
+fn within(
+    alloc: Global,
+    plain: &[Entry],
+    sizes: Sizes,
+    m: u32,
+    limit: u64,
+) -> Result<Vec<(u64, u32)>, NoMemory>
+    requires { 0 < sizes.queues }
+{
+    let mut found = Vec::new(alloc);
+    for entry in plain {
+        if entry.leaf % sizes.queues == m && entry.bound <= limit {
+            found.push((entry.bound, entry.leaf))?;
+        }
+    }
+    found.sort_unstable();
+    Ok(found)
+}
+
+fn pairs(alloc: Global, entries: &[Entry]) -> Result<Vec<(u64, u32)>, NoMemory> {
+    let mut found = Vec::with_capacity(alloc, entries.len())?;
+    for entry in entries {
+        found.push((entry.bound, entry.leaf))?;
+    }
+    Ok(found)
+}
+
 #[test]
 fn four_workers_take_what_is_within_the_limit(rt: HostRuntime) -> Result<(), Fail> {
     for (count, queues, workers, limit) in [
@@ -56,26 +84,16 @@ fn four_workers_take_what_is_within_the_limit(rt: HostRuntime) -> Result<(), Fai
         (7, 64, 4, 2000),
         (0, 1, 4, 9),
     ] {
+        let sizes = Sizes { queues, workers };
         let entries = scattered(rt.alloc(), count)?;
         let plain = entries.clone()?;
-        let Ok(closed) = pop_all(&rt, rt.alloc(), entries, Sizes { queues, workers }, limit) else {
-            return Err(Fail::new("no memory for the runs"));
-        };
+        let closed = pop_all(&rt, rt.alloc(), entries, sizes, limit)?;
         for m in 0..queues {
-            let mut within = Vec::new(rt.alloc());
-            for entry in &plain {
-                if entry.leaf % queues == m && entry.bound <= limit {
-                    within.push((entry.bound, entry.leaf))?;
-                }
-            }
-            within.sort_unstable();
-            let mut taken = Vec::new(rt.alloc());
-            for entry in closed.taken(m) {
-                taken.push((entry.bound, entry.leaf))?;
-            }
+            let want = within(rt.alloc(), &plain, sizes, m, limit)?;
+            let taken = pairs(rt.alloc(), closed.taken(m))?;
             assert_eq!(rt;
                 taken.as_slice(),
-                within.as_slice(),
+                want.as_slice(),
                 "run {m} of {queues}, {workers} workers"
             );
             assert_eq!(rt;

@@ -14,7 +14,8 @@ load-requires g c =
     let counts = c.requires.counts.0 in (
       c.requires.own,
       omega arith,
-      opens _ _ _ _ _ _ (ap (λ m. m.1) first) all none (omega (arith, c.requires.told, c.requires.floor)),
+      opens _ _ _ _ _ _ (ap (λ m. m.1) first) all none
+          (omega (arith, c.requires.told, c.requires.floor)),
     )
 
 pub split_seat-seat-requires : goal.split_seat-seat-requires

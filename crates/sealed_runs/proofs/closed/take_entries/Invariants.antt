@@ -1,4 +1,4 @@
-use Rattle.std.proofs.Common.{◌≡◌, ◌≤◌, length, vec_len, vec_capacity}
+use Rattle.std.proofs.Common.{◌≤◌, length, vec_len, vec_capacity}
 use Rattle.sealed_runs.specs.Tallied.{Takes}
 use Rattle.sealed_runs.proofs.closed.take_entries.Given as goal
 

@@ -15,10 +15,12 @@ loop-pass-preserved c =
     let run = c.args.run.now in
     let more = λ (vs : List Visit). vs ++ fresh_visit run.claims ∷ [] in
     let slice = c.deref_mut-pass-items.ensures.len in
-    let in_now : i < length now = omega (arith, c.loop-pass.auto.pass-items, c.loop-pass-test.true) in
+    let in_now : i < length now =
+    omega (arith, c.loop-pass.auto.pass-items, c.loop-pass-test.true) in
     let in_all : i < length all.items = omega (arith, c.loop-pass-test.true, slice, all.ok.0) in
     let last = Some c.in-Some.claim in
-    let fresh = All-pop (λ (p : Pass). p ≡ fresh_pass run.claims) c.loop-pass.claims.items c.pop.new.self.items last
+    let fresh = All-pop (λ (p : Pass). p ≡ fresh_pass run.claims) c.loop-pass.claims.items
+    c.pop.new.self.items last
     c.in-Some.ensures.items inv.claims in
     let came = get_or_default now i _ [] in_now ∙ next_pass more all.items now i inv.left in
     let claim = ap (λ (p : Pass). p.claims) fresh.1 in
@@ -39,7 +41,10 @@ returns c =
     let all = c.args.passes.now in
     let now = c.loop-pass.pass-items in
     let slice = c.deref_mut-pass-items.ensures.len in
-    let same : length now ≡ length all.items = omega (arith, c.loop-pass.auto.pass-items, slice, all.ok.0) in
-    let far : length now ≤ c.loop-pass.pass-index = omega (arith, c.loop-pass.auto.pass-items, c.loop-pass-test.false) in
-    all_changed (λ vs. vs ++ fresh_visit c.args.run.now.claims ∷ []) all.items now c.loop-pass.pass-index all.len same far
+    let same : length now ≡ length all.items =
+    omega (arith, c.loop-pass.auto.pass-items, slice, all.ok.0) in
+    let far : length now ≤ c.loop-pass.pass-index =
+    omega (arith, c.loop-pass.auto.pass-items, c.loop-pass-test.false) in
+    all_changed (λ vs. vs ++ fresh_visit c.args.run.now.claims ∷ []) all.items now
+    c.loop-pass.pass-index all.len same far
     all.ok.0 inv.dealt

@@ -7,6 +7,7 @@ abbrev pub invariant-loop-pass : goal.invariant-loop-pass
 invariant-loop-pass l = record {
   claims : All (λ p. p ≡ fresh_pass l.run.claims) l.claims.items;
   count : vec_len l.claims + l.pass-index ≡ l.count;
-  dealt : take l.pass-index l.pass-items ≡ map (λ vs. vs ++ fresh_visit l.run.claims ∷ []) (take l.pass-index l.fn.passes.items);
+  dealt : take l.pass-index l.pass-items ≡ map (λ vs. vs ++ fresh_visit l.run.claims ∷ [])
+      (take l.pass-index l.fn.passes.items);
   left : drop l.pass-index l.pass-items ≡ drop l.pass-index l.fn.passes.items;
 }

@@ -1,4 +1,4 @@
-use Rattle.std.proofs.Common.{◌≡◌, ℕ, ◌+◌, ◌^◌, ◌<◌, ◌≤◌, List, take, All, rules, ap, ◌∙◌, subst, arith}
+use Rattle.std.proofs.Common.{◌^◌, ◌<◌, All, subst, arith}
 use Rattle.std.proofs.lemmas.Grind.{common_steps}
 use Rattle.std.proofs.lemmas.List.{take_all}
 use Rattle.std.proofs.lemmas.List.Elements.{All-more}
@@ -10,7 +10,8 @@ pub loop-entry-preserved : goal.loop-entry-preserved
 loop-entry-preserved c = record {
   count = grind (arith, common_steps);
   rows = λ m low. grind (arith, common_steps, c.loop-entry.invariant.rows m low);
-  leaves = All-more (λ (e : Entry). e.leaf < 2 ^ 32) c.args.entries.now c.loop-entry.entry-index no_entry
+  leaves = All-more (λ (e : Entry). e.leaf < 2 ^ 32) c.args.entries.now c.loop-entry.entry-index
+      no_entry
       (omega (arith, c.loop-entry-test.true)) c.loop-entry.invariant.leaves c.queue_of.ensures.leaf;
 }
 

@@ -5,6 +5,7 @@ use Rattle.sealed_runs.proofs.sealing.divide.Given as goal
 abbrev pub invariant-loop-entry : goal.invariant-loop-entry
 invariant-loop-entry l = record {
   count : length l.rows.items ≡ l.queues;
-  rows : (m : ℕ) → m < l.queues → get_or l.rows.items m [] ≡ row_of l.queues (take l.entry-index l.entries) m;
+  rows : (m : ℕ) → m < l.queues
+      → get_or l.rows.items m [] ≡ row_of l.queues (take l.entry-index l.entries) m;
   leaves : All (λ e. e.leaf < 2 ^ 32) (take l.entry-index l.entries);
 }

@@ -1,4 +1,4 @@
-use Rattle.std.proofs.Common.{◌≡◌, ℕ, ◌+◌, ◌<◌, ◌∷◌, [], ◌++◌, List, All, map, length, replicate, vec_len, refl, sym, ap, ◌∙◌, subst, arith, append_assoc, length-append}
+use Rattle.std.proofs.Common.{◌≡◌, ◌∷◌, [], ◌++◌, List, All, map, length, replicate, sym, ap, ◌∙◌, subst, arith, append_assoc, length-append}
 use Rattle.std.proofs.lemmas.List.{map-append}
 use Rattle.std.proofs.lemmas.List.Elements.{All-push}
 use Rattle.std.proofs.Math.Seq.{get_or-append_seam}
@@ -26,18 +26,22 @@ loop-row-preserved c =
     let run = c.in_ok-run.run' in
     let made = c.in_ok-run.ensures in
     let items = c.push_reserved.ensures.items in
-    let rows = ap (λ (r : List (List Entry)). yielded ++ r) (sym c.in-Some.ensures.steps.0) ∙ inv.3 in
+    let rows = ap (λ (r : List (List Entry)). yielded ++ r) (sym c.in-Some.ensures.steps.0)
+    ∙ inv.3 in
     let entries = made.entries ∙ c.row.view_is in
-    let ascending = at_seam IsAscending c.args.rows.items yielded rest row rows c.requires.ascending in
+    let ascending = at_seam IsAscending c.args.rows.items yielded rest row rows
+    c.requires.ascending in
     let ready : IsReady c.args.callers run = record {
       ascending = subst IsAscending (sym entries) ascending;
       callers = made.callers;
       count = made.count ∙ ap (λ (es : List Entry). length es) (sym made.entries);
     } in
-    let visits = sym (map-append (λ (r : Run). fresh_visit r.claims) c.loop-row.runs.items (run ∷ [])) in
+    let visits = sym (map-append (λ (r : Run). fresh_visit r.claims) c.loop-row.runs.items
+    (run ∷ [])) in
     let dealt = c.in_ok-deal.ensures
     ∙ ap (map (λ (vs : List Visit). vs ++ fresh_visit run.claims ∷ [])) inv.6
-    ∙ map_replicate (λ (vs : List Visit). vs ++ fresh_visit run.claims ∷ []) c.args.callers (fresh_visits c.loop-row.runs.items)
+    ∙ map_replicate (λ (vs : List Visit). vs ++ fresh_visit run.claims ∷ []) c.args.callers
+    (fresh_visits c.loop-row.runs.items)
     ∙ ap (replicate c.args.callers) visits
     ∙ ap (λ (rs : List Run). replicate c.args.callers (fresh_visits rs)) (sym items) in
     let mapped = ap (map (λ (r : Run). r.entries)) items

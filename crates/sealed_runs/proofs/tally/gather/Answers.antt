@@ -1,6 +1,6 @@
-use Rattle.std.proofs.Common.{◌≡◌, ◌<◌, ◌∷◌, [], ◌++◌, List, length, get_or, take, sym, ap, ◌∙◌, subst, arith}
+use Rattle.std.proofs.Common.{◌<◌, ◌∷◌, [], ◌++◌, List, length, get_or, take, sym, ap, ◌∙◌, subst, arith}
 use Rattle.std.proofs.lemmas.List.{get_or_default}
-use Rattle.sealed_runs.specs.Visits.{Visit, visit_at, column}
+use Rattle.sealed_runs.specs.Visits.{Visit, column}
 use Rattle.sealed_runs.specs.Tallied.{IsTally}
 use Rattle.sealed_runs.proofs.Tallying.{split_last}
 use Rattle.sealed_runs.proofs.Columns.{next_pass, changed_more, left_more, column_more}
@@ -18,7 +18,8 @@ last_visit-visit-requires c =
     let in_all : i < length all =
     omega (arith, c.loop-place-test.true, c.len-count.ensures, c.args.passes.now.ok.0) in
     let found = c.index_mut-in-loop-place.ensures.value in
-    let came = found ∙ get_or_default now i _ [] in_now ∙ next_pass (take c.args.m) all now i inv.left in
+    let came = found ∙ get_or_default now i _ [] in_now
+    ∙ next_pass (take c.args.m) all now i inv.left in
     let same = ap (λ (vs : List Visit). length vs) came in
     let each = c.requires.each i [] in_all in
     omega arith
@@ -48,7 +49,8 @@ loop-place-preserved c =
       count = count;
       gone = changed_more (take m) all now i rest in_now in_all inv.gone parts.0;
       left = left_more (take m) all now i rest inv.left;
-      tally = subst (λ (vs : List Visit). IsTally vs new.claims.items new.reach new.refused.items new.kept) columns more;
+      tally = subst (λ (vs : List Visit). IsTally vs new.claims.items new.reach new.refused.items
+          new.kept) columns more;
       claims = let was = inv.claims in omega (arith, c.take_in.ensures.claims.0);
       room = let was = inv.room in omega (arith, c.take_in.ensures.claims.1);
       refused = let was = inv.refused in omega (arith, c.take_in.ensures.refused.0);

@@ -8,7 +8,8 @@ invariant-loop-place l = record {
   count : vec_len l.passes ≡ vec_len l.fn.passes;
   gone : take l.place l.passes.items ≡ map (take l.m) (take l.place l.fn.passes.items);
   left : drop l.place l.passes.items ≡ drop l.place l.fn.passes.items;
-  tally : IsTally (column (take l.place l.fn.passes.items) l.m) l.tally.claims.items l.tally.reach l.tally.refused.items l.tally.kept;
+  tally : IsTally (column (take l.place l.fn.passes.items) l.m) l.tally.claims.items l.tally.reach
+      l.tally.refused.items l.tally.kept;
   claims : vec_len l.tally.claims ≡ l.place;
   room : vec_len l.fn.passes ≤ vec_capacity l.tally.claims;
   refused : vec_len l.tally.refused ≤ l.place;

@@ -12,7 +12,8 @@ returns g c x =
     let passes = c.in_ok-passes.passes in
     let hired = c.in_ok-team.ensures.len in
     let begun = c.in_ok-claims.ensures.passes in
-    let all : vec_len passes ≡ c.args.workers = grind (arith, common_steps, out.len, hired, begun) in
+    let all : vec_len passes ≡ c.args.workers =
+    grind (arith, common_steps, out.len, hired, begun) in
     let some_pass : 0 < length passes.items = omega (arith, passes.ok.0, all) in
     let d : Pass = fresh_pass c.in_ok-claims.claims in
     let full = closed.whole 0 d some_pass (out.ended 0 d some_pass) in

@@ -1,4 +1,4 @@
-use Rattle.std.proofs.Common.{◌≡◌, ◌≢◌, ℕ, ◌<◌, ◌≤◌, None}
+use Rattle.std.proofs.Common.{◌≡◌, ℕ, ◌≤◌, None}
 use Rattle.sealed_runs.specs.Visits.{IsPass, visit_at}
 use Rattle.worker_runs.specs.Popped.{IsDone}
 use Rattle.worker_runs.proofs.popping.pop_each.Given as goal

@@ -26,7 +26,8 @@ loop-pass-init c =
     let v = c.into_seat-seat.result.me.0 in
     let mine = ap (λ (p : Pass). p.best) pass ∙ own.1 ∙ sym c.self.view_is in
     let whole = ap (λ (p : Pass). rest ++ p ∷ []) pass ∙ sym items in
-    let gathered = subst (λ (xs : List Pass). Gathered xs rest v) whole (first rest t v seat.1.part) in
+    let gathered = subst (λ (xs : List Pass). Gathered xs rest v) whole
+    (first rest t v seat.1.part) in
     (ap (λ (b : Best). b.table) mine, seat.0, own.0, gathered)
 
 pub join_seat-requires : goal.join_seat-requires
@@ -35,7 +36,8 @@ join_seat-requires c =
     let all = c.loop-pass.passes.items in
     let rest = c.pop-in-loop-pass.new.self.items in
     let last = Some c.in-Some-pop.pass in
-    let own = All-pop (λ (p : Pass). p.best ≡ c.args.self) all rest last c.in-Some-pop.ensures.items inv.2 in
+    let own = All-pop (λ (p : Pass). p.best ≡ c.args.self) all rest last
+    c.in-Some-pop.ensures.items inv.2 in
     let seat = c.into_seat.ensures.seat in
     let mine = ap (λ (p : Pass). p.best) c.into_seat.ensures.pass ∙ own.1 ∙ sym c.self.view_is in
     (inv.0, ap (λ (b : Best). b.table) mine, seat.0, omega arith, joins _ _ _ _ _ seat.1.part)
@@ -47,7 +49,8 @@ loop-pass-preserved c =
     let rest = c.pop-in-loop-pass.new.self.items in
     let items = c.in-Some-pop.ensures.items in
     let last = Some c.in-Some-pop.pass in
-    let own = All-pop (λ (p : Pass). p.best ≡ c.args.self) c.loop-pass.passes.items rest last items inv.2 in
+    let own = All-pop (λ (p : Pass). p.best ≡ c.args.self) c.loop-pass.passes.items rest last items
+    inv.2 in
     let pass = c.into_seat.ensures.pass in
     let part = c.into_seat.ensures.seat.1.part in
     let joined = c.join_seat.ensures in
@@ -66,7 +69,8 @@ returns c =
     let seat = c.loop-pass.seat in
     let v = seat.me.0 in
     let none_left = c.in_default-pop.ensures.cases.0 in
-    let empty = nothing c.loop-pass.passes.items (omega (arith, c.loop-pass.passes.ok.0, none_left)) in
+    let empty = nothing c.loop-pass.passes.items
+    (omega (arith, c.loop-pass.passes.ok.0, none_left)) in
     let g = subst (λ (xs : List Pass). Gathered all xs v) empty inv.3 in
     let last = c.close_with-closed.ensures.values.2 in
     let terms = c.self.inside.table.shared.key in

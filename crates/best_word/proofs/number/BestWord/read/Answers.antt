@@ -11,6 +11,7 @@ load-found-requires c =
     let key_start = ap (λ t. t.start) c.self.invariant.0 in
     let start = ap (λ (b : Best). b.start) mine ∙ sym key_start in
     let terms = c.self.inside.table.shared.key in
-    let one : OnePass terms c.pass.inside.seat.me.0 = record { start = start; part = c.pass.invariant.1.part } in
+    let one : OnePass terms c.pass.inside.seat.me.0 =
+    record { start = start; part = c.pass.invariant.1.part } in
     let at = step c.self.inside.table.shared.table_id.slots 0 0 0 none in
     (ap (λ (b : Best). b.table) mine, omega arith, reads _ _ _ _ at c.pass.invariant.0 one)

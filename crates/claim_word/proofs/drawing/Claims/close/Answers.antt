@@ -31,7 +31,8 @@ join_seat-requires c =
     let all = c.loop-pass.passes.items in
     let rest = c.pop-in-loop-pass.new.self.items in
     let last = Some c.in-Some-pop.pass in
-    let own = All-pop (λ (p : Pass). p.claims ≡ c.args.self) all rest last c.in-Some-pop.ensures.items inv.2 in
+    let own = All-pop (λ (p : Pass). p.claims ≡ c.args.self) all rest last
+    c.in-Some-pop.ensures.items inv.2 in
     let seat = c.into_seat.ensures in
     let mine = ap (λ (p : Pass). p.claims) seat.0 ∙ own.1 ∙ sym c.self.view_is in
     (inv.0, ap (λ (k : Claim). k.table) mine, seat.1, omega arith, joins _ _ _ _ _)
@@ -43,7 +44,8 @@ loop-pass-preserved c =
     let rest = c.pop-in-loop-pass.new.self.items in
     let items = c.in-Some-pop.ensures.items in
     let last = Some c.in-Some-pop.pass in
-    let own = All-pop (λ (p : Pass). p.claims ≡ c.args.self) c.loop-pass.passes.items rest last items inv.2 in
+    let own = All-pop (λ (p : Pass). p.claims ≡ c.args.self) c.loop-pass.passes.items rest last
+    items inv.2 in
     let seat = c.into_seat.ensures in
     let joined = c.join_seat.ensures in
     let v = c.loop-pass.seat.me.0 in
@@ -61,7 +63,8 @@ returns c =
     let seat = c.loop-pass.seat in
     let v = seat.me.0 in
     let none_left = c.in_default-pop.ensures.cases.0 in
-    let empty = nothing c.loop-pass.passes.items (omega (arith, c.loop-pass.passes.ok.0, none_left)) in
+    let empty = nothing c.loop-pass.passes.items
+    (omega (arith, c.loop-pass.passes.ok.0, none_left)) in
     let g = subst (λ (xs : List Pass). Gathered all xs v) empty inv.3 in
     let last = c.close_with.ensures.values.2 in
     let terms = c.self.inside.table.shared.key in

@@ -1,8 +1,7 @@
-use Rattle.std.proofs.Common.{◌≡◌, ◌<◌, ◌≤◌, List, ◌∷◌, [], ◌++◌, length, set, sym, ap, ◌∙◌, subst, arith}
+use Rattle.std.proofs.Common.{◌≡◌, ◌<◌, List, length, set, sym, ap, ◌∙◌, subst, arith}
 use Rattle.std.proofs.lemmas.List.{get_or_default}
-use Rattle.series_core.specs.declared.queue_words.Entry.{Entry}
 use Rattle.sealed_runs.specs.Entries.{Run, Sealed, no_run, run_at}
-use Rattle.sealed_runs.specs.Visits.{Visit, no_visit, visit_at, leaves, IsPass}
+use Rattle.sealed_runs.specs.Visits.{Visit, no_visit, visit_at, IsPass}
 use Rattle.sealed_runs.specs.Popped.{IfLeaf, IfClosed, Gives, Shuts, Pops}
 use Rattle.sealed_runs.proofs.Popping.{Says, pops_say}
 use Rattle.sealed_runs.proofs.Passing.{new_visit, pass_stays}
@@ -10,7 +9,8 @@ use Rattle.sealed_runs.proofs.runs.Runs.pop.Goals as goal
 
 -- what the pop of the run says of the pass's visit
 says : (c : goal.After-pass-1)
-    → Says (run_at c.args.self.now.runs c.args.m) c.args.limit (visit_at c.args.pass.now c.args.m) c.pop.result
+    → Says (run_at c.args.self.now.runs c.args.m) c.args.limit (visit_at c.args.pass.now c.args.m)
+    c.pop.result
     c.pop.new.visit
 says c =
     let m = c.args.m in
@@ -28,9 +28,11 @@ says c =
     let visit_is = c.index_mut.ensures.value
     ∙ get_or_default c.pass.inside.visits.items m _ no_visit in_visits
     ∙ ap (λ (vs : List Visit). visit_at vs m) c.pass.view_is in
-    let pops = subst (λ (r : Run). Pops r c.args.limit c.pop.result c.index_mut.result.now c.pop.new.visit) run_is
+    let pops = subst (λ (r : Run). Pops r c.args.limit c.pop.result c.index_mut.result.now
+    c.pop.new.visit) run_is
     c.pop.ensures.pops in
-    pops_say run c.args.limit visit (c.requires.own.each m queue) c.requires.goes_on c.pop.result c.pop.new.visit
+    pops_say run c.args.limit visit (c.requires.own.each m queue) c.requires.goes_on c.pop.result
+    c.pop.new.visit
     (subst (λ (v : Visit). Pops run c.args.limit c.pop.result v c.pop.new.visit) visit_is pops)
 
 -- the visit of the run after the pop is the one that the pop left
@@ -46,13 +48,15 @@ pub returns-clause-leaf : goal.returns-clause-leaf
 returns-clause-leaf c =
     let run = run_at c.args.self.now.runs c.args.m in
     let v = visit_at c.args.pass.now c.args.m in
-    subst (λ (w : Visit). IfLeaf c.pop.result (Gives run c.args.limit v w)) (sym (left c)) (says c).leaf
+    subst (λ (w : Visit). IfLeaf c.pop.result (Gives run c.args.limit v w)) (sym (left c))
+    (says c).leaf
 
 pub returns-clause-closed : goal.returns-clause-closed
 returns-clause-closed c =
     let run = run_at c.args.self.now.runs c.args.m in
     let v = visit_at c.args.pass.now c.args.m in
-    subst (λ (w : Visit). IfClosed c.pop.result (Shuts run c.args.limit v w)) (sym (left c)) (says c).closed
+    subst (λ (w : Visit). IfClosed c.pop.result (Shuts run c.args.limit v w)) (sym (left c))
+    (says c).closed
 
 pub returns-clause-own : goal.returns-clause-own
 returns-clause-own c =

@@ -1,4 +1,4 @@
-use Rattle.std.proofs.Common.{◌≡◌, ℕ, List, ◌++◌, ◌∷◌, [], max, ap, ◌∙◌, arith}
+use Rattle.std.proofs.Common.{◌≡◌, ◌++◌, ◌∷◌, [], max, ap, ◌∙◌, arith}
 use Rattle.claim_word.specs.Passes.{Pass}
 use Rattle.sealed_runs.specs.Visits.{Visit}
 use Rattle.sealed_runs.specs.Closed.{lesser}
