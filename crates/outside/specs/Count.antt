@@ -11,5 +11,6 @@ abbrev pub Rose : ℕ → ℕ → Type 0
 Rose before now = next_count before ≤ now
 
 -- a rise within a stretch is a rise over the stretch
-pub Rose-wider : {first before now last : ℕ} → first ≤ before → Rose before now → now ≤ last → Rose first last
+pub Rose-wider : {first before now last : ℕ} → first ≤ before → Rose before now → now ≤ last
+    → Rose first last
 Rose-wider earlier rose later = omega arith

@@ -1,5 +1,5 @@
 -- What a device of files tells: the bytes held under each name, the open file's name, and what is left of it.
-use Rattle.std.specs.Prelude.{◌≡◌, ℕ, ◌+◌, ◌≤◌, List, [], length, drop, Option, Some, None, Result, Ok, Err, IsSome, IfSome, OnSome}
+use Rattle.std.specs.Prelude.{◌≡◌, ℕ, ◌≤◌, List, [], drop, Option, Some, None, Result, Err, IsSome, IfSome, OnSome}
 use Rattle.outside.specs.declared.faults.OpenFault.{OpenFault}
 use Rattle.outside.specs.declared.faults.OpenFault.TheVariants.{Failed}
 
@@ -16,8 +16,13 @@ Opens (Some held) name at left = (at ≡ Some name) × IsSome (held name) × (le
 abbrev pub IsClosed : Option Held → Option (List ℕ) → Option (List ℕ) → Type 0
 IsClosed held at left = OnSome held ((at ≡ None) × (left ≡ Some []))
 
+-- the blamed name, where told, is this one
+abbrev pub Blames : Option (List ℕ) → Option (List ℕ) → Type 0
+Blames name now = IfSome now (λ blamed. name ≡ Some blamed)
+
 -- the blamed name after opening a file: where that failed its name, if told, and else the one before
-abbrev pub BlamesOpen : {T : Type 0} → Result T OpenFault → List ℕ → Option (List ℕ) → Option (List ℕ) → Type 0
+abbrev pub BlamesOpen : {T : Type 0} → Result T OpenFault → List ℕ → Option (List ℕ)
+    → Option (List ℕ) → Type 0
 BlamesOpen (Err Failed) name before now = IfSome now (λ blamed. blamed ≡ name)
 BlamesOpen _ name before now = now ≡ before
 

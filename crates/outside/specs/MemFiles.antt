@@ -1,11 +1,10 @@
 -- Files in memory: what they tell, and what each call answers.
-use Rattle.std.specs.Prelude.{◌≡◌, ℕ, Bool, true, false, min, List, [], length, nat_eq, Option, Some, None, Result, Ok, Err, is_ok, is_some, is_none, if◌then◌else◌}
+use Rattle.std.specs.Prelude.{◌≡◌, ℕ, Bool, true, false, min, List, [], length, nat_eq, Option, None, Result, Ok, Err, is_ok, is_some, is_none, if◌then◌else◌}
 use Rattle.std.specs.List.{list_any}
-use Rattle.std.specs.Option.{option_and_then}
+use Rattle.std.specs.Option.{option_map, option_and_then}
 use Rattle.outside.specs.declared.faults.Failed.{Failed}
 use Rattle.outside.specs.declared.faults.OpenFault.{OpenFault}
 use Rattle.outside.specs.declared.faults.OpenFault.TheVariants.{Absent, Failed as OpenFailed}
-use Rattle.outside.specs.declared.held_files.OpenFile.{OpenFile}
 use Rattle.outside.specs.declared.mem_files.MemFiles.{MemFiles}
 use Rattle.outside.specs.Count.{next_count}
 use Rattle.outside.specs.Files.{Held}
@@ -55,6 +54,10 @@ FailsNever files = (files.fail_opens.items ≡ []) × (files.fail_reads.items �
 abbrev pub is_next : ℕ → List ℕ → Bool
 is_next calls listed = list_any (λ call. nat_eq call (next_count calls)) listed
 
+-- the name, if it is held
+abbrev pub held_name : MemFiles → List ℕ → Option (List ℕ)
+held_name files name = option_map (λ _. name) (held_in files name)
+
 -- the answer is that no file has the name
 abbrev pub is_absent : Result (Unit {0}) OpenFault → Bool
 is_absent (Err Absent) = true
@@ -66,7 +69,7 @@ open_answer files name =
     if is_next files.opens files.fail_opens.items then Err OpenFailed
     else (if is_some (held_in files name) then Ok tt else Err Absent)
 
--- A read of the open file fails where it is listed; else it gives the least of the cap, the room and what is left.
+-- A read of the open file fails where it is listed; else it gives the least of cap, room and what is left.
 abbrev pub read_answer : MemFiles → ℕ → Result ℕ Failed
 read_answer files room =
     if is_none files.opened then Ok 0
@@ -81,19 +84,25 @@ pub record SameFiles (old new : MemFiles) : Type 0 where
   pub fail_reads : new.fail_reads.items ≡ old.fail_reads.items
 
 -- opening a file answers as it must, and is counted
-pub record OpensAs (old : MemFiles) (name : List ℕ) (result : Result (Unit {0}) OpenFault) (new : MemFiles) : Type 0 where
+pub record OpensAs (old : MemFiles) (name : List ℕ) (result : Result (Unit {0}) OpenFault)
+    (new : MemFiles) : Type 0 where
   pub answer : result ≡ open_answer old name
   pub counted : (new.opens ≡ next_count old.opens) × (new.reads ≡ old.reads)
-  pub faults : new.faults ≡ (if is_next old.opens old.fail_opens.items then next_count old.faults else old.faults)
+  pub faults : new.faults
+      ≡ (if is_next old.opens old.fail_opens.items then next_count old.faults else old.faults)
   pub misses : new.misses ≡ (if is_absent result then next_count old.misses else old.misses)
+  pub blamed : blamed_in new
+      ≡ (if is_next old.opens old.fail_opens.items then held_name old name else blamed_in old)
   pub same : SameFiles old new
 
 -- a read answers as it must, and is counted where a file is open
 pub record ReadsAs (old : MemFiles) (room : ℕ) (result : Result ℕ Failed) (new : MemFiles) : Type 0 where
   pub answer : result ≡ read_answer old room
-  pub counted : (new.opens ≡ old.opens) × (new.reads ≡ (if is_none old.opened then old.reads else next_count old.reads))
+  pub counted : (new.opens ≡ old.opens)
+      × (new.reads ≡ (if is_none old.opened then old.reads else next_count old.reads))
   pub faults : new.faults ≡ (if is_ok result then old.faults else next_count old.faults)
   pub misses : new.misses ≡ old.misses
+  pub blamed : blamed_in new ≡ (if is_ok result then blamed_in old else name_in old)
   pub same : SameFiles old new
 
 -- the counts, the lists and what is blamed are as they were

@@ -1,5 +1,5 @@
 -- A sink in memory: what it tells, and what a write answers.
-use Rattle.std.specs.Prelude.{◌≡◌, ℕ, ◌-◌, ◌&&◌, ◌||◌, min, List, [], length, nat_eq, nat_lt, Result, Ok, Err, is_ok, if◌then◌else◌}
+use Rattle.std.specs.Prelude.{◌≡◌, ℕ, ◌-◌, ◌&&◌, ◌||◌, min, List, length, nat_eq, nat_lt, Result, Ok, Err, is_ok, if◌then◌else◌}
 use Rattle.std.specs.List.{list_any}
 use Rattle.outside.specs.declared.faults.Failed.{Failed}
 use Rattle.outside.specs.declared.mem_sink.MemSink.{MemSink}
@@ -32,10 +32,12 @@ room_in sink = sink.room - length sink.bytes.items
 abbrev pub sure_in : MemSink → ℕ
 sure_in sink = if nat_eq (length sink.fail_writes.items) 0 then room_in sink else 0
 
--- A write fails where it is listed, or brings bytes where there is no room; else it takes the least of cap, room and bytes.
+-- A write fails where it is listed, or brings bytes where there is no room;
+-- else it takes the least of the cap, the room and the bytes.
 abbrev pub write_answer : MemSink → ℕ → Result ℕ Failed
 write_answer sink given =
-    if list_any (λ call. nat_eq call (next_count sink.writes)) sink.fail_writes.items || (nat_eq (room_in sink) 0 && nat_lt 0 given)
+    if list_any (λ call. nat_eq call (next_count sink.writes)) sink.fail_writes.items
+    || (nat_eq (room_in sink) 0 && nat_lt 0 given)
     then Err record {}
     else Ok (min sink.cap (min (room_in sink) given))
 

@@ -3,7 +3,7 @@ ghost use Rattle.std.specs.Prelude.{◌≡◌, ◌≢◌, ℕ, ◌<◌, ◌≤�
 ghost use Rattle.std.specs.Io.KnownBytes.{prepend_known, IsAtEnd};
 ghost use Rattle.outside.specs.declared.faults.OpenFault.TheVariants.{Absent, Failed as OpenFailed};
 ghost use Rattle.outside.specs.Count.{Rose};
-ghost use Rattle.outside.specs.Files.{Held, Opens, IsClosed, BlamesOpen};
+ghost use Rattle.outside.specs.Files.{Held, Opens, IsClosed, Blames, BlamesOpen};
 
 use crate::{Failed, OpenFault};
 
@@ -53,7 +53,7 @@ pub trait Files {
         ensures none_open { IsSome (held self.old) → at self.old ≡ None → result ≡ Ok 0 }
         ensures failed { OnErr result (Rose (faults self.old) (faults self.new)
             × IsClosed (held self.new) (at self.new) (left self.new)
-            × IfSome (blamed self.new) (λ blamed. at self.old ≡ Some blamed)) }
+            × Blames (at self.old) (blamed self.new)) }
         ensures kept { held self.new ≡ held self.old }
         ensures counts { (faults self.old ≤ faults self.new) × (misses self.old ≤ misses self.new) }
         ensures reliable { reliable self.old → IsOk result

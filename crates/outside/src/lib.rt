@@ -21,3 +21,6 @@ pub use mem_sink::MemSink;
 pub use reading::read_all;
 pub use sink::Sink;
 pub use writing::write_whole;
+
+#[cfg(test)]
+mod tests;

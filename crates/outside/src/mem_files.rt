@@ -5,7 +5,7 @@ ghost use Rattle.std.specs.Io.KnownBytes.{prepend_known, IsAtEnd};
 ghost use Rattle.std.specs.Str.{bytes_eq};
 ghost use Rattle.outside.specs.declared.faults.OpenFault.TheVariants.{Absent, Failed as OpenFailed};
 ghost use Rattle.outside.specs.Count.{next_count, Rose};
-ghost use Rattle.outside.specs.Files.{Opens, IsClosed, BlamesOpen};
+ghost use Rattle.outside.specs.Files.{Opens, Blames, BlamesOpen};
 ghost use Rattle.outside.specs.HeldFiles.{IsAmongHeld};
 
 use crate::counts::next;
@@ -126,7 +126,7 @@ impl Files for MemFiles {
         ensures stays_open { OnOk result ((name_in self.new ≡ name_in self.old) × (blamed_in self.new ≡ blamed_in self.old)) }
         ensures none_open { name_in self.old ≡ None → result ≡ Ok 0 }
         ensures closed { OnErr result ((name_in self.new ≡ None) × (rest_in self.new ≡ [])) }
-        ensures blame { OnErr result (IfSome (blamed_in self.new) (λ blamed. name_in self.old ≡ Some blamed)) }
+        ensures blame { OnErr result (Blames (name_in self.old) (blamed_in self.new)) }
         ensures counts { (faults_in self.old ≤ faults_in self.new) × (misses_in self.old ≤ misses_in self.new) }
     {
         let Some(file) = self.opened else {

@@ -2,7 +2,7 @@
 ghost use Rattle.std.specs.Prelude.{◌≡◌, ◌≢◌, ◌+◌, ◌<◌, ◌≤◌, length, drop, IfOk, IfSome, IsErrOf};
 ghost use Rattle.std.specs.Io.KnownBytes.{IsAtEnd};
 ghost use Rattle.outside.specs.Count.{Rose};
-ghost use Rattle.outside.specs.Files.{IsClosed, TakesAtMost};
+ghost use Rattle.outside.specs.Files.{Blames, TakesAtMost};
 
 use crate::{AllError, Files};
 use std::alloc::{AllocError, Global};
@@ -16,9 +16,8 @@ pub fn read_all<F: Files>(alloc: Global, files: &mut F, limit: u64) -> Result<Ve
         × IfSome (F.left files.old) (λ rest. bytes.items ≡ rest) × IsAtEnd (F.left files.new)) }
     ensures longer { IsErrOf result AllError.Longer → IfSome (F.left files.old) (λ rest.
         (limit < length rest) × (F.left files.new ≡ Some (drop (limit + 1) rest))) }
-    ensures fault { IsErrOf result AllError.ReadFault → Rose (F.faults files.old) (F.faults files.new)
-        × IfSome (F.blamed files.new) (λ blamed. F.at files.old ≡ Some blamed)
-        × IsClosed (F.held files.new) (F.at files.new) (F.left files.new) }
+    ensures fault { IsErrOf result AllError.ReadFault
+        → Rose (F.faults files.old) (F.faults files.new) × Blames (F.at files.old) (F.blamed files.new) }
     ensures memory { IsErrOf result AllError.NoMemory → TakesAtMost (limit + 1) (F.left files.old) (F.left files.new) }
     ensures stays_open { (result ≢ Err AllError.ReadFault)
         → (F.at files.new ≡ F.at files.old) × (F.blamed files.new ≡ F.blamed files.old) }

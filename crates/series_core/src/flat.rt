@@ -2,6 +2,7 @@
 //! Its values are those of series 0, then of series 1, and so on.
 
 ghost use Rattle.std.specs.Prelude.{◌≡◌, ◌+◌, ◌*◌, ◌/◌, ◌<◌, ◌≤◌, length, vec_len, Some, slice_get};
+ghost use Rattle.series_core.specs.Collection.{IsCollection};
 ghost use Rattle.series_core.specs.Flat.{rows_of, joined};
 
 use crate::ranges::values_fit;
@@ -37,6 +38,7 @@ impl Flat {
         requires values_limit { vec_len values ≤ MAX_VALUES }
         ensures points { result.points ≡ length }
         ensures series { result.series ≡ rows_of length (vec_len values / length) values.items }
+        ensures sound { IsCollection result }
     {
         values_fit(&values);
         let count = (values.len() / length as usize) as u32;

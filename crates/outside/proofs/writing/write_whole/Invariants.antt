@@ -1,5 +1,4 @@
-use Rattle.std.proofs.Common.{◌≡◌, ℕ, ◌+◌, ◌-◌, ◌≤◌, length, take}
-use Rattle.std.specs.Io.KnownBytes.{append_known}
+use Rattle.std.proofs.Common.{◌-◌, length}
 use Rattle.outside.proofs.writing.write_whole.Given as goal
 use Rattle.outside.proofs.Progress.{Progress}
 

@@ -1,4 +1,4 @@
-use Rattle.std.proofs.Common.{◌≡◌, ◌<◌, length, subst, Some, ℕ}
+use Rattle.std.proofs.Common.{◌≡◌, ◌<◌, length, subst, ℕ}
 use Rattle.outside.proofs.HeldLists.{open_name-within}
 use Rattle.outside.proofs.mem_files.MemFilesFiles.read.Goals as goal
 
@@ -14,7 +14,10 @@ invariant_of-self c = record {
 
 pub returns-then-contains-clause-none_open : goal.returns-then-contains-clause-none_open
 returns-then-contains-clause-none_open c none =
-    absurd (open_name-within c.args.self.now.files.items c.args.self.now.opened c.in-Some.file c.in-Some.is (c.args.self.now.among_held c.in-Some.file c.in-Some.is).0 none)
+    let self = c.args.self.now in
+    let among = self.among_held c.in-Some.file c.in-Some.is in
+    absurd (open_name-within self.files.items self.opened c.in-Some.file c.in-Some.is among.0 none)
 
 pub take_piece-count-requires : goal.take_piece-count-requires
-take_piece-count-requires c = rw c.deref-2.ensures.value (c.args.self.now.among_held c.in-Some.file c.in-Some.is)
+take_piece-count-requires c =
+    rw c.deref-2.ensures.value (c.args.self.now.among_held c.in-Some.file c.in-Some.is)

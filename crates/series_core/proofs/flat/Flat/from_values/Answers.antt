@@ -1,4 +1,5 @@
 use Rattle.std.proofs.Common.{sym, ap, ◌∙◌, ◌≡◌, length, vec_len}
+use Rattle.series_core.proofs.RowsOf.{is_collection}
 use Rattle.series_core.proofs.flat.Flat.from_values.Goals as goal
 
 pub invariant_of-result : goal.invariant_of-result
@@ -13,3 +14,5 @@ invariant_of-result c =
       values_limit = rw size c.requires.values_limit;
       each = rw (← c.deref.ensures.value) c.values_fit.ensures;
     }
+pub returns-clause-sound : goal.returns-clause-sound
+returns-clause-sound c = is_collection c.args.length _ c.args.values.items (invariant_of-result c)

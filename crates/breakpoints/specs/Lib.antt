@@ -1,0 +1,2 @@
+-- The definitions of this crate that public clauses cite.
+pub mod Breakpoint

@@ -1,0 +1,10 @@
+mod Spelling
+mod Refusals
+mod Names
+pub mod Named
+mod OtherRows
+mod OtherWalk
+pub mod Absent
+pub mod IndexAlone
+pub mod Within
+pub mod OneSettings

@@ -1,0 +1,7 @@
+-- The lemmas of this crate.
+pub mod Counts
+pub mod PaddedLists
+pub mod Scaled
+pub mod Symbols
+pub mod Roots
+pub mod Words

@@ -1,0 +1,66 @@
+-- Items kept in 16 places, the rest padded: writing at the first padded place adds an item
+-- (`padded_next`).
+use Rattle.std.proofs.Common.{◌≡◌, ℕ, suc, ◌+◌, ◌-◌, ◌<◌, ◌≤◌, arith, refl, List, [], ◌∷◌, ◌++◌, replicate, length, set, take, sym, ◌∙◌, ap, append_assoc}
+use Rattle.std.proofs.lemmas.List.{set_at, set-append_left, length-append, length-replicate, length_push, take_more_set, length-set}
+use Rattle.std.proofs.Math.Seq.{take-set-lt}
+use Rattle.isax_word.specs.Padded.{padded}
+
+-- a list whose first k items are all that is kept in it
+pub record IsKept {X : Type 0} (padding : X) (xs : List X) (k : ℕ) : Type 0 where
+  pub long : length (take k xs) ≡ k
+  pub kept : xs ≡ padded padding (take k xs)
+
+-- a list of padding keeps no items
+pub padded_none : {X : Type 0} (padding : X) → IsKept padding (replicate 16 padding) 0
+padded_none padding = record { long = refl; kept = refl }
+
+-- a padded list of at most 16 items has 16 places
+pub length-kept : {X : Type 0} (padding : X) (xs : List X) (k : ℕ) → k ≤ 16 → IsKept padding xs k
+    → length xs ≡ 16
+length-kept {X} padding xs k few is =
+    ap (λ (l : List X). length l) is.kept ∙ length-append (take k xs) _
+    ∙ omega (arith, length-replicate (16 - length (take k xs)) padding, is.long)
+
+-- writing at the first padded place adds an item
+pub padded_next : {X : Type 0} (padding : X) (xs : List X) (k : ℕ) (y : X) → k < 16
+    → IsKept padding xs k
+    → IsKept padding (set xs k y) (k + 1) × (take (k + 1) (set xs k y) ≡ take k xs ++ y ∷ [])
+padded_next {X} padding xs k y inside is =
+    let front = take k xs in
+    let whole : k < length xs = omega (arith, length-kept padding xs k (omega arith) is) in
+    let more : take (k + 1) (set xs k y) ≡ front ++ y ∷ [] = take_more_set xs k y whole in
+    let long : length (front ++ y ∷ []) ≡ k + 1 = length_push front y ∙ ap (λ n. n + 1) is.long in
+    let behind = replicate (16 - (k + 1)) padding in
+    let one_less : 16 - length front ≡ suc (16 - (k + 1)) = omega (arith, is.long) in
+    let split : xs ≡ front ++ padding ∷ behind = is.kept
+    ∙ ap (λ m. front ++ replicate m padding) one_less in
+    let written : set xs k y ≡ padded padding (front ++ y ∷ [])
+    = ap (λ (l : List X). set l k y) split ∙ set_at front padding behind y k is.long
+    ∙ sym (append_assoc front (y ∷ []) behind)
+    ∙ ap (λ m. (front ++ y ∷ []) ++ replicate (16 - m) padding) (sym long) in (
+      record {
+        long = ap (λ (l : List X). length l) more ∙ long;
+        kept = written ∙ ap (λ l. padded padding l) (sym more);
+      },
+      more,
+    )
+
+-- writing at an item in use keeps as many items
+pub padded_set : {X : Type 0} (padding : X) (xs : List X) (k j : ℕ) (y : X) → k ≤ 16 → j < k
+    → IsKept padding xs k
+    → IsKept padding (set xs j y) k × (take k (set xs j y) ≡ set (take k xs) j y)
+padded_set {X} padding xs k j y few used is =
+    let more : take k (set xs j y) ≡ set (take k xs) j y = take-set-lt k xs j y used in
+    let long : length (set (take k xs) j y) ≡ k = length-set (take k xs) j y ∙ is.long in
+    let inside : j < length (take k xs) = omega (arith, is.long) in
+    let written : set xs j y ≡ padded padding (take k (set xs j y))
+    = ap (λ (l : List X). set l j y) is.kept
+    ∙ set-append_left (take k xs) _ j y inside
+    ∙ ap (λ m. set (take k xs) j y ++ replicate (16 - m) padding) (is.long ∙ sym long)
+    ∙ ap (λ l. padded padding l) (sym more) in (
+      record {
+        long = ap (λ (l : List X). length l) more ∙ long;
+        kept = written;
+      },
+      more,
+    )

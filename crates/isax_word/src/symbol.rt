@@ -1,0 +1,68 @@
+//! The symbol of a segment's sum. A symbol is defined as a count of breakpoints; here it is found by
+//! arithmetic, in the flat table, or by halving, in the bent one, without a branch on the values.
+ghost use Rattle.std.specs.Prelude.{◌≡◌, ◌*◌, ◌≤◌, pos, neg_ℤ, ◌+ℤ◌, ◌≤ℤ◌, if◌then◌else◌};
+ghost use Rattle.breakpoints.specs.declared.table.Table.TheVariants.{Flat, Bent};
+ghost use Rattle.isax_word.specs.Symbol.{is_reached, symbol_of};
+
+use breakpoints::Table;
+
+/// The symbol of a segment of this length and sum, the sum of as many values of 16 bits.
+pub fn symbol_of_sum(table: Table, length: u32, sum: i32) -> u8
+    requires some_values { 1 ≤ length }
+    requires few_values { length ≤ 65536 }
+    requires not_low { neg_ℤ (pos (32768 * length)) ≤ℤ sum }
+    requires not_high { sum ≤ℤ pos (32767 * length) }
+    ensures { result ≡ symbol_of table length sum }
+{
+    match table {
+        Table::Flat => flat_symbol(length, sum),
+        Table::Bent => bent_symbol(length, sum),
+    }
+}
+
+/// How far a sum lies above the least sum of a segment of this length.
+fn above_least(length: u32, sum: i32) -> u32
+    requires some_values { 1 ≤ length }
+    requires few_values { length ≤ 65536 }
+    requires not_low { neg_ℤ (pos (32768 * length)) ≤ℤ sum }
+    requires not_high { sum ≤ℤ pos (32767 * length) }
+    ensures value { pos result ≡ sum +ℤ pos (32768 * length) }
+    ensures bound { result ≤ 65535 * length }
+{
+    (i64::from(sum) + 32768 * i64::from(length)) as u32
+}
+
+/// The symbol in the flat table: how many steps of 256 a value fit between the least sum and the sum.
+fn flat_symbol(length: u32, sum: i32) -> u8
+    requires some_values { 1 ≤ length }
+    requires few_values { length ≤ 65536 }
+    requires not_low { neg_ℤ (pos (32768 * length)) ≤ℤ sum }
+    requires not_high { sum ≤ℤ pos (32767 * length) }
+    ensures { result ≡ symbol_of Flat length sum }
+{
+    (above_least(length, sum) / (256 * length)) as u8
+}
+
+/// 1 where the bent breakpoint at place `i`, times the length, is at or below the sum, and else 0.
+fn bent_reached(length: u32, sum: i32, i: u32) -> u32
+    requires few_values { length ≤ 65536 }
+    requires first { 1 ≤ i }
+    requires last { i ≤ 255 }
+    ensures { result ≡ (if is_reached Bent length sum i then 1 else 0) }
+{
+    let scaled = length as i32 * Table::Bent.at(i);
+    u32::from(scaled <= sum)
+}
+
+/// The symbol in the bent table, found in eight halvings of the places that are left.
+fn bent_symbol(length: u32, sum: i32) -> u8
+    requires few_values { length ≤ 65536 }
+    ensures { result ≡ symbol_of Bent length sum }
+{
+    let mut symbol = 0;
+    for round in 0..8u32 {
+        let step = 128 >> round;
+        symbol += step * bent_reached(length, sum, symbol + step);
+    }
+    symbol as u8
+}

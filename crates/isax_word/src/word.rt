@@ -1,0 +1,165 @@
+//! Words: for each segment a prefix of its symbol and the number of bits of that prefix.
+ghost use Rattle.std.specs.Prelude.{ℕ, ◌≡◌, ◌<◌, ◌≤◌, ◌^◌, ◌↔◌, IsTrue, IsSome, IfSome, length};
+ghost use Rattle.isax_word.specs.Word.{IsPart, IsWord, MakeWord, part_at, parts_of, one_bit_word, word_contains, child_part, child_word};
+
+use crate::full::Full;
+use std::marker::Model;
+
+/// What a word knows of one segment: the first `bits` bits of its symbol, as a number.
+#[derive(Clone, Copy)]
+pub struct Part {
+    pub prefix: u8,
+    pub bits: u8,
+}
+
+impl Part {
+    /// The part that stands in the places past the end of a word.
+    const NONE: Part = Part { prefix: 0, bits: 0 };
+
+    /// Whether there are 1 to 8 bits and the prefix has no more of them.
+    fn is_part(self) -> bool
+        ensures { IsTrue result ↔ IsPart self }
+    {
+        1 <= self.bits && self.bits <= 8 && u32::from(self.prefix) < 1 << self.bits
+    }
+
+    /// The part with one bit more.
+    fn child(self, high: bool) -> Part
+        requires fits { self.prefix < 128 }
+        requires divisible { self.bits < 8 }
+        ensures { result ≡ child_part self high }
+    {
+        Part {
+            prefix: 2 * self.prefix + u8::from(high),
+            bits: self.bits + 1,
+        }
+    }
+}
+
+/// A word, seen as the list of its parts, one for each segment.
+#[derive(Clone, Copy)]
+pub struct Word {
+    count: u32,
+    parts: [Part; 16],
+}
+
+impl Model for Word {
+    ghost use Rattle.std.specs.Prelude.{List, take, length, ◌≡◌};
+    ghost use Rattle.std.proofs.Common.{sym};
+    ghost use Rattle.isax_word.specs.declared.word.Part.{Part};
+    ghost use Rattle.isax_word.specs.Padded.{padded};
+    ghost use Rattle.isax_word.specs.Word.{IsWord, no_part};
+
+    ghost Value = { List Part };
+
+    ghost view = { λ word. take word.count word.parts };
+
+    ghost invariant = { λ word. IsWord (take word.count word.parts)
+        × (length (take word.count word.parts) ≡ word.count)
+        × (word.parts ≡ padded no_part (take word.count word.parts)) };
+
+    ghost inverse = { λ word. record { count = length word; parts = padded no_part word } };
+
+    ghost inverse_ok = { λ word kept i. record { count = kept.1 i; parts = sym kept.2 i } };
+}
+
+impl Word {
+    /// The word of one bit in each of `w` segments, the bits of `root`, segment 0 the most significant.
+    pub fn of_root(root: u32, w: u32) -> Self
+        requires some_segments { 1 ≤ w }
+        requires few_segments { w ≤ 16 }
+        requires bits { root < 2 ^ w }
+        ensures { result ≡ one_bit_word root w }
+    {
+        let mut parts = [Part::NONE; 16];
+        let mut rest = root;
+        for j in 0..w {
+            let place = w - 1 - j;
+            parts[j as usize] = Part {
+                prefix: (rest >> place) as u8,
+                bits: 1,
+            };
+            rest %= 1 << place;
+        }
+        Word { count: w, parts }
+    }
+
+    /// The word of these prefixes and numbers of bits, one of each for each segment. None exactly where
+    /// there are not as many of the one as of the other, or not 1 to 16, or some prefix has more bits than
+    /// are told, or some number of bits is not from 1 to 8.
+    pub fn of_parts(prefixes: &[u8], bits: &[u8]) -> Option<Word>
+        ensures accepted { IsSome result ↔ MakeWord prefixes.now bits.now }
+        ensures value { IfSome result (λ word. word ≡ parts_of prefixes.now bits.now) }
+    {
+        if prefixes.len() != bits.len() || prefixes.is_empty() || prefixes.len() > 16 {
+            return None;
+        }
+        let mut parts = [Part::NONE; 16];
+        for j in 0..prefixes.len() {
+            let part = Part {
+                prefix: prefixes[j],
+                bits: bits[j],
+            };
+            if !part.is_part() {
+                return None;
+            }
+            parts[j] = part;
+        }
+        Some(Word {
+            count: prefixes.len() as u32,
+            parts,
+        })
+    }
+
+    /// The first bits of the symbol of segment `j`, as a number below 2 to the number of these bits.
+    pub fn prefix(&self, j: u32) -> u8
+        requires { j < length self.now }
+        ensures value { result ≡ (part_at self.now j).prefix }
+        ensures fits { result < 2 ^ (part_at self.now j).bits }
+    {
+        self.parts[j as usize].prefix
+    }
+
+    /// How many bits of the symbol of segment `j` are told, from 1 to 8.
+    pub fn bits(&self, j: u32) -> u8
+        requires { j < length self.now }
+        ensures value { result ≡ (part_at self.now j).bits }
+        ensures some_bits { 1 ≤ result }
+        ensures eight_bits { result ≤ 8 }
+    {
+        self.parts[j as usize].bits
+    }
+
+    /// The number of segments, from 1 to 16.
+    pub fn segments(&self) -> u32
+        ensures value { result ≡ length self.now }
+        ensures is_word { IsWord self.now }
+    {
+        self.count
+    }
+}
+
+/// Whether in each segment the word's prefix is the first bits of the full word's symbol.
+pub fn contains(word: &Word, full: &Full) -> bool
+    requires { length word.now ≡ length full.now }
+    ensures { result ≡ word_contains word.now full.now }
+{
+    for j in 0..word.segments() {
+        if full.symbol(j) >> (8 - word.bits(j)) != word.prefix(j) {
+            return false;
+        }
+    }
+    true
+}
+
+/// The word with one bit more in one segment: a 1 in the high child, a 0 in the low one.
+pub fn child(word: &Word, segment: u32, high: bool) -> Word
+    requires used { segment < length word.now }
+    requires divisible { (part_at word.now segment).bits < 8 }
+    ensures { result ≡ child_word word.now segment high }
+{
+    let mut child = *word;
+    let part = child.parts[segment as usize];
+    child.parts[segment as usize] = part.child(high);
+    child
+}

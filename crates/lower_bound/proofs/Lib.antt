@@ -1,0 +1,5 @@
+-- The lemmas of this crate.
+pub mod Gaps
+pub mod Distances
+pub mod Views
+pub mod Bounds

@@ -1,0 +1,99 @@
+-- The costs of each segment are those of its length and sum.
+use Rattle.std.proofs.Common.{rules, ◌≡◌, ◌≢◌, pos, ◌-◌, ◌<◌, [], arith, ap, sym, ◌∙◌, subst, get_or, take, length, below_more, get_or-set_other, get_or-set_same}
+use Rattle.std.specs.Prelude.{FitsSigned}
+use Rattle.std.specs.Int.{w32}
+use Rattle.std.proofs.lemmas.Int.{ints, to_z-of_z}
+use Rattle.std.proofs.lemmas.List.{length-set, take_at}
+use Rattle.std.proofs.lemmas.List.FromFn.{length-map-range_with_len}
+use Rattle.segment_sums.specs.Division.{cut_place, segment_length}
+use Rattle.segment_sums.specs.Sum.{segment_sum, segment_sums}
+use Rattle.segment_sums.proofs.Sums.{segment_sums_at}
+use Rattle.lower_bound.specs.Gap.{HoldsCosts}
+use Rattle.lower_bound.specs.Bound.{IsView, HoldsView, view_of}
+use Rattle.lower_bound.proofs.Views.{IsView-view_of, HoldsView-view_of}
+use Rattle.lower_bound.proofs.view.QueryView.new.Goals as goal
+
+pub costs_of_symbols-requires-clause-not_low : goal.costs_of_symbols-requires-clause-not_low
+costs_of_symbols-requires-clause-not_low c =
+    let cuts = c.args.layout.now.cuts in
+    let j = c.loop-j.j in
+    let used : j < cuts.segments = omega (arith, c.segments-j-end.ensures.value) in
+    let fits : FitsSigned w32 (get_or c.sums.new.into j (pos 0)) = search rules in
+    let sum =
+    segment_sums_at cuts c.args.query.now c.sums.new.into
+    (16 - cuts.segments) j c.sums.ensures.sums used in
+    let low = c.sums.ensures.not_low j used in
+    omega (arith, ints, sum, low, c.cut-from.ensures.from, c.cut-from.ensures.to)
+
+pub costs_of_symbols-requires-clause-not_high : goal.costs_of_symbols-requires-clause-not_high
+costs_of_symbols-requires-clause-not_high c =
+    let cuts = c.args.layout.now.cuts in
+    let j = c.loop-j.j in
+    let used : j < cuts.segments = omega (arith, c.segments-j-end.ensures.value) in
+    let fits : FitsSigned w32 (get_or c.sums.new.into j (pos 0)) = search rules in
+    let sum =
+    segment_sums_at cuts c.args.query.now c.sums.new.into
+    (16 - cuts.segments) j c.sums.ensures.sums used in
+    let high = c.sums.ensures.not_high j used in
+    omega (arith, ints, sum, high, c.cut-from.ensures.from, c.cut-from.ensures.to)
+
+pub loop-j-preserved : goal.loop-j-preserved
+loop-j-preserved c =
+    let layout = c.args.layout.now in
+    let cuts = layout.cuts in
+    let query = c.args.query.now in
+    let j = c.loop-j.j in
+    let costs = c.loop-j.costs in
+    let made = c.costs_of_symbols.result in
+    let used : j < cuts.segments = omega (arith, c.segments-j-end.ensures.value) in
+    let inside : j < length costs =
+    omega (
+      arith,
+      c.loop-j.invariant.whole,
+      used,
+      c.segments-j-end.ensures.divides.few_segments,
+    ) in
+    let fits : FitsSigned w32 (get_or c.sums.new.into j (pos 0)) = search rules in
+    let sum = to_z-of_z w32 (get_or c.sums.new.into j (pos 0)) fits
+    ∙ segment_sums_at cuts query c.sums.new.into (16 - cuts.segments) j c.sums.ensures.sums used in
+    let long : c.cut-from.result.1 - c.cut-from.result.0 ≡ segment_length cuts j
+    = ap (λ a. c.cut-from.result.1 - a) c.cut-from.ensures.from
+    ∙ ap (λ b. b - cut_place cuts j) c.cut-from.ensures.to in
+    let here : HoldsCosts layout.table (segment_length cuts j) (segment_sum cuts query j) made
+    = subst (λ n. HoldsCosts layout.table n (segment_sum cuts query j) made) long
+    (subst (λ s. HoldsCosts layout.table (c.cut-from.result.1 - c.cut-from.result.0) s made) sum
+    c.costs_of_symbols.ensures) in
+    record {
+      whole = length-set costs j made ∙ c.loop-j.invariant.whole;
+      each = below_more _ _
+          (λ k before. let other : k ≢ j = omega arith in
+          subst (HoldsCosts layout.table (segment_length cuts k) (segment_sum cuts query k))
+          (sym (get_or-set_other costs j k made [] other)) (c.loop-j.invariant.each k before))
+          (subst (HoldsCosts layout.table (segment_length cuts j) (segment_sum cuts query j))
+          (sym (get_or-set_same costs j made [] inside)) here);
+    }
+
+pub invariant_of-result : goal.invariant_of-result
+invariant_of-result c =
+    let layout = c.args.layout.now in
+    let query = c.args.query.now in
+    let segments = layout.cuts.segments in
+    let costs = c.loop-j.costs in
+    let sums : take segments c.sums.new.into ≡ segment_sums layout.cuts query
+    = ap (λ l. take segments l) c.sums.ensures.sums
+    ∙ take_at (segment_sums layout.cuts query) _ segments
+    (length-map-range_with_len _ 0 segments) in
+    let same : record {
+      layout = layout;
+      sums = take segments c.sums.new.into;
+    } ≡ view_of layout query
+    = ap (λ s. record { layout = layout; sums = s }) sums in
+    let is : IsView (view_of layout query)
+    = IsView-view_of layout query c.segments-j-end.ensures.divides c.sums.ensures.not_low c.sums.ensures.not_high in
+    let holds = HoldsView-view_of layout query costs
+    (λ k used. c.loop-j.invariant.each k
+    (omega (arith, used, c.segments-j-end.ensures.value, c.loop-j-test.false))) in (
+      subst IsView (sym same) is,
+      subst (λ v. HoldsView v c.of-full.result costs) (sym same)
+          (subst (λ f. HoldsView (view_of layout query) f costs) (sym c.of-full.ensures) holds),
+    )

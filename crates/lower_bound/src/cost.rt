@@ -1,0 +1,95 @@
+//! The cost of a symbol for a query's segment: how far the query's sum lies outside the symbol's sums.
+ghost use Rattle.std.specs.Prelude.{◌≡◌, ◌+◌, ◌*◌, ◌<◌, ◌≤◌, pos, neg_ℤ, ◌-ℤ◌, ◌*ℤ◌, ◌≤ℤ◌};
+ghost use Rattle.breakpoints.specs.Breakpoint.{breakpoint};
+ghost use Rattle.lower_bound.specs.Gap.{excess, gap, gap_below, gap_above, symbol_cost, HoldsCosts};
+
+use breakpoints::Table;
+
+/// A breakpoint times the length of a segment.
+fn scaled(table: Table, length: u32, place: u32) -> i32
+    requires few_values { length ≤ 65536 }
+    requires first { 1 ≤ place }
+    requires last { place ≤ 255 }
+    ensures { result ≡ pos length *ℤ breakpoint table place }
+{
+    length as i32 * table.at(place)
+}
+
+/// How far one sum lies above another, and 0 where it does not.
+fn excess_over(high: i32, low: i32) -> u64
+    ensures { result ≡ excess (high -ℤ low) }
+{
+    if low < high {
+        (i64::from(high) - i64::from(low)) as u64
+    } else {
+        0
+    }
+}
+
+/// How far a sum lies below the least sum of the symbols from `first` on.
+fn below(table: Table, length: u32, sum: i32, first: u32) -> u64
+    requires few_values { length ≤ 65536 }
+    requires last { first ≤ 255 }
+    ensures { result ≡ gap_below table length sum first }
+{
+    if first == 0 {
+        0
+    } else {
+        excess_over(scaled(table, length, first), sum)
+    }
+}
+
+/// How far a sum lies above the greatest sum of the symbols before `end`.
+fn above(table: Table, length: u32, sum: i32, end: u32) -> u64
+    requires few_values { length ≤ 65536 }
+    requires some { 1 ≤ end }
+    requires last { end ≤ 256 }
+    ensures { result ≡ gap_above table length sum end }
+{
+    if end == 256 {
+        0
+    } else {
+        excess_over(sum, scaled(table, length, end) - 1)
+    }
+}
+
+/// How far a sum lies outside the sums of one symbol.
+fn gap_of_symbol(table: Table, length: u32, sum: i32, symbol: u32) -> u64
+    requires some_values { 1 ≤ length }
+    requires few_values { length ≤ 65536 }
+    requires not_low { neg_ℤ (pos (32768 * length)) ≤ℤ sum }
+    requires not_high { sum ≤ℤ pos (32767 * length) }
+    requires eight_bits { symbol < 256 }
+    ensures value { result ≡ gap table length sum symbol (symbol + 1) }
+    ensures bound { result ≤ 4278190080 }
+{
+    below(table, length, sum, symbol) + above(table, length, sum, symbol + 1)
+}
+
+/// The cost of one symbol for a segment of this length and sum: the square of the gap by the length, rounded up.
+fn cost_of_symbol(table: Table, length: u32, sum: i32, symbol: u32) -> u64
+    requires some_values { 1 ≤ length }
+    requires few_values { length ≤ 65536 }
+    requires not_low { neg_ℤ (pos (32768 * length)) ≤ℤ sum }
+    requires not_high { sum ≤ℤ pos (32767 * length) }
+    requires eight_bits { symbol < 256 }
+    ensures { result ≡ symbol_cost table length sum symbol }
+{
+    let gap = gap_of_symbol(table, length, sum, symbol);
+    (gap * gap + u64::from(length - 1)) / u64::from(length)
+}
+
+/// The costs of all 256 symbols for a segment of this length and sum.
+pub(crate) fn costs_of_symbols(table: Table, length: u32, sum: i32) -> [u64; 256]
+    requires some_values { 1 ≤ length }
+    requires few_values { length ≤ 65536 }
+    requires not_low { neg_ℤ (pos (32768 * length)) ≤ℤ sum }
+    requires not_high { sum ≤ℤ pos (32767 * length) }
+    ensures { HoldsCosts table length sum result }
+{
+    let mut costs = [0; 256];
+    for symbol in 0..256u32 {
+        costs[symbol as usize] = cost_of_symbol(table, length, sum, symbol);
+    }
+    costs
+}

@@ -1,0 +1,104 @@
+//! A query as bounds see it: for each segment the cost of each symbol, so that the bound of a word is one
+//! look-up and one addition a segment. The cost of a prefix is that of its symbol nearest to the query's.
+ghost use Rattle.std.specs.Prelude.{◌≡◌, ◌+◌, ◌*◌, ◌<◌, ◌≤◌, ◌^◌, length};
+ghost use Rattle.isax_word.specs.declared.word.Part.{Part};
+ghost use Rattle.isax_word.specs.Word.{IsPart};
+ghost use Rattle.lower_bound.specs.Gap.{nearest_symbol};
+ghost use Rattle.lower_bound.specs.Bound.{IsView, view_of, word_bound, eight_bit_word};
+
+use crate::cost::costs_of_symbols;
+use isax_word::{Full, Layout, Word};
+use std::marker::Model;
+
+/// A query under a layout, seen as the layout and the sums of the query's segments. It takes 32 KiB in
+/// place: pass it by reference.
+#[derive(Drop)]
+pub struct QueryView {
+    layout: Layout,
+    sums: [i32; 16],
+    full: Full,
+    costs: [[u64; 256]; 16],
+}
+
+impl Model for QueryView {
+    ghost use Rattle.std.specs.Prelude.{take, ◌≡◌};
+    ghost use Rattle.lower_bound.specs.Bound.{View, IsView, HoldsView};
+
+    ghost Value = { View };
+
+    ghost view = { λ v. record { layout = v.layout; sums = take v.layout.cuts.segments v.sums } };
+
+    ghost invariant = { λ v. IsView (record { layout = v.layout; sums = take v.layout.cuts.segments v.sums })
+        × HoldsView (record { layout = v.layout; sums = take v.layout.cuts.segments v.sums }) v.full v.costs };
+}
+
+impl QueryView {
+    /// The view of a query, whose length is that of the layout.
+    pub fn new(layout: &Layout, query: &[i16]) -> QueryView
+        requires { length query.now ≡ layout.now.cuts.row_length }
+        ensures { result ≡ view_of layout.now query.now }
+    {
+        let mut sums = [0; 16];
+        layout.cuts.sums(query, &mut sums);
+        let none = [0; 256];
+        let mut costs = [none; 16];
+        for j in 0..layout.cuts.segments() {
+            let (from, to) = layout.cuts.cut(j);
+            costs[j as usize] = costs_of_symbols(layout.table, to - from, sums[j as usize]);
+        }
+        let full = Full::of(layout, query);
+        QueryView {
+            layout: *layout,
+            sums,
+            full,
+            costs,
+        }
+    }
+
+    /// The lower bound of a word: the sum over its segments of the square of the gap by the length, rounded up.
+    pub fn bound_word(&self, word: &Word) -> u64
+        requires { length word.now ≡ self.now.layout.cuts.segments }
+        ensures value { result ≡ word_bound self.now word.now }
+        ensures small { result < 2 ^ 49 }
+    {
+        let mut bound = 0;
+        for j in 0..word.segments() {
+            let symbol = nearest_to(self.full.symbol(j), word.prefix(j), word.bits(j));
+            bound += self.costs[j as usize][symbol as usize];
+        }
+        bound
+    }
+
+    /// The lower bound of a full word: that of the word that has all eight bits of each symbol.
+    pub fn bound_full(&self, full: &Full) -> u64
+        requires { length full.now ≡ self.now.layout.cuts.segments }
+        ensures value { result ≡ word_bound self.now (eight_bit_word full.now) }
+        ensures small { result < 2 ^ 49 }
+    {
+        let mut bound = 0;
+        for j in 0..full.segments() {
+            bound += self.costs[j as usize][full.symbol(j) as usize];
+        }
+        bound
+    }
+
+    /// The number of segments, from 1 to 16.
+    pub fn segments(&self) -> u32
+        ensures value { result ≡ self.now.layout.cuts.segments }
+        ensures is_view { IsView self.now }
+    {
+        self.layout.cuts.segments()
+    }
+}
+
+/// The symbol nearest to another among those whose first `bits` bits are `prefix`.
+fn nearest_to(symbol: u8, prefix: u8, bits: u8) -> u32
+    requires { IsPart (record { prefix = prefix; bits = bits }) }
+    ensures value { result ≡ nearest_symbol (record { prefix = prefix; bits = bits }) symbol }
+    ensures eight_bits { result < 256 }
+{
+    let room = 8 - bits;
+    let first = u32::from(prefix) << room;
+    let last = first + (1 << room) - 1;
+    u32::from(symbol).min(last).max(first)
+}

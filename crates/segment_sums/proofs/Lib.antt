@@ -1,0 +1,4 @@
+-- The lemmas of this crate.
+pub mod Filled
+pub mod Places
+pub mod Sums

@@ -1,0 +1,60 @@
+-- Sums of the values of a segment: one of l values of 16 bits lies from -32768 * l to 32767 * l
+-- (`segment_sum_within`).
+use Rattle.std.proofs.Common.{◌≡◌, ℕ, ◌+◌, ◌*◌, ◌<◌, ◌≤◌, ℤ, pos, neg_ℤ, ◌≤ℤ◌, arith, List, [], ◌∷◌, ◌++◌, length, drop, get_or, replicate, ap, ◌∙◌, subst}
+use Rattle.std.specs.Prelude.{FitsSigned}
+use Rattle.std.specs.Int.{w16}
+use Rattle.std.specs.List.{All}
+use Rattle.std.proofs.lemmas.Int.{ints}
+use Rattle.std.proofs.lemmas.List.{length-take-le, length-drop, get_or_append_left}
+use Rattle.std.proofs.lemmas.List.FromFn.{length-map-range_with_len, get_or-map-range_with_len}
+use Rattle.std.proofs.lemmas.List.Elements.{All-take, All-drop, All-head, All-tail}
+use Rattle.segment_sums.specs.Division.{Division, IsDivision, cut_place, segment_length}
+use Rattle.segment_sums.specs.Sum.{signed_sum, segment_values, segment_sum, segment_sums}
+use Rattle.segment_sums.proofs.Places.{cut_place_inside}
+
+-- a sum of values of 16 bits lies within the number of values times the least and the greatest
+-- value
+pub signed_sum_within : (xs : List ℤ) → All (FitsSigned w16) xs
+    → (neg_ℤ (pos (32768 * length xs)) ≤ℤ signed_sum xs)
+    × (signed_sum xs ≤ℤ pos (32767 * length xs))
+signed_sum_within [] fit = (omega (arith, ints), omega (arith, ints))
+signed_sum_within (x ∷ xs) fit =
+    let here : FitsSigned w16 x = All-head (FitsSigned w16) x xs fit in
+    let rest = signed_sum_within xs (All-tail (FitsSigned w16) x xs fit) in
+    (omega (arith, ints, here, rest.0), omega (arith, ints, here, rest.1))
+
+-- a segment holds as many values as it is long
+pub length-segment_values : (d : Division) (row : List ℤ) (j : ℕ) → IsDivision d
+    → length row ≡ d.row_length → j < d.segments
+    → length (segment_values d row j) ≡ segment_length d j
+length-segment_values d row j is whole used =
+    let inside : cut_place d (j + 1) ≤ d.row_length = cut_place_inside d (j + 1) is (omega arith) in
+    length-take-le (segment_length d j) (drop (cut_place d j) row)
+    (omega (arith, length-drop (cut_place d j) row, inside))
+
+-- the sum of a segment of length l lies from -32768 * l to 32767 * l
+pub segment_sum_within : (d : Division) (row : List ℤ) (j : ℕ) → IsDivision d
+    → length row ≡ d.row_length → All (FitsSigned w16) row → j < d.segments
+    → (neg_ℤ (pos (32768 * segment_length d j)) ≤ℤ segment_sum d row j)
+    × (segment_sum d row j ≤ℤ pos (32767 * segment_length d j))
+segment_sum_within d row j is whole fit used =
+    let values = segment_values d row j in
+    let fits : All (FitsSigned w16) values =
+    All-take (FitsSigned w16) (segment_length d j) _
+    (All-drop (FitsSigned w16) (cut_place d j) row fit) in
+    let long : length values ≡ segment_length d j = length-segment_values d row j is whole used in
+    subst
+    (λ n. (neg_ℤ (pos (32768 * n)) ≤ℤ segment_sum d row j)
+    × (segment_sum d row j ≤ℤ pos (32767 * n)))
+    long (signed_sum_within values fits)
+
+-- the sums of all segments with a padding behind them hold at each segment its sum
+pub segment_sums_at : (d : Division) (row sums : List ℤ) (n j : ℕ)
+    → sums ≡ segment_sums d row ++ replicate n (pos 0)
+    → j < d.segments → get_or sums j (pos 0) ≡ segment_sum d row j
+segment_sums_at d row sums n j are used =
+    let long : length (segment_sums d row) ≡ d.segments
+    = length-map-range_with_len (segment_sum d row) 0 d.segments in
+    ap (λ l. get_or l j (pos 0)) are
+    ∙ get_or_append_left (segment_sums d row) (replicate n (pos 0)) (pos 0) j (omega (arith, long))
+    ∙ get_or-map-range_with_len (segment_sum d row) 0 d.segments j j (pos 0) used (omega arith)

@@ -1,0 +1,3 @@
+-- The definitions of this crate that public clauses cite.
+pub mod Division
+pub mod Sum

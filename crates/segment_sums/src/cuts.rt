@@ -1,0 +1,177 @@
+//! The cut points of a series. Segment `j` of `w` over a series of length `n` holds the places from
+//! `j * n / w` up to, and not including, `(j + 1) * n / w`, both rounded down.
+ghost use Rattle.std.specs.Prelude.{◌≡◌, ◌+◌, ◌-◌, ◌*◌, ◌<◌, ◌≤◌, ◌++◌, length, pos, neg_ℤ, ◌≤ℤ◌, replicate};
+ghost use Rattle.segment_sums.specs.Division.{IsDivision, division_of, cut_place};
+ghost use Rattle.segment_sums.specs.Sum.{signed_sum, segment_sums, NoSumBelow, NoSumAbove};
+
+use std::marker::Model;
+
+/// A series' length and its cut points, seen as the length and the number of segments.
+#[derive(Clone, Copy)]
+pub struct Cuts {
+    row_length: u32,
+    count: u32,
+    starts: [u32; 17],
+}
+
+impl Model for Cuts {
+    ghost use Rattle.segment_sums.specs.Division.{Division, IsDivision, division_of, cut_places};
+    ghost use Rattle.std.specs.Prelude.{◌≡◌};
+    ghost use Rattle.std.proofs.Common.{sym};
+
+    ghost Value = { Division };
+
+    ghost view = { λ cuts. division_of cuts.row_length cuts.count };
+
+    ghost invariant = { λ cuts. IsDivision (division_of cuts.row_length cuts.count)
+        × (cuts.starts ≡ cut_places (division_of cuts.row_length cuts.count)) };
+
+    ghost inverse = { λ division. record {
+      row_length = division.row_length;
+      count = division.segments;
+      starts = cut_places division;
+    } };
+
+    ghost inverse_ok = { λ cuts kept i. record {
+      row_length = cuts.row_length;
+      count = cuts.count;
+      starts = sym kept.1 i;
+    } };
+}
+
+impl Cuts {
+    /// The cut points of a series of length `n` with `w` segments.
+    pub fn new(n: u32, w: u32) -> Self
+        requires some_segments { 1 ≤ w }
+        requires few_segments { w ≤ 16 }
+        requires no_empty_segment { w ≤ n }
+        requires short_row { n ≤ 65536 }
+        ensures { result ≡ division_of n w }
+    {
+        let mut starts = [0; 17];
+        for j in 0..17 {
+            starts[j] = j as u32 * n / w;
+        }
+        Cuts {
+            row_length: n,
+            count: w,
+            starts,
+        }
+    }
+
+    /// The number of segments, from 1 to 16.
+    pub fn segments(&self) -> u32
+        ensures value { result ≡ self.now.segments }
+        ensures divides { IsDivision self.now }
+    {
+        self.count
+    }
+
+    /// The length of the series, from the number of segments to 65536.
+    pub fn length(&self) -> u32
+        ensures value { result ≡ self.now.row_length }
+        ensures divides { IsDivision self.now }
+    {
+        self.row_length
+    }
+
+    /// The places from which and up to which, the latter left out, segment `j` reaches.
+    pub fn cut(&self, j: u32) -> (u32, u32)
+        requires { j < self.now.segments }
+        ensures from { result.0 ≡ cut_place self.now j }
+        ensures to { result.1 ≡ cut_place self.now (j + 1) }
+        ensures not_empty { result.0 < result.1 }
+        ensures inside { result.1 ≤ self.now.row_length }
+    {
+        (self.starts[j as usize], self.starts[j as usize + 1])
+    }
+
+    /// The sum of a row's values over each segment; the entries from the number of segments on become 0.
+    /// The sum over a segment of length `l` lies from `-32768 * l` to `32767 * l`.
+    pub fn sums(&self, row: &[i16], into: &mut [i32; 16])
+        requires { length row.now ≡ self.now.row_length }
+        ensures sums { into.new ≡ segment_sums self.now row.now ++ replicate (16 - self.now.segments) (pos 0) }
+        ensures not_low { NoSumBelow self.now row.now self.now.segments }
+        ensures not_high { NoSumAbove self.now row.now self.now.segments }
+    {
+        *into = [0; 16];
+        for j in 0..self.segments() {
+            let (from, to) = self.cut(j);
+            into[j as usize] = sum_of(&row[from as usize..to as usize]);
+        }
+    }
+}
+
+/// The sum of at most 65536 values.
+fn sum_of(values: &[i16]) -> i32
+    requires { length values.now ≤ 65536 }
+    ensures value { result ≡ signed_sum values.now }
+    ensures not_low { neg_ℤ (pos (32768 * length values.now)) ≤ℤ result }
+    ensures not_high { result ≤ℤ pos (32767 * length values.now) }
+{
+    let mut sum = 0;
+    for value in values {
+        sum += i32::from(*value);
+    }
+    sum
+}
+
+/// The law that the segments cover the row: the first begins at its start and the last ends at its end,
+/// and each ends where the next begins, since both are the same cut point.
+pub fn segments_cover(cuts: &Cuts)
+    ensures from_the_start { cut_place cuts.now 0 ≡ 0 }
+    ensures to_the_end { cut_place cuts.now cuts.now.segments ≡ cuts.now.row_length }
+{
+    let _segments = cuts.segments();
+}
+
+#[cfg(test)]
+mod tests {
+    use super::*;
+    use std::test::Fail;
+
+    #[test]
+    fn cut_points(rt: HostRuntime) -> Result<(), Fail> {
+        let rows: [(u32, u32, u32, (u32, u32)); 8] = [
+            (4, 2, 0, (0, 2)),
+            (4, 2, 1, (2, 4)),
+            (5, 2, 0, (0, 2)),
+            (5, 2, 1, (2, 5)),
+            (1, 1, 0, (0, 1)),
+            (16, 16, 15, (15, 16)),
+            (65536, 3, 1, (21845, 43690)),
+            (65536, 16, 15, (61440, 65536)),
+        ];
+        for (n, w, j, places) in rows {
+            assert!(rt;
+                1 <= w && w <= 16 && w <= n && n <= 65536 && j < w,
+                "{n} {w} {j} is no row"
+            );
+            let cuts = Cuts::new(n, w);
+            assert_eq!(rt; cuts.cut(j), places, "segment {j} of {w} over {n}");
+        }
+        Ok(())
+    }
+
+    #[test]
+    fn sums_of_rows(rt: HostRuntime) -> Result<(), Fail> {
+        let rows: [([i16; 5], u32, [i32; 3]); 4] = [
+            ([0, 0, 0, 0, 0], 2, [0, 0, 0]),
+            ([-1, 0, 0, 0, -1], 2, [-1, -1, 0]),
+            ([1, 2, 3, 4, 5], 3, [1, 5, 9]),
+            (
+                [32767, 32767, -32768, -32768, -32768],
+                2,
+                [65534, -98304, 0],
+            ),
+        ];
+        for (row, w, sums) in rows {
+            assert!(rt; 1 <= w && w <= 3, "{w} is no number of segments");
+            let mut into = [7; 16];
+            Cuts::new(5, w).sums(&row, &mut into);
+            assert_eq!(rt; &into[..3], &sums[..], "{w} segments of {row:?}");
+            assert_eq!(rt; into[15], 0, "what lies past {w} segments");
+        }
+        Ok(())
+    }
+}

@@ -1,0 +1,9 @@
+pub mod ItemLemmas
+pub mod Pieces
+pub mod Arriving
+pub mod Numbers
+pub mod Values
+pub mod Tests
+pub mod Outcomes
+pub mod Spelled
+pub mod RawValues
