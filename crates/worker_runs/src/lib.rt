@@ -9,4 +9,6 @@ pub use drawing::draw_all;
 pub use popping::{Sizes, pop_all};
 
 #[cfg(test)]
+mod shuffled;
+#[cfg(test)]
 mod tests;

@@ -37,7 +37,7 @@ fn two_and_four_workers_find_each_number_once(rt: HostRuntime) -> Result<(), Fai
 }
 
 /// Entries of the leaves below `count`, with bounds that jump about below 1009.
-fn scattered(alloc: Global, count: u32) -> Result<Vec<Entry>, NoMemory>
+pub(crate) fn scattered(alloc: Global, count: u32) -> Result<Vec<Entry>, NoMemory>
     ensures { IfOk result (λ entries. LeavesDiffer entries.items) }
 {
     let mut entries = Vec::with_capacity(alloc, count as usize)?;
@@ -68,7 +68,7 @@ fn within(
     Ok(found)
 }
 
-fn pairs(alloc: Global, entries: &[Entry]) -> Result<Vec<(u64, u32)>, NoMemory> {
+pub(crate) fn pairs(alloc: Global, entries: &[Entry]) -> Result<Vec<(u64, u32)>, NoMemory> {
     let mut found = Vec::with_capacity(alloc, entries.len())?;
     for entry in entries {
         found.push((entry.bound, entry.leaf))?;
