@@ -2,6 +2,7 @@
 //! and ends with the number of the status.
 #![tactic(auto)]
 
+mod counter;
 mod real_files;
 mod real_sink;
 mod words;
@@ -9,7 +10,7 @@ mod words;
 use outside::NoGate;
 use real_files::RealFiles;
 use real_sink::RealSink;
-use search_run::{Status, run};
+use search_run::run;
 use std::process::ExitCode;
 
 /// Runs the search on the words that follow the program's name.

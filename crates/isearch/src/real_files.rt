@@ -5,6 +5,7 @@ ghost use Rattle.outside.specs.declared.faults.OpenFault.TheVariants.{Absent, Fa
 ghost use Rattle.outside.specs.Count.{Rose};
 ghost use Rattle.isearch.specs.Refusals.{open_fault_of, faults_after, misses_after};
 
+use crate::counter::count;
 use outside::{Failed, Files, OpenFault};
 use std::fs::File;
 use std::io::{ErrorKind, Read};
@@ -44,12 +45,12 @@ impl<R: System + Drop> RealFiles<R> {
     {
         match kind {
             ErrorKind::NotFound => {
-                self.misses = self.misses.saturating_add(1);
+                count(&mut self.misses);
                 OpenFault::Absent
             }
             ErrorKind::OutOfMemory => OpenFault::NoMemory,
             _ => {
-                self.faults = self.faults.saturating_add(1);
+                count(&mut self.faults);
                 OpenFault::Failed
             }
         }
@@ -117,13 +118,11 @@ fn read_on<F: Read>(file: &mut F, buf: &mut [u8], faults: &mut u64) -> Result<us
     for _ in 0..u64::MAX {
         match file.read(buf) {
             Ok(count) => return Ok(count),
-            Err(error) if error.kind() == ErrorKind::Interrupted => {
-                *faults = faults.saturating_add(1);
-            }
+            Err(error) if error.kind() == ErrorKind::Interrupted => count(faults),
             Err(_) => break,
         }
     }
-    *faults = faults.saturating_add(1);
+    count(faults);
     Err(Failed)
 }
 

@@ -3,6 +3,7 @@ ghost use Rattle.std.specs.Prelude.{◌≡◌, ◌<◌, ◌≤◌, length, take,
 ghost use Rattle.std.specs.Io.KnownBytes.{Appends, Keeps};
 ghost use Rattle.outside.specs.Count.{Rose};
 
+use crate::counter::count;
 use outside::{Failed, Sink};
 use std::io::{ErrorKind, Write};
 
@@ -40,20 +41,19 @@ impl<W: Write + Drop> Sink for RealSink<W> {
 fn write_on<W: Write>(writer: &mut W, bytes: &[u8], faults: &mut u64) -> Result<usize, Failed>
     ensures amount { IfOk result (λ m. (m ≤ length bytes.now) × (0 < length bytes.now → 0 < m)) }
     ensures appended { IfOk result (λ m. Appends (W.contents writer.old) (W.contents writer.new) (take m bytes.now)) }
-    ensures failed { OnErr result (Rose faults.old faults.new × Keeps (W.contents writer.old) (W.contents writer.new)) }
+    ensures failed { OnErr result (Rose faults.old faults.new) }
+    ensures kept { OnErr result (Keeps (W.contents writer.old) (W.contents writer.new)) }
     ensures counts { faults.old ≤ faults.new }
 {
     for _ in 0..u64::MAX {
         match writer.write(bytes) {
             Ok(0) if !bytes.is_empty() => break,
             Ok(count) => return Ok(count),
-            Err(error) if error.kind() == ErrorKind::Interrupted => {
-                *faults = faults.saturating_add(1);
-            }
+            Err(error) if error.kind() == ErrorKind::Interrupted => count(faults),
             Err(_) => break,
         }
     }
-    *faults = faults.saturating_add(1);
+    count(faults);
     Err(Failed)
 }
 

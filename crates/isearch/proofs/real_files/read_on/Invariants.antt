@@ -4,4 +4,5 @@ use Rattle.isearch.proofs.real_files.read_on.Given as goal
 
 abbrev pub invariant-loop : goal.invariant-loop
 invariant-loop g l =
-    (l.fn.faults ≤ l.faults) × Keeps (g.F.Read.remaining l.fn.file) (g.F.Read.remaining l.file)
+    (l.fn.faults ≤ l.faults)
+    × Keeps (g.F.Read.remaining l.fn.file) (g.F.Read.remaining l.file)

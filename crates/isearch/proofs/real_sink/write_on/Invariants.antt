@@ -4,4 +4,5 @@ use Rattle.isearch.proofs.real_sink.write_on.Given as goal
 
 abbrev pub invariant-loop : goal.invariant-loop
 invariant-loop g l =
-    (l.fn.faults ≤ l.faults) × Keeps (g.W.Write.contents l.fn.writer) (g.W.Write.contents l.writer)
+    (l.fn.faults ≤ l.faults)
+    × Keeps (g.W.Write.contents l.fn.writer) (g.W.Write.contents l.writer)
