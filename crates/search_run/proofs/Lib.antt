@@ -3,3 +3,4 @@ pub mod Lines
 pub mod Loading
 pub mod Walking
 pub mod Writing
+pub mod Completing

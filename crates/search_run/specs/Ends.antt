@@ -1,5 +1,5 @@
 -- How a run ends: for each status what shows it, and what was written.
-use Rattle.std.specs.Prelude.{◌≡◌, ◌≢◌, ℕ, ◌<◌, ◌⊎◌, List, length, Option}
+use Rattle.std.specs.Prelude.{◌≡◌, ◌≢◌, ℕ, ◌<◌, ◌⊎◌, List, length, Option, Some}
 use Rattle.std.specs.Io.KnownBytes.{append_known}
 use Rattle.outside.specs.Count.{Rose}
 use Rattle.outside.specs.Files.{Held}
@@ -10,7 +10,7 @@ use Rattle.search_run.specs.Requests.{Serves}
 use Rattle.search_run.specs.Texts.{nearest_text}
 use Rattle.search_run.specs.declared.request.Request.{Request}
 use Rattle.search_run.specs.declared.status.Status.{Status}
-use Rattle.search_run.specs.declared.status.Status.TheVariants.{Done, Usage, Mismatch, WriteFault, Memory}
+use Rattle.search_run.specs.declared.status.Status.TheVariants.{Done, Usage, ReadFault, Mismatch, WriteFault, Memory}
 use Rattle.search_run.specs.declared.status.Which.{Which}
 use Rattle.search_run.specs.declared.status.Which.TheVariants.{Series, Queries}
 
@@ -79,3 +79,20 @@ Ends words reading writing Usage = ((r : Request) → Serves words r → ⊥) ×
 Ends words reading writing Memory = (writing.now ≡ writing.before)
     ⊎ ((r : Request) × Serves words r × Answers reading writing r Memory)
 Ends words reading writing status = (r : Request) × Serves words r × Answers reading writing r status
+
+-- the files are told, and both names are held, with series of one length
+pub record CanAnswer (held : Option Held) (r : Request) : Type 0 where
+  pub told : Held
+  pub is_told : held ≡ Some told
+  pub series : Loaded
+  pub queries : Loaded
+  pub holds : HoldsBoth (Some told) r series queries
+  pub lengths : queries.rows.points ≡ series.rows.points
+
+-- all of the text was written, or memory ran out, or reading or writing failed and was counted
+abbrev pub IsAnswered : Reading → Writing → Status → Type 0
+IsAnswered reading writing Done = Unit {0}
+IsAnswered reading writing Memory = Unit {0}
+IsAnswered reading writing (ReadFault which) = Rose reading.faults reading.later
+IsAnswered reading writing WriteFault = Rose writing.faults writing.later
+IsAnswered reading writing _ = ⊥

@@ -28,6 +28,7 @@ pub struct Request {
 pub fn request_of(alloc: Global, words: &[String]) -> Result<Request, WordsError>
     ensures ok { IfOk result (Serves (map string_bytes words.now)) }
     ensures limits { IfOk result IsRequest }
+    ensures same { (r : Request) → Serves (map string_bytes words.now) r → IfOk result (λ s. s ≡ r) }
     ensures usage { result ≡ Err WordsError.Usage → (r : Request) → Serves (map string_bytes words.now) r → ⊥ }
 {
     match parse_words(alloc, words) {

@@ -2,12 +2,13 @@
 //! Each stage is one function with one contract; the first that fails decides the status.
 
 ghost use Rattle.std.specs.Prelude.{◌≡◌, ◌≢◌, ◌≤◌, IfOk, IfErr, map, string_bytes};
-ghost use Rattle.search_run.specs.Requests.{IsRequest};
-ghost use Rattle.search_run.specs.Ends.{Ends, Answers, Refuses, HoldsBoth};
+ghost use Rattle.search_run.specs.Requests.{IsRequest, Serves};
+ghost use Rattle.search_run.specs.Ends.{Ends, Answers, Refuses, HoldsBoth, CanAnswer, IsAnswered};
 ghost use Rattle.search_run.specs.Status.{fault_line};
 ghost use Rattle.search_run.specs.Told.{Tells};
 ghost use Rattle.search_run.specs.declared.status.Status.{Status};
 ghost use Rattle.search_run.specs.declared.status.Which.{Which};
+ghost use Rattle.search_run.specs.declared.request.Request.{Request};
 
 use crate::load::load;
 use crate::nearest::write_nearest;
@@ -47,6 +48,22 @@ pub fn run<F: Files, S: Sink, E: Sink, G: Gate + Sync>(
           later = S.faults out.new;
           sure = S.sure out.old;
         }) result }
+    ensures complete { (r : Request) → Serves (map string_bytes words.now) r → CanAnswer (F.held files.old) r → IsAnswered
+        (record {
+          held = F.held files.old;
+          faults = F.faults files.old;
+          later = F.faults files.new;
+          misses = F.misses files.old;
+          more = F.misses files.new;
+          blamed = F.blamed files.new;
+        })
+        (record {
+          before = S.written out.old;
+          now = S.written out.new;
+          faults = S.faults out.old;
+          later = S.faults out.new;
+          sure = S.sure out.old;
+        }) result }
     ensures told { Tells (fault_line result) (E.written err.old) (E.written err.new) (E.faults err.old) (E.faults err.new) }
     ensures kept { F.held files.new ≡ F.held files.old }
     ensures reliable { F.reliable files.old → (w : Which) → result ≢ Status.ReadFault w }
@@ -59,6 +76,22 @@ pub fn run<F: Files, S: Sink, E: Sink, G: Gate + Sync>(
 // Runs all but the line that tells how it ended.
 fn search<F: Files, S: Sink>(alloc: Global, words: &[String], files: &mut F, out: &mut S) -> Status
     ensures ends { Ends (map string_bytes words.now)
+        (record {
+          held = F.held files.old;
+          faults = F.faults files.old;
+          later = F.faults files.new;
+          misses = F.misses files.old;
+          more = F.misses files.new;
+          blamed = F.blamed files.new;
+        })
+        (record {
+          before = S.written out.old;
+          now = S.written out.new;
+          faults = S.faults out.old;
+          later = S.faults out.new;
+          sure = S.sure out.old;
+        }) result }
+    ensures complete { (r : Request) → Serves (map string_bytes words.now) r → CanAnswer (F.held files.old) r → IsAnswered
         (record {
           held = F.held files.old;
           faults = F.faults files.old;
@@ -108,6 +141,22 @@ fn answer_request<F: Files, S: Sink>(
           later = S.faults out.new;
           sure = S.sure out.old;
         }) request.now result }
+    ensures complete { CanAnswer (F.held files.old) request.now → IsAnswered
+        (record {
+          held = F.held files.old;
+          faults = F.faults files.old;
+          later = F.faults files.new;
+          misses = F.misses files.old;
+          more = F.misses files.new;
+          blamed = F.blamed files.new;
+        })
+        (record {
+          before = S.written out.old;
+          now = S.written out.new;
+          faults = S.faults out.old;
+          later = S.faults out.new;
+          sure = S.sure out.old;
+        }) result }
     ensures kept { F.held files.new ≡ F.held files.old }
     ensures reliable { F.reliable files.old → (w : Which) → result ≢ Status.ReadFault w }
 {

@@ -181,7 +181,9 @@ fn runs_whose_outside_fails(rt: HostRuntime) -> Result<(), Fail> {
             &b"query 0\n1 0 4\n"[..count],
             "open {open}, read {read}, write {write}"
         );
-        assert_eq!(rt; err.written(), b"".as_slice(),
+        assert_eq!(rt;
+            err.written(),
+            b"".as_slice(),
             "open {open}, read {read}, write {write}"
         );
     }
