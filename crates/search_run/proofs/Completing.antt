@@ -11,7 +11,7 @@ use Rattle.series_file.specs.declared.error.Loaded.{Loaded}
 use Rattle.series_file.proofs.Passing.{no_fault}
 use Rattle.series_file.proofs.Unique.{one_collection}
 use Rattle.search_run.specs.Loads.{HoldsFile, HoldsFault}
-use Rattle.search_run.specs.Ends.{Reading, Writing, Refuses, CanAnswer, IsAnswered}
+use Rattle.search_run.specs.Ends.{Reading, Refuses, CanAnswer, IsAnswered}
 use Rattle.search_run.specs.declared.request.Request.{Request}
 use Rattle.search_run.specs.declared.status.Status.{Status}
 use Rattle.search_run.specs.declared.status.Status.TheVariants.{Done, Usage, Missing, ReadFault, Format, Mismatch, Settings, WriteFault, Memory}
@@ -42,33 +42,33 @@ held_has_one_length held h name form file other told holds also =
     ap (λ (c : Collection). c.points) (one_collection form holds.0 file.rows other.rows file.labels other.labels holds.2 here).0
 
 -- where both files fit, only a failed read refuses the request
-pub refused_by_reading : (reading : Reading) (writing : Writing) (r : Request) (status : Status) → CanAnswer reading.held r
-    → Refuses reading r status → IsAnswered reading writing status
-refused_by_reading reading writing r Done can refused = tt
-refused_by_reading reading writing r Memory can refused = tt
-refused_by_reading reading writing r Usage can refused =
+pub refused_by_reading : (reading : Reading) (lost more : ℕ) (r : Request) (status : Status) → CanAnswer reading.held r
+    → Refuses reading r status → IsAnswered reading.faults reading.later lost more status
+refused_by_reading reading lost more r Done can refused = tt
+refused_by_reading reading lost more r Memory can refused = tt
+refused_by_reading reading lost more r Usage can refused =
     ⊎_elim (λ first. absurd first) (λ rest. ⊎_elim (λ second. absurd second.2) (λ third. absurd third.3) rest) refused
-refused_by_reading reading writing r (Settings w n) can refused =
+refused_by_reading reading lost more r (Settings w n) can refused =
     ⊎_elim (λ first. absurd first) (λ rest. ⊎_elim (λ second. absurd second.2) (λ third. absurd third.3) rest) refused
-refused_by_reading reading writing r WriteFault can refused =
+refused_by_reading reading lost more r WriteFault can refused =
     ⊎_elim (λ first. absurd first) (λ rest. ⊎_elim (λ second. absurd second.2) (λ third. absurd third.3) rest) refused
-refused_by_reading reading writing r (ReadFault which) can refused =
+refused_by_reading reading lost more r (ReadFault which) can refused =
     ⊎_elim (λ first. first.1) (λ rest. ⊎_elim (λ second. second.2.1) (λ third. absurd third.3) rest) refused
-refused_by_reading reading writing r (Missing which) can refused =
+refused_by_reading reading lost more r (Missing which) can refused =
     ⊎_elim
     (λ first. held_is_not_absent reading.held can.told r.series r.form can.series can.is_told can.holds.0 first.2)
     (λ rest. ⊎_elim
     (λ second. held_is_not_absent reading.held can.told r.queries r.form can.queries can.is_told can.holds.1 second.2.2)
     (λ third. absurd third.3) rest)
     refused
-refused_by_reading reading writing r (Format which e) can refused =
+refused_by_reading reading lost more r (Format which e) can refused =
     ⊎_elim
     (λ first. held_has_no_fault reading.held can.told r.series r.form can.series e can.is_told can.holds.0 first.1)
     (λ rest. ⊎_elim
     (λ second. held_has_no_fault reading.held can.told r.queries r.form can.queries e can.is_told can.holds.1 second.2.1)
     (λ third. absurd third.3) rest)
     refused
-refused_by_reading reading writing r (Mismatch a b) can refused =
+refused_by_reading reading lost more r (Mismatch a b) can refused =
     ⊎_elim (λ first. absurd first)
     (λ rest. ⊎_elim (λ second. absurd second.2)
     (λ third. third.3.2

@@ -33,6 +33,27 @@ pub record Writing : Type 0 where
   pub later : ℕ
   pub sure : ℕ
 
+-- what reading did between two states of the files
+abbrev pub read_from : {F : Type 0} → (F → Option Held) → (F → ℕ) → (F → ℕ) → (F → Option (List ℕ)) → F → F → Reading
+read_from held faults misses blamed old new = record {
+  held = held old;
+  faults = faults old;
+  later = faults new;
+  misses = misses old;
+  more = misses new;
+  blamed = blamed new;
+}
+
+-- what writing did between two states of a sink
+abbrev pub wrote_to : {S : Type 0} → (S → Option (List ℕ)) → (S → ℕ) → (S → ℕ) → S → S → Writing
+wrote_to written faults sure old new = record {
+  before = written old;
+  now = written new;
+  faults = faults old;
+  later = faults new;
+  sure = sure old;
+}
+
 -- the file of this role, of this name and of the request's form, was refused with this status
 abbrev pub RefusesNamed : Reading → Request → Which → List ℕ → Status → Type 0
 RefusesNamed reading r which name status =
@@ -89,10 +110,15 @@ pub record CanAnswer (held : Option Held) (r : Request) : Type 0 where
   pub holds : HoldsBoth (Some told) r series queries
   pub lengths : queries.rows.points ≡ series.rows.points
 
--- all of the text was written, or memory ran out, or reading or writing failed and was counted
-abbrev pub IsAnswered : Reading → Writing → Status → Type 0
-IsAnswered reading writing Done = Unit {0}
-IsAnswered reading writing Memory = Unit {0}
-IsAnswered reading writing (ReadFault which) = Rose reading.faults reading.later
-IsAnswered reading writing WriteFault = Rose writing.faults writing.later
-IsAnswered reading writing _ = ⊥
+-- the words have a request, and its files can be answered from
+abbrev pub CanSearch : List (List ℕ) → Option Held → Type 0
+CanSearch words held = (r : Request) × Serves words r × CanAnswer held r
+
+-- All of the text was written, or memory ran out, or reading or writing failed and was counted. The counts of
+-- faults are those of reading before and after, and those of writing before and after.
+abbrev pub IsAnswered : ℕ → ℕ → ℕ → ℕ → Status → Type 0
+IsAnswered faults later lost more Done = Unit {0}
+IsAnswered faults later lost more Memory = Unit {0}
+IsAnswered faults later lost more (ReadFault which) = Rose faults later
+IsAnswered faults later lost more WriteFault = Rose lost more
+IsAnswered faults later lost more _ = ⊥

@@ -2,13 +2,12 @@
 //! Each stage is one function with one contract; the first that fails decides the status.
 
 ghost use Rattle.std.specs.Prelude.{◌≡◌, ◌≢◌, ◌≤◌, IfOk, IfErr, map, string_bytes};
-ghost use Rattle.search_run.specs.Requests.{IsRequest, Serves};
-ghost use Rattle.search_run.specs.Ends.{Ends, Answers, Refuses, HoldsBoth, CanAnswer, IsAnswered};
+ghost use Rattle.search_run.specs.Requests.{IsRequest};
+ghost use Rattle.search_run.specs.Ends.{Ends, Answers, Refuses, HoldsBoth, CanAnswer, CanSearch, IsAnswered, read_from, wrote_to};
 ghost use Rattle.search_run.specs.Status.{fault_line};
 ghost use Rattle.search_run.specs.Told.{Tells};
 ghost use Rattle.search_run.specs.declared.status.Status.{Status};
 ghost use Rattle.search_run.specs.declared.status.Which.{Which};
-ghost use Rattle.search_run.specs.declared.request.Request.{Request};
 
 use crate::load::load;
 use crate::nearest::write_nearest;
@@ -33,37 +32,10 @@ pub fn run<F: Files, S: Sink, E: Sink, G: Gate + Sync>(
     _gate: &G,
 ) -> Status
     ensures ends { Ends (map string_bytes words.now)
-        (record {
-          held = F.held files.old;
-          faults = F.faults files.old;
-          later = F.faults files.new;
-          misses = F.misses files.old;
-          more = F.misses files.new;
-          blamed = F.blamed files.new;
-        })
-        (record {
-          before = S.written out.old;
-          now = S.written out.new;
-          faults = S.faults out.old;
-          later = S.faults out.new;
-          sure = S.sure out.old;
-        }) result }
-    ensures complete { (r : Request) → Serves (map string_bytes words.now) r → CanAnswer (F.held files.old) r → IsAnswered
-        (record {
-          held = F.held files.old;
-          faults = F.faults files.old;
-          later = F.faults files.new;
-          misses = F.misses files.old;
-          more = F.misses files.new;
-          blamed = F.blamed files.new;
-        })
-        (record {
-          before = S.written out.old;
-          now = S.written out.new;
-          faults = S.faults out.old;
-          later = S.faults out.new;
-          sure = S.sure out.old;
-        }) result }
+        (read_from F.held F.faults F.misses F.blamed files.old files.new)
+        (wrote_to S.written S.faults S.sure out.old out.new) result }
+    ensures complete { CanSearch (map string_bytes words.now) (F.held files.old)
+        → IsAnswered (F.faults files.old) (F.faults files.new) (S.faults out.old) (S.faults out.new) result }
     ensures told { Tells (fault_line result) (E.written err.old) (E.written err.new) (E.faults err.old) (E.faults err.new) }
     ensures kept { F.held files.new ≡ F.held files.old }
     ensures reliable { F.reliable files.old → (w : Which) → result ≢ Status.ReadFault w }
@@ -76,37 +48,10 @@ pub fn run<F: Files, S: Sink, E: Sink, G: Gate + Sync>(
 // Runs all but the line that tells how it ended.
 fn search<F: Files, S: Sink>(alloc: Global, words: &[String], files: &mut F, out: &mut S) -> Status
     ensures ends { Ends (map string_bytes words.now)
-        (record {
-          held = F.held files.old;
-          faults = F.faults files.old;
-          later = F.faults files.new;
-          misses = F.misses files.old;
-          more = F.misses files.new;
-          blamed = F.blamed files.new;
-        })
-        (record {
-          before = S.written out.old;
-          now = S.written out.new;
-          faults = S.faults out.old;
-          later = S.faults out.new;
-          sure = S.sure out.old;
-        }) result }
-    ensures complete { (r : Request) → Serves (map string_bytes words.now) r → CanAnswer (F.held files.old) r → IsAnswered
-        (record {
-          held = F.held files.old;
-          faults = F.faults files.old;
-          later = F.faults files.new;
-          misses = F.misses files.old;
-          more = F.misses files.new;
-          blamed = F.blamed files.new;
-        })
-        (record {
-          before = S.written out.old;
-          now = S.written out.new;
-          faults = S.faults out.old;
-          later = S.faults out.new;
-          sure = S.sure out.old;
-        }) result }
+        (read_from F.held F.faults F.misses F.blamed files.old files.new)
+        (wrote_to S.written S.faults S.sure out.old out.new) result }
+    ensures complete { CanSearch (map string_bytes words.now) (F.held files.old)
+        → IsAnswered (F.faults files.old) (F.faults files.new) (S.faults out.old) (S.faults out.new) result }
     ensures kept { F.held files.new ≡ F.held files.old }
     ensures reliable { F.reliable files.old → (w : Which) → result ≢ Status.ReadFault w }
 {
@@ -126,37 +71,10 @@ fn answer_request<F: Files, S: Sink>(
 ) -> Status
     requires { IsRequest request.now }
     ensures answers { Answers
-        (record {
-          held = F.held files.old;
-          faults = F.faults files.old;
-          later = F.faults files.new;
-          misses = F.misses files.old;
-          more = F.misses files.new;
-          blamed = F.blamed files.new;
-        })
-        (record {
-          before = S.written out.old;
-          now = S.written out.new;
-          faults = S.faults out.old;
-          later = S.faults out.new;
-          sure = S.sure out.old;
-        }) request.now result }
-    ensures complete { CanAnswer (F.held files.old) request.now → IsAnswered
-        (record {
-          held = F.held files.old;
-          faults = F.faults files.old;
-          later = F.faults files.new;
-          misses = F.misses files.old;
-          more = F.misses files.new;
-          blamed = F.blamed files.new;
-        })
-        (record {
-          before = S.written out.old;
-          now = S.written out.new;
-          faults = S.faults out.old;
-          later = S.faults out.new;
-          sure = S.sure out.old;
-        }) result }
+        (read_from F.held F.faults F.misses F.blamed files.old files.new)
+        (wrote_to S.written S.faults S.sure out.old out.new) request.now result }
+    ensures complete { CanAnswer (F.held files.old) request.now
+        → IsAnswered (F.faults files.old) (F.faults files.new) (S.faults out.old) (S.faults out.new) result }
     ensures kept { F.held files.new ≡ F.held files.old }
     ensures reliable { F.reliable files.old → (w : Which) → result ≢ Status.ReadFault w }
 {
@@ -184,14 +102,7 @@ fn read_both<F: Files>(alloc: Global, request: &Request, files: &mut F) -> Resul
     ensures found { IfOk result (λ both. HoldsBoth (F.held files.old) request.now both.series both.queries) }
     ensures lengths { IfOk result (λ both. both.queries.rows.points ≡ both.series.rows.points) }
     ensures refused { IfErr result (Refuses
-        (record {
-          held = F.held files.old;
-          faults = F.faults files.old;
-          later = F.faults files.new;
-          misses = F.misses files.old;
-          more = F.misses files.new;
-          blamed = F.blamed files.new;
-        }) request.now) }
+        (read_from F.held F.faults F.misses F.blamed files.old files.new) request.now) }
     ensures kept { F.held files.new ≡ F.held files.old }
     ensures reliable { F.reliable files.old → (w : Which) → result ≢ Err (Status.ReadFault w) }
 {

@@ -14,6 +14,80 @@ const LABELLED: &[u8] = b"ISER\x02\0\0\0\x04\0\0\0\x04\0\0\0\
     \x64\0\0\0\0\0\0\0\x07\0\0\0\0\0\0\0\x07\0\0\0\0\0\0\0\xff\xff\xff\xff\xff\xff\xff\xff\
     \0\0\0\0\0\0\0\0\x0a\0\x0a\0\x0a\0\x0a\0\xf6\xff\xf6\xff\xf6\xff\xf6\xff\0\0\0\0\x0a\0\x0a\0";
 
+// Words, and the status, the text and the line of their run.
+const RUNS: [(&str, Status, &str, &str); 15] = [
+    ("nearest A Q", Status::Done, "query 0\n1 0 4\n", ""),
+    ("nearest points zero", Status::Done, "query 0\n1 0 1\n", ""),
+    ("nearest none Q", Status::Done, "query 0\n", ""),
+    ("nearest A none", Status::Done, "", ""),
+    (
+        "nearest A2 Q --k 2",
+        Status::Done,
+        "query 0\n1 0 4 100\n2 3 164 18446744073709551615\n",
+        "",
+    ),
+    (
+        "nearest raw raw --raw 4",
+        Status::Done,
+        "query 0\n1 0 0\n",
+        "",
+    ),
+    (
+        "nearest A Q --k 9",
+        Status::Done,
+        "query 0\n1 0 4\n2 3 164\n3 1 324\n4 2 484\n",
+        "",
+    ),
+    (
+        "nearest shorter Q",
+        Status::Format(Which::Series, FileError::Truncated { at: 47, want: 48 }),
+        "",
+        "isearch: data: ends at byte 47 of 48\n",
+    ),
+    (
+        "nearest longer Q",
+        Status::Format(Which::Series, FileError::Trailing(48)),
+        "",
+        "isearch: data: bytes after 48\n",
+    ),
+    (
+        "nearest A empty",
+        Status::Format(Which::Queries, FileError::ShortHeader(0)),
+        "",
+        "isearch: queries: header ends at byte 0\n",
+    ),
+    (
+        "nearest huge Q",
+        Status::Format(Which::Series, FileError::TooLarge(4294967296)),
+        "",
+        "isearch: data: too large 4294967296\n",
+    ),
+    (
+        "nearest A three",
+        Status::Mismatch(4, 3),
+        "",
+        "isearch: lengths differ: 4 and 3\n",
+    ),
+    (
+        "nearest A nobody",
+        Status::Missing(Which::Queries),
+        "",
+        "isearch: queries: no such file\n",
+    ),
+    (
+        "nearest A",
+        Status::Usage,
+        "",
+        "isearch: the words are not a command\n",
+    ),
+    (
+        "nearest A Q --k 0",
+        Status::Usage,
+        "",
+        "isearch: the words are not a command\n",
+    ),
+];
+
 /// A file of version 1 with these values.
 fn spelled(alloc: Global, length: u16, count: u32, values: &[i16]) -> Result<Vec<u8>, NoMemory> {
     let mut bytes = b"ISER\x01\0".to_vec(alloc)?;
@@ -62,80 +136,7 @@ fn words_of(alloc: Global, line: &str) -> Result<Vec<String>, NoMemory> {
 #[test]
 fn runs_end_as_they_should(rt: HostRuntime) -> Result<(), Fail> {
     let alloc = rt.alloc();
-    let cut = FileError::Truncated { at: 47, want: 48 };
-    let table = [
-        ("nearest A Q", Status::Done, "query 0\n1 0 4\n", ""),
-        ("nearest points zero", Status::Done, "query 0\n1 0 1\n", ""),
-        ("nearest none Q", Status::Done, "query 0\n", ""),
-        ("nearest A none", Status::Done, "", ""),
-        (
-            "nearest A2 Q --k 2",
-            Status::Done,
-            "query 0\n1 0 4 100\n2 3 164 18446744073709551615\n",
-            "",
-        ),
-        (
-            "nearest raw raw --raw 4",
-            Status::Done,
-            "query 0\n1 0 0\n",
-            "",
-        ),
-        (
-            "nearest A Q --k 9",
-            Status::Done,
-            "query 0\n1 0 4\n2 3 164\n3 1 324\n4 2 484\n",
-            "",
-        ),
-        (
-            "nearest shorter Q",
-            Status::Format(Which::Series, cut),
-            "",
-            "isearch: data: ends at byte 47 of 48\n",
-        ),
-        (
-            "nearest longer Q",
-            Status::Format(Which::Series, FileError::Trailing(48)),
-            "",
-            "isearch: data: bytes after 48\n",
-        ),
-        (
-            "nearest A empty",
-            Status::Format(Which::Queries, FileError::ShortHeader(0)),
-            "",
-            "isearch: queries: header ends at byte 0\n",
-        ),
-        (
-            "nearest huge Q",
-            Status::Format(Which::Series, FileError::TooLarge(4294967296)),
-            "",
-            "isearch: data: too large 4294967296\n",
-        ),
-        (
-            "nearest A three",
-            Status::Mismatch(4, 3),
-            "",
-            "isearch: lengths differ: 4 and 3\n",
-        ),
-        (
-            "nearest A nobody",
-            Status::Missing(Which::Queries),
-            "",
-            "isearch: queries: no such file\n",
-        ),
-        (
-            "nearest A",
-            Status::Usage,
-            "",
-            "isearch: the words are not a command\n",
-        ),
-        (
-            "nearest A Q --k 0",
-            Status::Usage,
-            "",
-            "isearch: the words are not a command\n",
-        ),
-    ];
-    for (line, status, text, told) in table {
+    for (line, status, text, told) in RUNS {
         let mut files = MemFiles::new(alloc, 16, Vec::new(alloc), Vec::new(alloc));
         hold_files(alloc, &mut files)?;
         let words = words_of(alloc, line)?;

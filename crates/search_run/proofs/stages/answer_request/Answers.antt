@@ -1,13 +1,9 @@
+use Rattle.search_run.specs.Ends.{read_from}
 use Rattle.search_run.proofs.Completing.{refused_by_reading}
 use Rattle.search_run.proofs.stages.answer_request.Goals as goal
 
 pub returns-in-Err-clause-complete : goal.returns-in-Err-clause-complete
 returns-in-Err-clause-complete g c can =
-    refused_by_reading _
-    (record {
-      before = g.S.Sink.written c.args.out.now;
-      now = g.S.Sink.written c.args.out.now;
-      faults = g.S.Sink.faults c.args.out.now;
-      later = g.S.Sink.faults c.args.out.now;
-      sure = g.S.Sink.sure c.args.out.now;
-    }) c.args.request.now c.in-Err.status can c.in-Err.ensures.refused
+    refused_by_reading
+    (read_from g.F.Files.held g.F.Files.faults g.F.Files.misses g.F.Files.blamed c.args.files.now c.read_both.new.files)
+    _ _ c.args.request.now c.in-Err.status can c.in-Err.ensures.refused
