@@ -3,7 +3,7 @@ use Rattle.std.proofs.Common.{div-mul-le_self, ◌/◌, take, ◌≡◌, ℕ, ze
 use Rattle.std.specs.Prelude.{slice_index}
 use Rattle.std.proofs.lemmas.List.{drop-drop, nil_from_length, take-append-drop, length-take-le, drop-append-le, take_at}
 use Rattle.std.proofs.Math.Nat.{mul-suc, suc-mul}
-use Rattle.series_file.specs.Items.{items_from, label_at}
+use Rattle.series_file.specs.Items.{items_from}
 
 -- what holds at each place the item that stands there in the bytes is the items of the bytes
 pub items_by_place : {X : Type 0} (at : List ℕ → X) (n : ℕ) (items : List X) (bytes : List ℕ)
@@ -38,7 +38,8 @@ numbers_by_place at n items bytes each =
 pub items_from-append : {X : Type 0} (at : List ℕ → X) (n : ℕ)
     → ((xs ys : List ℕ) → n ≤ length xs → at (xs ++ ys) ≡ at xs)
     → (first more : ℕ) (xs ys : List ℕ) → length xs ≡ first * n
-    → items_from at n (first + more) (xs ++ ys) ≡ items_from at n first xs ++ items_from at n more ys
+    → items_from at n (first + more)
+    (xs ++ ys) ≡ items_from at n first xs ++ items_from at n more ys
 items_from-append at n front zero more xs ys size =
     let none : xs ≡ [] = nil_from_length xs (omega arith) in
     ap (λ m. items_from at n m (xs ++ ys)) (zero-add more)
@@ -60,7 +61,8 @@ pub items_from-front : {X : Type 0} (at : List ℕ → X) (n : ℕ)
 items_from-front at n front count bytes fits =
     sym (ap (items_from at n count) (sym (take-append-drop (count * n) bytes))
     ∙ ap (λ m. items_from at n m (part ++ drop (count * n) bytes)) (sym (add-zero count))
-    ∙ items_from-append at n front count 0 part (drop (count * n) bytes) (length-take-le (count * n) bytes fits)
+    ∙ items_from-append at n front count 0 part (drop (count * n) bytes)
+    (length-take-le (count * n) bytes fits)
     ∙ append-nil (items_from at n count part))
   where
     part : List ℕ
@@ -74,7 +76,8 @@ whole_fits n size some = div-mul-le_self size n
 pub decoded_front : {X : Type 0} (at : List ℕ → X) (n : ℕ)
     → ((xs ys : List ℕ) → n ≤ length xs → at (xs ++ ys) ≡ at xs) → 0 < n
     → (bytes : List ℕ) (cells decoded rest : List X) → length bytes / n ≤ length cells
-    → decoded ≡ items_from at n (length (take (length bytes / n) cells)) (take (length bytes / n * n) bytes)
+    → decoded ≡ items_from at n (length (take (length bytes / n) cells))
+    (take (length bytes / n * n) bytes)
     → length decoded ≡ length (take (length bytes / n) cells)
     → take (length bytes / n) (decoded ++ rest) ≡ items_from at n (length bytes / n) bytes
 decoded_front at n front some bytes cells decoded rest room e size =

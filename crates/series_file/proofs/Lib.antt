@@ -3,7 +3,13 @@ pub mod Pieces
 pub mod Arriving
 pub mod Numbers
 pub mod Values
-pub mod Tests
+pub mod HeaderTests
 pub mod Outcomes
+pub mod HeaderSpelled
 pub mod Spelled
 pub mod RawValues
+pub mod Writing
+pub mod ReadBack
+pub mod Unique
+pub mod Passing
+pub mod Existence

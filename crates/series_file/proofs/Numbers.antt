@@ -1,12 +1,12 @@
 -- Numbers and their bytes, the lowest first: the bytes of the number that some bytes are, are these bytes.
-use Rattle.std.proofs.Common.{◌≡◌, ℕ, zero, suc, ◌+◌, ◌*◌, ◌/◌, ◌%◌, ◌^◌, ◌<◌, ◌≤◌, List, [], ◌∷◌, ◌++◌, length, take, drop, slice_index, refl, sym, ap, ◌∙◌, arith, append-nil, length-drop}
+use Rattle.std.proofs.Common.{◌≡◌, ℕ, zero, suc, ◌+◌, ◌*◌, ◌/◌, ◌^◌, ◌<◌, ◌≤◌, List, [], ◌∷◌, ◌++◌, length, take, drop, slice_index, refl, sym, ap, ◌∙◌, arith, append-nil, length-drop}
 use Rattle.std.specs.List.{All, flat_map}
 use Rattle.std.specs.Int.{byte_at, bytes_low_first}
 use Rattle.std.proofs.Math.Nat.{mod-lt, suc-mul}
 use Rattle.std.proofs.Math.Seq.{take-add}
 use Rattle.std.proofs.lemmas.Int.{of_z-to_z}
 use mir.Syntax.{w16}
-use Rattle.std.proofs.lemmas.List.{take_all, drop-drop, take-append-drop}
+use Rattle.std.proofs.lemmas.List.{take_all}
 use Rattle.byteorder.specs.Endian.{little_from, little_number, little_bytes}
 use Rattle.byteorder.specs.Numbers.{little_from-cons, little_number-reads_back, little_from-lt}
 use Rattle.series_file.specs.Items.{items_from, value_at, label_at}
@@ -41,11 +41,13 @@ same_bytes (suc n) (x ∷ xs) (y ∷ ys) bx by hx hy e =
     let bx0 : x < 256 = bx 0 in
     let by0 : y < 256 = by 0 in
     let number : x + 256 * little_from 0 n xs ≡ y + 256 * little_from 0 n ys =
-    ap (λ m. x + 256 * m) (sym (little_from-cons 0 n x xs)) ∙ e ∙ ap (λ m. y + 256 * m) (little_from-cons 0 n y ys) in
+    ap (λ m. x + 256 * m) (sym (little_from-cons 0 n x xs)) ∙ e
+    ∙ ap (λ m. y + 256 * m) (little_from-cons 0 n y ys) in
     let first : x ≡ y = omega arith in
     let others : little_from 0 n xs ≡ little_from 0 n ys = omega arith in
     ap (λ z. z ∷ take n xs) first
-    ∙ ap (λ zs. y ∷ zs) (same_bytes n xs ys (rest_bytes x xs bx) (rest_bytes y ys by) (omega arith) (omega arith) others)
+    ∙ ap (λ zs. y ∷ zs) (same_bytes n xs ys (rest_bytes x xs bx) (rest_bytes y ys by) (omega arith)
+    (omega arith) others)
 
 -- a number has as many bytes as asked for, and each is a byte
 pub length-little_bytes : (i n x : ℕ) → length (bytes_low_first i n x) ≡ n
@@ -62,7 +64,8 @@ little_are_bytes i (suc n) x zero = byte_below i x
 little_are_bytes i (suc n) x (suc k) = little_are_bytes (suc i) n x k
 
 -- the bytes of the number that the first n bytes are, are the first n bytes
-pub bytes_again : (n : ℕ) (xs : List ℕ) → AreBytes xs → n ≤ length xs → little_bytes n (little_number n xs) ≡ take n xs
+pub bytes_again : (n : ℕ) (xs : List ℕ) → AreBytes xs → n ≤ length xs
+    → little_bytes n (little_number n xs) ≡ take n xs
 bytes_again n xs each fits =
     let x : ℕ = little_number n xs in
     let size = length-little_bytes 0 n x in
@@ -82,15 +85,20 @@ items_again at spelled n again zero xs each fits =
 items_again at spelled n again (suc count) xs each fits =
     let split : n + count * n ≡ suc count * n = omega (arith, suc-mul count n) in
     let rest : count * n ≤ length (drop n xs) = omega (arith, length-drop n xs, suc-mul count n) in
-    ap (λ zs. zs ++ flat_map spelled (items_from at n count (drop n xs))) (again xs each (omega (arith, suc-mul count n)))
-    ∙ ap (λ zs. take n xs ++ zs) (items_again at spelled n again count (drop n xs) (drop_bytes n xs each) rest)
+    ap (λ zs. zs ++ flat_map spelled (items_from at n count (drop n xs)))
+    (again xs each (omega (arith, suc-mul count n)))
+    ∙ ap (λ zs. take n xs ++ zs) (items_again at spelled n again count (drop n xs)
+    (drop_bytes n xs each) rest)
     ∙ sym (take-add n (count * n) xs) ∙ ap (λ m. take m xs) split
 
 -- a value has the bytes that it was read from
-pub value_again : (xs : List ℕ) → AreBytes xs → 2 ≤ length xs → value_bytes (value_at xs) ≡ take 2 xs
+pub value_again : (xs : List ℕ) → AreBytes xs → 2 ≤ length xs
+    → value_bytes (value_at xs) ≡ take 2 xs
 value_again xs each fits =
-    ap (little_bytes 2) (of_z-to_z w16 (little_number 2 xs) (little_from-lt 0 2 xs each)) ∙ bytes_again 2 xs each fits
+    ap (little_bytes 2) (of_z-to_z w16 (little_number 2 xs) (little_from-lt 0 2 xs each))
+    ∙ bytes_again 2 xs each fits
 
 -- a label has the bytes that it was read from
-pub label_again : (xs : List ℕ) → AreBytes xs → 8 ≤ length xs → little_bytes 8 (label_at xs) ≡ take 8 xs
+pub label_again : (xs : List ℕ) → AreBytes xs → 8 ≤ length xs
+    → little_bytes 8 (label_at xs) ≡ take 8 xs
 label_again xs each fits = bytes_again 8 xs each fits

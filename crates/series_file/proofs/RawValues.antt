@@ -1,5 +1,5 @@
 -- The values of a raw file: whole series, and no more of them than allowed.
-use Rattle.std.proofs.Common.{◌≡◌, ℕ, ◌+◌, ◌*◌, ◌/◌, ◌%◌, ◌<◌, ◌≤◌, List, [], ◌++◌, length, Option, None, Some, IfSome, min, ap, sym, ◌∙◌, refl, subst, arith, append-nil}
+use Rattle.std.proofs.Common.{◌≡◌, ℕ, ◌+◌, ◌*◌, ◌/◌, ◌%◌, ◌<◌, ◌≤◌, List, [], length, Option, None, IfSome, ap, sym, ◌∙◌, subst, arith, append-nil}
 use Rattle.std.specs.Prelude.{ℤ, true}
 use Rattle.std.specs.Io.KnownBytes.{prepend_known, IsAtEnd}
 use Rattle.std.proofs.Math.Nat.{le_of_mul-le-mul_right, mul-div_cancel, div-add-mod, mul_comm, mul_assoc}
@@ -21,8 +21,10 @@ use Rattle.series_file.proofs.Values.{length-items_from}
 pub raw_whole : (n bytes : ℕ) → bytes % (2 * n) ≡ 0 → bytes ≡ bytes / (2 * n) * n * 2
 raw_whole n bytes whole =
     let q : ℕ = bytes / (2 * n) in
-    let split : 2 * n * q + 0 ≡ bytes = ap (λ m. 2 * n * q + m) (sym whole) ∙ div-add-mod bytes (2 * n) in
-    let turn : 2 * n * q ≡ q * n * 2 = mul_comm (2 * n) q ∙ ap (λ m. q * m) (mul_comm 2 n) ∙ sym (mul_assoc q n 2) in
+    let split : 2 * n * q + 0 ≡ bytes = ap (λ m. 2 * n * q + m) (sym whole)
+    ∙ div-add-mod bytes (2 * n) in
+    let turn : 2 * n * q ≡ q * n * 2 = mul_comm (2 * n) q ∙ ap (λ m. q * m) (mul_comm 2 n)
+    ∙ sym (mul_assoc q n 2) in
     omega (arith, split, turn)
 
 -- so many values came
@@ -31,7 +33,8 @@ pub raw_size : (n limit bytes size : ℕ) (before now : Option (List ℕ)) (item
     → size ≡ bytes / (2 * n) * n
 raw_size n limit bytes size before now items came whole e =
     e ∙ ap length came.1.items ∙ length-items_from value_at 2 (bytes / 2) came.0
-    ∙ ap (λ m. m / 2) (raw_whole n bytes whole) ∙ mul-div_cancel (bytes / (2 * n) * n) (omega arith)
+    ∙ ap (λ m. m / 2) (raw_whole n bytes whole)
+    ∙ mul-div_cancel (bytes / (2 * n) * n) (omega arith)
 
 -- which are so many series
 pub raw_count : (n q size : ℕ) → 0 < n → size ≡ q * n → size / n ≡ q
@@ -48,18 +51,23 @@ raw_limits n bytes some within whole =
     (le_of_mul-le-mul_right product some, values)
 
 -- the bytes are a raw file
-pub raw_found : (n limit bytes size : ℕ) (before between now : Option (List ℕ)) (items : List ℤ) (rows : Collection)
-    → 0 < n → limit ≡ raw_limit n → Comes value_at 2 limit before between items bytes → bytes % (2 * n) ≡ 0
+pub raw_found : (n limit bytes size : ℕ) (before between now : Option (List ℕ)) (items : List ℤ)
+    (rows : Collection)
+    → 0 < n → limit ≡ raw_limit n → Comes value_at 2 limit before between items bytes
+    → bytes % (2 * n) ≡ 0
     → size ≡ length items → Ends true between now → IsCollection rows → rows.points ≡ n
     → rows.series ≡ rows_of n (size / n) items
     → IsAtEnd now × IfSome before (λ bs. IsFile (Raw n) bs rows None)
 raw_found n limit bytes size before between now items rows some e came whole count ends sound points series = (
   ends.1,
   told_end (λ bs. IsFile (Raw n) bs rows None) came.0 before now
-      (taken_then came.0 [] before between now came.1.taken ends.0 ∙ ap (λ bs. prepend_known bs now) (append-nil came.0))
+      (taken_then came.0 [] before between now came.1.taken ends.0
+      ∙ ap (λ bs. prepend_known bs now) (append-nil came.0))
       ends.1
-      (is_raw n q came.0 rows (are_bytes came.0 came.1.each) (came.1.amount ∙ raw_whole n bytes whole) sound points
-      (series ∙ ap (λ m. rows_of n m items) (raw_count n q size some (raw_size n limit bytes size before between items came whole count))
+      (is_raw n q came.0 rows (are_bytes came.0 came.1.each) (came.1.amount
+      ∙ raw_whole n bytes whole) sound points
+      (series ∙ ap (λ m. rows_of n m items)
+      (raw_count n q size some (raw_size n limit bytes size before between items came whole count))
       ∙ ap (rows_of n q) (came.1.items ∙ ap (λ m. items_from value_at 2 m came.0) half))
       (raw_limits n bytes some (subst (λ (m : ℕ). bytes ≤ m) e came.1.limit) whole).1),
 )

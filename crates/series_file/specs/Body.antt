@@ -1,5 +1,5 @@
 -- What follows the header of a series file: labels, where it has them, then values, then the end.
-use Rattle.std.specs.Prelude.{◌≡◌, ℕ, ◌+◌, ◌*◌, ◌<◌, ⊤, ℤ, List, [], ◌∷◌, ◌++◌, length, drop, Option, None, Some, IfSome, nat_lt, if◌then◌else◌}
+use Rattle.std.specs.Prelude.{◌≡◌, ℕ, ◌+◌, ◌*◌, ◌<◌, ⊤, ℤ, List, [], ◌∷◌, length, Option, None, Some, IfSome, nat_lt, if◌then◌else◌}
 use Rattle.std.specs.List.{All}
 use Rattle.std.specs.Io.KnownBytes.{prepend_known, IsAtEnd}
 use Rattle.series_core.specs.Collection.{IsCollection}

@@ -1,5 +1,5 @@
 -- What stands after each stage of reading a file.
-use Rattle.std.specs.Prelude.{◌≡◌, ℕ, ◌<◌, ◌≤◌, ⊤, List, [], ◌∷◌, length, Bool, true, false, Option, None, Some, Result, Ok, Err, IfSome}
+use Rattle.std.specs.Prelude.{◌≡◌, ℕ, ◌<◌, ◌≤◌, ⊤, List, [], ◌∷◌, length, Bool, true, false, Option, None, Some, IfSome}
 use Rattle.std.specs.List.{All}
 use Rattle.std.specs.Io.KnownBytes.{prepend_known, IsAtEnd}
 use Rattle.series_core.specs.declared.rows.TheConstants.{MAX_LENGTH}

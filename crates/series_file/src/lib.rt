@@ -8,7 +8,14 @@ mod fill;
 mod header;
 mod item;
 mod items;
+mod laws;
 mod read;
+mod write;
 
 pub use error::{FileError, Form, Loaded};
+pub use laws::{collection_law, no_fault_law, one_collection_law};
 pub use read::read_series;
+pub use write::write_series;
+
+#[cfg(test)]
+mod tests;

@@ -1,4 +1,4 @@
-use Rattle.std.proofs.Common.{◌≡◌, ◌≤◌, ◌+◌, ◌-◌, ◌++◌, ◌∙◌, length, take, arith, rules, sym, ap, ℕ, length-take, length-drop}
+use Rattle.std.proofs.Common.{◌≤◌, ◌-◌, ◌∙◌, length, arith, ℕ, length-take, length-drop}
 use borrow.Rule.Slice.PartMut.{same_len_mid}
 use Rattle.outside.specs.Taken.{taken_then}
 use Rattle.series_file.proofs.Pieces.{take-put_mid_front}
@@ -8,13 +8,21 @@ pub loop-done-preserved : goal.loop-done-preserved
 loop-done-preserved g c =
     let before = c.loop-done.invariant in
     let read = c.in_ok-count.ensures in
-    let fits : c.in_ok-count.count ≤ length c.read.new.buf = omega (arith, read.amount.0, c.read.auto.buf) in
-    let size = same_len_mid c.loop-done.done (length c.loop-done.buffer - c.loop-done.done) c.loop-done.buffer c.read.new.buf c.read.auto.buf in
-    let front = take-put_mid_front c.loop-done.done c.in_ok-count.count c.loop-done.buffer c.read.new.buf before.within fits in
+    let fits : c.in_ok-count.count ≤ length c.read.new.buf =
+    omega (arith, read.amount.0, c.read.auto.buf) in
+    let size = same_len_mid c.loop-done.done
+    (length c.loop-done.buffer - c.loop-done.done)
+    c.loop-done.buffer c.read.new.buf c.read.auto.buf in
+    let front =
+    take-put_mid_front c.loop-done.done c.in_ok-count.count c.loop-done.buffer c.read.new.buf before.within fits in
     record {
       within = omega (arith, read.amount.0, length-take {A = ℕ}, length-drop {A = ℕ}, size);
       taken = rw front (taken_then _ _ _ _ _ before.taken read.taken);
-      stays_open = (read.stays_open.0 ∙ before.stays_open.0, read.stays_open.1 ∙ before.stays_open.1);
+      stays_open = (
+        read.stays_open.0 ∙ before.stays_open.0,
+        read.stays_open.1
+            ∙ before.stays_open.1,
+      );
       kept = read.kept ∙ before.kept;
       counts = (omega (arith, read.counts.0), omega (arith, read.counts.1));
       reliable = λ h. let b = before.reliable h in let r = read.reliable b.1 in (r.1 ∙ b.0, r.2);

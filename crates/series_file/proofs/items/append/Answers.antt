@@ -1,4 +1,4 @@
-use Rattle.std.proofs.Common.{◌≡◌, ◌++◌, ◌*◌, ◌/◌, ◌≤◌, ◌<◌, ◌∙◌, ap, length, take, List}
+use Rattle.std.proofs.Common.{◌++◌, ◌∙◌, ap}
 use Rattle.series_file.proofs.ItemLemmas.{decoded_front}
 use Rattle.series_file.proofs.items.append.Goals as goal
 

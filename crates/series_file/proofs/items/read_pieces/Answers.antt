@@ -1,6 +1,5 @@
-use Rattle.std.proofs.Common.{◌≡◌, ◌++◌, ◌*◌, ◌/◌, ◌%◌, ◌+◌, ◌-◌, ◌≤◌, ◌<◌, ◌∙◌, ap, sym, refl, length, length-take, length-drop, length-append, take, drop, arith, List, ℕ, min}
+use Rattle.std.proofs.Common.{◌≡◌, ◌++◌, ◌/◌, ◌%◌, ◌+◌, ◌-◌, ◌≤◌, ◌<◌, ◌∙◌, ap, sym, refl, length, length-take, length-drop, length-append, take, drop, arith, ℕ, min}
 use Rattle.std.proofs.Math.Nat.{zero-mod}
-use Rattle.series_file.specs.Items.{Comes}
 use Rattle.series_file.proofs.Arriving.{Comes-piece, Comes-nothing, whole_sum, whole_less, whole_min}
 use Rattle.series_file.proofs.items.read_pieces.Goals as goal
 
@@ -9,28 +8,40 @@ returns-then-count-piece-clause-came g c =
     let before = c.loop-bytes.invariant in
     let filled = c.in-Ok.ensures in
     let added = c.in_ok-append.ensures in
-    let fits : c.in-Ok.count ≤ length c.fill.new.buffer = omega (arith, filled.amount.0, c.fill.auto.buffer) in
+    let fits : c.in-Ok.count ≤ length c.fill.new.buffer =
+    omega (arith, filled.amount.0, c.fill.auto.buffer) in
     let less : c.in-Ok.count < length (take c.piece_of-piece.result c.loop-bytes.buffer) =
     omega (arith, length-take {A = ℕ}, c.piece_of-piece.ensures, c.if-count-piece.true) in
     let limit : c.loop-bytes.bytes + c.in-Ok.count ≤ c.args.want =
     omega (arith, c.piece_of-piece.ensures, c.if-count-piece.true, before.limit) in
     Comes-piece g.T.Item.at g.T.Item.SIZE c.loop-bytes.bytes c.in-Ok.count c.args.want _ _ _
     c.loop-bytes.items.items _ c.fill.new.buffer _ g.met.T.Item.reads_front g.met.T.Item.sized.0
-    before.came before.whole filled.taken added.each fits added.ok limit (λ _. filled.amount.1 less)
+    before.came before.whole filled.taken added.each fits added.ok limit
+    (λ _. filled.amount.1 less)
 
 pub loop-bytes-preserved : goal.loop-bytes-preserved
 loop-bytes-preserved g c =
     let before = c.loop-bytes.invariant in
     let filled = c.in-Ok.ensures in
     let added = c.in_ok-append.ensures in
-    let fits : c.in-Ok.count ≤ length c.fill.new.buffer = omega (arith, filled.amount.0, c.fill.auto.buffer) in
-    let count : c.in-Ok.count ≡ min (c.args.want - c.loop-bytes.bytes) (length c.loop-bytes.buffer) =
-    omega (arith, length-take {A = ℕ}, c.piece_of-piece.ensures, c.if-count-piece.false, filled.amount.0) in
+    let fits : c.in-Ok.count ≤ length c.fill.new.buffer =
+    omega (arith, filled.amount.0, c.fill.auto.buffer) in
+    let count : c.in-Ok.count ≡ min (c.args.want - c.loop-bytes.bytes)
+    (length c.loop-bytes.buffer) =
+    omega (
+      arith,
+      length-take {A =
+          ℕ},
+      c.piece_of-piece.ensures,
+      c.if-count-piece.false,
+      filled.amount.0,
+    ) in
     let limit : c.loop-bytes.bytes + c.in-Ok.count ≤ c.args.want =
     omega (arith, count, before.limit) in
     let whole_room : length c.loop-bytes.buffer % g.T.Item.SIZE ≡ 0 =
     ap (λ m. m % g.T.Item.SIZE) c.loop-bytes.auto.buffer ∙ c.requires.whole_room in
-    let size : length (c.fill.new.buffer ++ drop c.piece_of-piece.result c.loop-bytes.buffer) ≡ length c.loop-bytes.buffer =
+    let size : length (c.fill.new.buffer ++ drop c.piece_of-piece.result c.loop-bytes.buffer)
+    ≡ length c.loop-bytes.buffer =
     omega (
       arith,
       length-append c.fill.new.buffer (drop c.piece_of-piece.result c.loop-bytes.buffer),
@@ -42,13 +53,19 @@ loop-bytes-preserved g c =
       came = Comes-piece g.T.Item.at g.T.Item.SIZE c.loop-bytes.bytes c.in-Ok.count
           (c.loop-bytes.bytes + c.in-Ok.count) _ _ _
           c.loop-bytes.items.items _ c.fill.new.buffer _ g.met.T.Item.reads_front g.met.T.Item.sized.0
-          before.came before.whole filled.taken added.each fits added.ok (omega arith) (λ h. absurd (omega arith));
+          before.came before.whole filled.taken added.each fits added.ok (omega arith)
+          (λ h. absurd (omega arith));
       limit = limit;
       whole = whole_sum g.T.Item.SIZE c.loop-bytes.bytes c.in-Ok.count before.whole
-          (rw count (whole_min g.T.Item.SIZE (c.args.want - c.loop-bytes.bytes) (length c.loop-bytes.buffer)
+          (rw count (whole_min g.T.Item.SIZE (c.args.want - c.loop-bytes.bytes)
+          (length c.loop-bytes.buffer)
           (whole_less g.T.Item.SIZE c.loop-bytes.bytes c.args.want before.limit before.whole c.requires.whole_want) whole_room));
       room = added.cells ∙ before.room ∙ ap (λ m. m / g.T.Item.SIZE) (sym size);
-      stays_open = (filled.stays_open.0 ∙ before.stays_open.0, filled.stays_open.1 ∙ before.stays_open.1);
+      stays_open = (
+        filled.stays_open.0 ∙ before.stays_open.0,
+        filled.stays_open.1
+            ∙ before.stays_open.1,
+      );
       kept = filled.kept ∙ before.kept;
       counts = (omega (arith, filled.counts.0), omega (arith, filled.counts.1));
       reliable = λ h. let b = before.reliable h in let r = filled.reliable b.1 in (r.1 ∙ b.0, r.2);

@@ -1,18 +1,21 @@
-use Rattle.std.proofs.Common.{◌-◌, ◌*◌, ◌/◌, ◌%◌, ◌≡◌, ◌≤◌, length}
-use Rattle.outside.specs.Count.{Rose}
+use Rattle.std.proofs.Common.{◌-◌, ◌/◌, ◌%◌, ◌≡◌, ◌≤◌, length}
 use Rattle.series_file.specs.Items.{Comes}
 use Rattle.series_file.proofs.items.read_pieces.Given as goal
 
 abbrev pub invariant-loop-bytes : goal.invariant-loop-bytes
 invariant-loop-bytes g l = record {
-  came : Comes g.T.Item.at g.T.Item.SIZE l.bytes (g.F.Files.left l.initial.files) (g.F.Files.left l.files) l.items.items l.bytes;
+  came : Comes g.T.Item.at g.T.Item.SIZE l.bytes (g.F.Files.left l.initial.files)
+      (g.F.Files.left l.files) l.items.items l.bytes;
   limit : l.bytes ≤ l.want;
   whole : l.bytes % g.T.Item.SIZE ≡ 0;
   room : length l.cells ≡ length l.buffer / g.T.Item.SIZE;
-  stays_open : (g.F.Files.at l.files ≡ g.F.Files.at l.initial.files) × (g.F.Files.blamed l.files ≡ g.F.Files.blamed l.initial.files);
+  stays_open : (g.F.Files.at l.files ≡ g.F.Files.at l.initial.files) ×
+      (g.F.Files.blamed l.files ≡ g.F.Files.blamed l.initial.files);
   kept : g.F.Files.held l.files ≡ g.F.Files.held l.initial.files;
-  counts : (g.F.Files.faults l.initial.files ≤ g.F.Files.faults l.files) × (g.F.Files.misses l.initial.files ≤ g.F.Files.misses l.files);
-  reliable : g.F.Files.reliable l.initial.files → (g.F.Files.faults l.files ≡ g.F.Files.faults l.initial.files) × g.F.Files.reliable l.files;
+  counts : (g.F.Files.faults l.initial.files ≤ g.F.Files.faults l.files) ×
+      (g.F.Files.misses l.initial.files ≤ g.F.Files.misses l.files);
+  reliable : g.F.Files.reliable l.initial.files
+      → (g.F.Files.faults l.files ≡ g.F.Files.faults l.initial.files) × g.F.Files.reliable l.files;
 }
 
 abbrev pub decreases-loop-bytes : goal.decreases-loop-bytes

@@ -1,4 +1,4 @@
-use Rattle.std.proofs.Common.{◌≡◌, ◌*◌, ◌/◌, ◌%◌, ◌≤◌, ◌∙◌, ap, sym, subst, true, Bool, ℕ, vec_len}
+use Rattle.std.proofs.Common.{◌*◌, ◌≤◌, ◌∙◌, ap, sym, subst, Bool}
 use Rattle.series_file.specs.Faults.{raw_limit}
 use Rattle.series_file.specs.Stages.{Ends}
 use Rattle.series_file.proofs.RawValues.{raw_size, raw_count, raw_limits, raw_found}
@@ -8,28 +8,34 @@ use Rattle.series_file.proofs.read.read_raw.Goals as goal
 pub from_values-rows-requires-clause-whole : goal.from_values-rows-requires-clause-whole
 from_values-rows-requires-clause-whole g c =
     let whole = rw c.from.ensures at c.if-arrived-from-ne0.false in
-    let size = raw_size c.args.length _ _ _ _ _ _ c.in-Ok.ensures.came whole c.in-Ok.arrived.items.ok.0 in
+    let size =
+    raw_size c.args.length _ _ _ _ _ _ c.in-Ok.ensures.came whole c.in-Ok.arrived.items.ok.0 in
     ap (λ m. m * c.args.length) (raw_count c.args.length _ _ c.requires.some_point size) ∙ sym size
 
 pub from_values-rows-requires-clause-count_limit : goal.from_values-rows-requires-clause-count_limit
 from_values-rows-requires-clause-count_limit g c =
     let whole = rw c.from.ensures at c.if-arrived-from-ne0.false in
-    let size = raw_size c.args.length _ _ _ _ _ _ c.in-Ok.ensures.came whole c.in-Ok.arrived.items.ok.0 in
-    let within : c.in-Ok.arrived.bytes ≤ raw_limit c.args.length = rw (← c.raw_limit-limit.ensures) c.in-Ok.ensures.came.1.limit in
+    let size =
+    raw_size c.args.length _ _ _ _ _ _ c.in-Ok.ensures.came whole c.in-Ok.arrived.items.ok.0 in
+    let within : c.in-Ok.arrived.bytes ≤ raw_limit c.args.length =
+    rw (← c.raw_limit-limit.ensures) c.in-Ok.ensures.came.1.limit in
     rw (raw_count c.args.length _ _ c.requires.some_point size)
     (raw_limits c.args.length c.in-Ok.arrived.bytes c.requires.some_point within whole).0
 
 pub from_values-rows-requires-clause-values_limit : goal.from_values-rows-requires-clause-values_limit
 from_values-rows-requires-clause-values_limit g c =
     let whole = rw c.from.ensures at c.if-arrived-from-ne0.false in
-    let size = raw_size c.args.length _ _ _ _ _ _ c.in-Ok.ensures.came whole c.in-Ok.arrived.items.ok.0 in
-    let within : c.in-Ok.arrived.bytes ≤ raw_limit c.args.length = rw (← c.raw_limit-limit.ensures) c.in-Ok.ensures.came.1.limit in
+    let size =
+    raw_size c.args.length _ _ _ _ _ _ c.in-Ok.ensures.came whole c.in-Ok.arrived.items.ok.0 in
+    let within : c.in-Ok.arrived.bytes ≤ raw_limit c.args.length =
+    rw (← c.raw_limit-limit.ensures) c.in-Ok.ensures.came.1.limit in
     rw size (raw_limits c.args.length c.in-Ok.arrived.bytes c.requires.some_point within whole).1
 
 pub returns-clause-found : goal.returns-clause-found
 returns-clause-found g c =
     let whole = rw c.from.ensures at c.if-arrived-from-ne0.false in
-    let ends = subst (λ (b : Bool). Ends b (g.F.Files.left c.read_items.new.files) (g.F.Files.left c.is_at_end.new.files))
+    let ends = subst (λ (b : Bool). Ends b (g.F.Files.left c.read_items.new.files)
+    (g.F.Files.left c.is_at_end.new.files))
     c.in-Ok-true.field-0-test c.in-Ok-true.ensures.ends in
     let rows = c.from_values-rows.ensures in
     raw_found c.args.length _ _ _ _ _ _ _ c.from_values-rows.result c.requires.some_point c.raw_limit-limit.ensures

@@ -14,5 +14,6 @@ invariant_of-result c =
       values_limit = rw size c.requires.values_limit;
       each = rw (← c.deref.ensures.value) c.values_fit.ensures;
     }
+
 pub returns-clause-sound : goal.returns-clause-sound
 returns-clause-sound c = is_collection c.args.length _ c.args.values.items (invariant_of-result c)

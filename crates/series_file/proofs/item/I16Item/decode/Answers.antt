@@ -1,4 +1,4 @@
-use Rattle.std.proofs.Common.{◌∙◌, ap, length}
+use Rattle.std.proofs.Common.{◌∙◌, ap}
 use Rattle.series_file.specs.Items.{items_from, value_at}
 use Rattle.series_file.proofs.ItemLemmas.{items_by_place}
 use Rattle.series_file.proofs.item.I16Item.decode.Goals as goal

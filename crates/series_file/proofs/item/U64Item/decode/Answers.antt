@@ -1,6 +1,6 @@
-use Rattle.std.proofs.Common.{◌∙◌, ap, length}
+use Rattle.std.proofs.Common.{◌∙◌, ap}
 use Rattle.series_file.specs.Items.{items_from, label_at}
-use Rattle.series_file.proofs.ItemLemmas.{items_by_place, numbers_by_place}
+use Rattle.series_file.proofs.ItemLemmas.{numbers_by_place}
 use Rattle.series_file.proofs.item.U64Item.decode.Goals as goal
 
 pub returns : goal.returns

@@ -1,0 +1,7 @@
+mod Crosses
+mod Lending
+mod Linking
+mod Made
+mod Rows
+mod Seeing
+mod Steps

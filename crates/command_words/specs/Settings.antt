@@ -1,0 +1,82 @@
+-- The settings that words have: the command that the first names, and what the words after it say.
+use Rattle.std.specs.Prelude.{◌≡◌, ◌*◌, ◌≤◌, ◌&&◌, ◌||◌, ℕ, Bool, false, is_some}
+use Rattle.std.specs.Prelude.{List, [], Some, codes, slice_get}
+use Rattle.clap.specs.Words.{Row, Text, first_of}
+use Rattle.command_words.specs.CommandName.{faults_of, rows_of_words, text_of}
+use Rattle.command_words.specs.Options.{HasOptions, is_set, number_at, windows_needed}
+use Rattle.command_words.specs.declared.command.Command.{Command}
+use Rattle.command_words.specs.declared.command.Command.TheVariants.{Nearest, Range, Verify, Trial}
+use Rattle.command_words.specs.declared.command.Command.TheVariants.{Convert, Save}
+use Rattle.command_words.specs.declared.command.Command.TheVariants.{Windows, Discord}
+use Rattle.command_words.specs.declared.name.CommandName.{CommandName}
+use Rattle.command_words.specs.declared.name.CommandName.TheVariants as name
+use Rattle.command_words.specs.declared.options.Options.{Options}
+
+-- the name of a command
+abbrev pub name_of : Command → CommandName
+name_of (Nearest series queries options) = name.Nearest
+name_of (Range series queries radius options) = name.Range
+name_of (Verify series queries certificate options) = name.Verify
+name_of (Trial seed count length queries options) = name.Trial
+name_of (Convert series options) = name.Convert
+name_of (Save series options) = name.Save
+name_of (Windows series queries step options) = name.Windows
+name_of (Discord series options) = name.Discord
+
+-- the options of a command
+abbrev pub options_of : Command → Options
+options_of (Nearest series queries options) = options
+options_of (Range series queries radius options) = options
+options_of (Verify series queries certificate options) = options
+options_of (Trial seed count length queries options) = options
+options_of (Convert series options) = options
+options_of (Save series options) = options
+options_of (Windows series queries step options) = options
+options_of (Discord series options) = options
+
+-- this text stands at the place of this name
+abbrev pub HasText : Text → List Row → Text → Type 0
+HasText place rows text = first_of place rows ≡ Some text
+
+-- this number stands at the place of this name, well spelled, from `least` to `most`
+abbrev pub HasNumber : Text → ℕ → ℕ → List Row → ℕ → Type 0
+HasNumber place least most rows n = number_at least most (first_of place rows) ≡ Some n
+
+-- whether an index is named beside an option that a saved index has settled, or `--certificate`
+abbrev pub has_stray_option : List Row → Bool
+has_stray_option rows = is_some (first_of (codes "index") rows)
+    && (is_some (first_of (codes "segments") rows) || (is_some (first_of (codes "leaf") rows)
+    || (is_some (first_of (codes "breaks") rows) || is_set (first_of (codes "certificate") rows))))
+
+-- the matches have what stands before the options of the command, and these keep its further rule
+abbrev pub HasWords : List Row → Command → Type 0
+HasWords rows (Nearest series queries options) = HasText (codes "DATA") rows series
+    × HasText (codes "QUERIES") rows queries × (has_stray_option rows ≡ false)
+HasWords rows (Range series queries radius options) = HasText (codes "DATA") rows series
+    × HasText (codes "QUERIES") rows queries
+    × HasNumber (codes "RADIUS") 0 281474976710656 rows radius
+HasWords rows (Verify series queries certificate options) = HasText (codes "DATA") rows series
+    × HasText (codes "QUERIES") rows queries × HasText (codes "CERTIFICATE") rows certificate
+HasWords rows (Trial seed count length queries options) =
+    HasNumber (codes "SEED") 0 18446744073709551615 rows seed
+    × HasNumber (codes "COUNT") 0 16777216 rows count
+    × HasNumber (codes "LENGTH") 1 65536 rows length
+    × HasNumber (codes "QUERIES") 0 1000 rows queries × (count * length ≤ 134217728)
+HasWords rows (Convert series options) = HasText (codes "DATA") rows series
+HasWords rows (Save series options) = HasText (codes "DATA") rows series
+HasWords rows (Windows series queries step options) = HasText (codes "SERIES") rows series
+    × HasText (codes "QUERIES") rows queries
+    × HasNumber (codes "STEP") 1 16777216 rows step × (windows_needed options ≤ 1024)
+HasWords rows (Discord series options) = HasText (codes "DATA") rows series
+
+-- the matches have all that the command holds
+pub record Fits (rows : List Row) (command : Command) : Type 0 where
+  pub words : HasWords rows command
+  pub options : HasOptions rows (options_of command)
+
+-- the words have these settings: the first names the command, `clap` takes those after it by the
+-- command's own rules, and its matches have what the command holds
+pub record HasSettings (words : List Text) (command : Command) : Type 0 where
+  pub named : slice_get words 0 ≡ Some (text_of (name_of command))
+  pub taken : faults_of (name_of command) words ≡ []
+  pub fits : Fits (rows_of_words (name_of command) words) command

@@ -1,0 +1,206 @@
+//! The settings of words, read command by command, and of a whole command line.
+ghost use Rattle.std.specs.Prelude.{◌≡◌, ℕ, List, IfOk, Some, map, option_and_then, slice_get, string_bytes};
+ghost use Rattle.command_words.specs.Absence.{HoldsAbsence, IndexStandsAlone};
+ghost use Rattle.command_words.specs.CommandName.{named_by};
+ghost use Rattle.command_words.specs.Limits.{KeepsLimits};
+ghost use Rattle.command_words.specs.Options.{rows};
+ghost use Rattle.command_words.specs.Settings.{Fits, HasSettings, has_stray_option, name_of, options_of};
+ghost use Rattle.command_words.specs.declared.command.Command.{Command};
+
+use crate::command::Command;
+use crate::error::WordsError;
+use crate::given::{given, is_flag_set, long_number_at, number_at, text_at};
+use crate::matching::matches_of;
+use crate::name::CommandName;
+use crate::options::options_of;
+use clap::ArgMatches;
+use std::alloc::Global;
+
+/// Whether `--index` stands beside an option that a saved index has settled, or `--certificate`.
+fn has_stray_option(matches: &ArgMatches<'_>) -> bool
+    ensures { result ≡ has_stray_option (rows matches.now) }
+{
+    given(matches, "index").is_some()
+        && (given(matches, "segments").is_some()
+            || given(matches, "leaf").is_some()
+            || given(matches, "breaks").is_some()
+            || is_flag_set(matches, "certificate"))
+}
+
+/// What the matches of `nearest DATA QUERIES` ask for.
+fn nearest(alloc: Global, matches: &ArgMatches<'_>) -> Result<Command, WordsError>
+    ensures ok { IfOk result (λ c. (name_of c ≡ CommandName.Nearest) × Fits (rows matches.now) c) }
+    ensures usage { result ≡ Err WordsError.Usage → (c : Command) → name_of c ≡ CommandName.Nearest
+        → Fits (rows matches.now) c → ⊥ }
+{
+    let series = text_at(alloc, matches, "DATA")?;
+    let queries = text_at(alloc, matches, "QUERIES")?;
+    if has_stray_option(matches) {
+        return Err(WordsError::Usage);
+    }
+    let options = options_of(alloc, matches)?;
+    Ok(Command::Nearest {
+        series,
+        queries,
+        options,
+    })
+}
+
+/// What the matches of `range DATA QUERIES RADIUS` ask for.
+fn range(alloc: Global, matches: &ArgMatches<'_>) -> Result<Command, WordsError>
+    ensures ok { IfOk result (λ c. (name_of c ≡ CommandName.Range) × Fits (rows matches.now) c) }
+    ensures usage { result ≡ Err WordsError.Usage → (c : Command) → name_of c ≡ CommandName.Range
+        → Fits (rows matches.now) c → ⊥ }
+{
+    let series = text_at(alloc, matches, "DATA")?;
+    let queries = text_at(alloc, matches, "QUERIES")?;
+    let radius = long_number_at(matches, "RADIUS", 0, 281474976710656).ok_or(WordsError::Usage)?;
+    let options = options_of(alloc, matches)?;
+    Ok(Command::Range {
+        series,
+        queries,
+        radius,
+        options,
+    })
+}
+
+/// What the matches of `verify DATA QUERIES CERTIFICATE` ask for.
+fn verify(alloc: Global, matches: &ArgMatches<'_>) -> Result<Command, WordsError>
+    ensures ok { IfOk result (λ c. (name_of c ≡ CommandName.Verify) × Fits (rows matches.now) c) }
+    ensures usage { result ≡ Err WordsError.Usage → (c : Command) → name_of c ≡ CommandName.Verify
+        → Fits (rows matches.now) c → ⊥ }
+{
+    let series = text_at(alloc, matches, "DATA")?;
+    let queries = text_at(alloc, matches, "QUERIES")?;
+    let certificate = text_at(alloc, matches, "CERTIFICATE")?;
+    let options = options_of(alloc, matches)?;
+    Ok(Command::Verify {
+        series,
+        queries,
+        certificate,
+        options,
+    })
+}
+
+/// What the matches of `trial SEED COUNT LENGTH QUERIES` ask for.
+fn trial(alloc: Global, matches: &ArgMatches<'_>) -> Result<Command, WordsError>
+    ensures ok { IfOk result (λ c. (name_of c ≡ CommandName.Trial) × Fits (rows matches.now) c) }
+    ensures usage { result ≡ Err WordsError.Usage → (c : Command) → name_of c ≡ CommandName.Trial
+        → Fits (rows matches.now) c → ⊥ }
+{
+    let seed = long_number_at(matches, "SEED", 0, u64::MAX).ok_or(WordsError::Usage)?;
+    let count = number_at(matches, "COUNT", 0, 16777216).ok_or(WordsError::Usage)?;
+    let length = number_at(matches, "LENGTH", 1, 65536).ok_or(WordsError::Usage)?;
+    let queries = number_at(matches, "QUERIES", 0, 1000).ok_or(WordsError::Usage)?;
+    if u64::from(count) * u64::from(length) > 134217728 {
+        return Err(WordsError::Usage);
+    }
+    let options = options_of(alloc, matches)?;
+    Ok(Command::Trial {
+        seed,
+        count,
+        length,
+        queries,
+        options,
+    })
+}
+
+/// What the matches of `convert DATA` ask for.
+fn convert(alloc: Global, matches: &ArgMatches<'_>) -> Result<Command, WordsError>
+    ensures ok { IfOk result (λ c. (name_of c ≡ CommandName.Convert) × Fits (rows matches.now) c) }
+    ensures usage { result ≡ Err WordsError.Usage → (c : Command) → name_of c ≡ CommandName.Convert
+        → Fits (rows matches.now) c → ⊥ }
+{
+    let series = text_at(alloc, matches, "DATA")?;
+    let options = options_of(alloc, matches)?;
+    Ok(Command::Convert { series, options })
+}
+
+/// What the matches of `save DATA` ask for.
+fn save(alloc: Global, matches: &ArgMatches<'_>) -> Result<Command, WordsError>
+    ensures ok { IfOk result (λ c. (name_of c ≡ CommandName.Save) × Fits (rows matches.now) c) }
+    ensures usage { result ≡ Err WordsError.Usage → (c : Command) → name_of c ≡ CommandName.Save
+        → Fits (rows matches.now) c → ⊥ }
+{
+    let series = text_at(alloc, matches, "DATA")?;
+    let options = options_of(alloc, matches)?;
+    Ok(Command::Save { series, options })
+}
+
+/// What the matches of `windows SERIES QUERIES STEP` ask for.
+fn windows(alloc: Global, matches: &ArgMatches<'_>) -> Result<Command, WordsError>
+    ensures ok { IfOk result (λ c. (name_of c ≡ CommandName.Windows) × Fits (rows matches.now) c) }
+    ensures usage { result ≡ Err WordsError.Usage → (c : Command) → name_of c ≡ CommandName.Windows
+        → Fits (rows matches.now) c → ⊥ }
+{
+    let series = text_at(alloc, matches, "SERIES")?;
+    let queries = text_at(alloc, matches, "QUERIES")?;
+    let step = number_at(matches, "STEP", 1, 16777216).ok_or(WordsError::Usage)?;
+    let options = options_of(alloc, matches)?;
+    if options.windows_needed() > 1024 {
+        return Err(WordsError::Usage);
+    }
+    Ok(Command::Windows {
+        series,
+        queries,
+        step,
+        options,
+    })
+}
+
+/// What the matches of `discord DATA` ask for.
+fn discord(alloc: Global, matches: &ArgMatches<'_>) -> Result<Command, WordsError>
+    ensures ok { IfOk result (λ c. (name_of c ≡ CommandName.Discord) × Fits (rows matches.now) c) }
+    ensures usage { result ≡ Err WordsError.Usage → (c : Command) → name_of c ≡ CommandName.Discord
+        → Fits (rows matches.now) c → ⊥ }
+{
+    let series = text_at(alloc, matches, "DATA")?;
+    let options = options_of(alloc, matches)?;
+    Ok(Command::Discord { series, options })
+}
+
+/// The command of this name that the matches say.
+fn command_given(
+    alloc: Global,
+    name: CommandName,
+    matches: &ArgMatches<'_>,
+) -> Result<Command, WordsError>
+    ensures ok { IfOk result (λ c. (name_of c ≡ name) × Fits (rows matches.now) c) }
+    ensures usage { result ≡ Err WordsError.Usage → (c : Command) → name_of c ≡ name
+        → Fits (rows matches.now) c → ⊥ }
+{
+    match name {
+        CommandName::Nearest => nearest(alloc, matches),
+        CommandName::Range => range(alloc, matches),
+        CommandName::Verify => verify(alloc, matches),
+        CommandName::Trial => trial(alloc, matches),
+        CommandName::Convert => convert(alloc, matches),
+        CommandName::Save => save(alloc, matches),
+        CommandName::Windows => windows(alloc, matches),
+        CommandName::Discord => discord(alloc, matches),
+    }
+}
+
+/// The command that the first word names.
+fn command_named(words: &[String]) -> Option<CommandName>
+    ensures { result ≡ option_and_then named_by (slice_get (map string_bytes words.now) 0) }
+{
+    CommandName::named_by(words.first()?.as_str())
+}
+
+/// What the words ask for. The first word names the command, and the words after it are read by that
+/// command's rules; a number is well spelled and within its limits. Usage comes exactly where the words
+/// have no settings, and yields to NoMemory.
+pub fn parse_words(alloc: Global, words: &[String]) -> Result<Command, WordsError>
+    ensures ok { IfOk result (λ c. HasSettings (map string_bytes words.now) c) }
+    ensures limits { IfOk result KeepsLimits }
+    ensures absent { IfOk result (λ c. HoldsAbsence (name_of c) (options_of c)) }
+    ensures alone { IfOk result (λ c. IndexStandsAlone (options_of c)) }
+    ensures same { (c : Command) → HasSettings (map string_bytes words.now) c → IfOk result (λ r. r ≡ c) }
+    ensures usage { result ≡ Err WordsError.Usage → (c : Command)
+        → HasSettings (map string_bytes words.now) c → ⊥ }
+{
+    let name = command_named(words).ok_or(WordsError::Usage)?;
+    let matches = matches_of(alloc, name, words)?;
+    command_given(alloc, name, &matches)
+}

@@ -1,0 +1,4 @@
+pub mod Order
+pub mod Sifting
+pub mod Ascending
+pub mod Waiting

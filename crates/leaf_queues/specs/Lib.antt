@@ -1,0 +1,3 @@
+pub mod PlainQueue
+pub mod Heaps
+pub mod Kept

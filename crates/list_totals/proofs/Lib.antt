@@ -1,0 +1,5 @@
+-- Laws of totals.
+pub mod Totals
+pub mod Greatest
+pub mod Places
+pub mod Pigeons

@@ -1,0 +1,2 @@
+-- Totals over lists.
+pub mod Totals

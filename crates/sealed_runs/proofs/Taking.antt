@@ -1,0 +1,56 @@
+-- What closing a run takes: the entries of all places up to one, without those that were refused.
+use Rattle.std.proofs.Common.{◌≡◌, ◌⊎◌, ℕ, ◌+◌, ◌<◌, List, [], ◌∷◌, ◌++◌, length, get_or, Contains, sym, subst, ⊎_elim, arith}
+use Rattle.std.proofs.lemmas.List.Elements.{Contains-push, Contains-append_left, Contains-push_cases, Contains-get_or}
+use Rattle.std.proofs.lemmas.List.Quantifiers.{all_pairs_push}
+use Rattle.series_core.specs.declared.queue_words.Entry.{Entry}
+use Rattle.sealed_runs.specs.Entries.{Before, IsAscending, no_entry, entry_at}
+use Rattle.sealed_runs.specs.Tallied.{Takes}
+use Rattle.sealed_runs.proofs.Members.{none_in}
+
+-- at the start nothing is taken
+pub takes_none : (es : List Entry) (refused : List ℕ) → Takes es refused 0 []
+takes_none es refused = record {
+  from = λ e there. absurd (none_in e there);
+  all = λ x low not_refused. absurd (omega arith);
+  ascending = λ i j d before in_list. absurd (omega arith);
+}
+
+-- the last place below n + 1 is n, or it is below n
+last_or_below : (x n : ℕ) → x < n + 1 → (x ≡ n) ⊎ (x < n)
+last_or_below x n low = grind arith
+
+-- a refused place is passed over
+pub takes_past : (es : List Entry) (refused : List ℕ) (n : ℕ) (taken : List Entry)
+    → Contains refused n
+    → Takes es refused n taken → Takes es refused (n + 1) taken
+takes_past es refused n taken is t = record {
+  from = λ e there. let x = t.from e there in let low = x.1 in (x.0, omega arith, x.2, x.3);
+  all = λ x low not_refused. ⊎_elim
+      (λ (same : x ≡ n). absurd (not_refused (subst (Contains refused) (sym same) is)))
+      (λ (below : x < n). t.all x below not_refused)
+      (last_or_below x n low);
+  ascending = t.ascending;
+}
+
+-- another place is taken
+pub takes_more : (es : List Entry) (refused : List ℕ) (n : ℕ) (taken : List Entry) → IsAscending es
+    → n < length es
+    → ¬ (Contains refused n) → Takes es refused n taken
+    → Takes es refused (n + 1) (taken ++ entry_at es n ∷ [])
+takes_more es refused n taken ascending low not t = record {
+  from = λ e there. ⊎_elim
+      (λ (was : Contains taken e). let x = t.from e was in let below = x.1 in
+      (x.0, omega arith, x.2, x.3))
+      (λ (new : entry_at es n ≡ e). (n, omega arith, not, new))
+      (Contains-push_cases taken (entry_at es n) e there);
+  all = λ x below not_refused. ⊎_elim
+      (λ (same : x ≡ n).
+      subst (λ y. Contains (taken ++ entry_at es n ∷ []) (entry_at es y)) (sym same)
+      (Contains-push taken (entry_at es n)))
+      (λ (before : x < n).
+      Contains-append_left taken (entry_at es n ∷ []) (entry_at es x) (t.all x before not_refused))
+      (last_or_below x n below);
+  ascending = all_pairs_push Before taken (entry_at es n) t.ascending (λ k d in_list.
+      let x = t.from (get_or taken k d) (Contains-get_or taken k d in_list) in
+      subst (λ y. Before y (entry_at es n)) x.3 (ascending x.0 n no_entry x.1 low));
+}

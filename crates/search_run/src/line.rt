@@ -1,0 +1,65 @@
+//! A line of text in place: it takes no memory of its own.
+
+ghost use Rattle.std.specs.Prelude.{◌≡◌, ◌+◌, ◌≤◌, ◌++◌, length, codes, decimal, []};
+
+use itoa::Buffer;
+use std::marker::Model;
+
+/// How many bytes a line has room for.
+pub const ROOM: usize = 200;
+
+/// The bytes of a line so far.
+#[derive(Drop)]
+pub struct Line {
+    bytes: [u8; ROOM],
+    length: usize,
+}
+
+impl Model for Line {
+    ghost use Rattle.std.specs.Prelude.{ℕ, List, ◌≤◌, take};
+
+    ghost Value = { List ℕ };
+
+    ghost view = { λ l. take l.length l.bytes };
+
+    ghost invariant = { λ l. l.length ≤ 200 };
+}
+
+impl Line {
+    /// An empty line.
+    pub fn new() -> Line
+        ensures { result ≡ [] }
+    {
+        Line {
+            bytes: [0; ROOM],
+            length: 0,
+        }
+    }
+
+    /// The bytes so far.
+    pub fn bytes(&self) -> &[u8]
+        ensures { result.now ≡ self.now }
+    {
+        &self.bytes[..self.length]
+    }
+
+    /// Appends text.
+    pub fn push(&mut self, text: &str)
+        requires { length self.old + length text.now ≤ ROOM }
+        ensures { self.new ≡ self.old ++ text.now }
+    {
+        let end = self.length + text.len();
+        self.bytes[self.length..end].copy_from_slice(text.as_bytes());
+        self.length = end;
+    }
+
+    /// Appends a number in decimals.
+    pub fn push_number(&mut self, n: u64)
+        requires { length self.old + 20 ≤ ROOM }
+        ensures text { self.new ≡ self.old ++ decimal n }
+        ensures limit { length self.new ≤ length self.old + 20 }
+    {
+        let mut buffer = Buffer::new();
+        self.push(buffer.format(n));
+    }
+}

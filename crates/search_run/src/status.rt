@@ -1,0 +1,59 @@
+//! How a run ends: one status, with the values that show its cause.
+
+use series_file::FileError;
+
+/// Which of the named files a status speaks of.
+#[derive(Clone, Copy, Debug, PartialEq, Eq)]
+pub enum Which {
+    /// The file of the collection that is searched.
+    Series,
+    /// The file of the queries.
+    Queries,
+    /// The file of a certificate.
+    Certificate,
+}
+
+/// How a run ended.
+#[derive(Clone, Copy, Debug, PartialEq, Eq)]
+pub enum Status {
+    /// The whole text was written.
+    Done,
+    /// The words are no command.
+    Usage,
+    /// No file has the name.
+    Missing(Which),
+    /// The file could not be opened or read.
+    ReadFault(Which),
+    /// The file is no series file: its first failing test.
+    Format(Which, FileError),
+    /// The series of the two files have different lengths: of the collection, of the queries.
+    Mismatch(u32, u32),
+    /// More segments were asked for than a series has values: the segments, the length.
+    Settings(u32, u32),
+    /// The text could not be written.
+    WriteFault,
+    /// Memory ran out.
+    Memory,
+}
+
+impl Status {
+    ghost use Rattle.std.specs.Prelude.{◌≡◌};
+    ghost use Rattle.search_run.specs.Status.{code_of};
+
+    /// The number that the program exits with.
+    pub fn code(&self) -> u8
+        ensures { result ≡ code_of self.now }
+    {
+        match self {
+            Status::Done => 0,
+            Status::Usage => 2,
+            Status::Missing(_) => 3,
+            Status::ReadFault(_) => 4,
+            Status::Format(_, _) => 5,
+            Status::Mismatch(_, _) => 6,
+            Status::Settings(_, _) => 7,
+            Status::WriteFault => 8,
+            Status::Memory => 9,
+        }
+    }
+}

@@ -1,0 +1,189 @@
+//! Whole runs as tables: words over files in memory, and the status, the text and the line that they end with.
+
+use crate::{Status, Which, run};
+use outside::{MemFiles, MemSink, NoGate, NoMemory};
+use series_file::FileError;
+use std::alloc::Global;
+use std::test::Fail;
+
+// Four series of four values each.
+const VALUES: [i16; 16] = [0, 0, 0, 0, 10, 10, 10, 10, -10, -10, -10, -10, 0, 0, 10, 10];
+
+// The same with the labels 100, 7, 7 and the greatest of 64 bits.
+const LABELLED: &[u8] = b"ISER\x02\0\0\0\x04\0\0\0\x04\0\0\0\
+    \x64\0\0\0\0\0\0\0\x07\0\0\0\0\0\0\0\x07\0\0\0\0\0\0\0\xff\xff\xff\xff\xff\xff\xff\xff\
+    \0\0\0\0\0\0\0\0\x0a\0\x0a\0\x0a\0\x0a\0\xf6\xff\xf6\xff\xf6\xff\xf6\xff\0\0\0\0\x0a\0\x0a\0";
+
+/// A file of version 1 with these values.
+fn spelled(alloc: Global, length: u16, count: u32, values: &[i16]) -> Result<Vec<u8>, NoMemory> {
+    let mut bytes = b"ISER\x01\0".to_vec(alloc)?;
+    bytes.extend_from_slice(&length.to_le_bytes())?;
+    bytes.extend_from_slice(&count.to_le_bytes())?;
+    bytes.extend_from_slice(&[0u8; 4])?;
+    for value in values {
+        bytes.extend_from_slice(&value.to_le_bytes())?;
+    }
+    Ok(bytes)
+}
+
+/// Holds the files of the tables: `A` and its query `Q`, `A2` with labels, and small and broken ones.
+fn hold_files(alloc: Global, files: &mut MemFiles) -> Result<(), NoMemory> {
+    files.hold("A", &spelled(alloc, 4, 4, &VALUES)?)?;
+    files.hold("Q", &spelled(alloc, 4, 1, &[1, 1, 1, 1])?)?;
+    files.hold("A2", LABELLED)?;
+    files.hold("points", &spelled(alloc, 1, 2, &[-1, 1])?)?;
+    files.hold("zero", &spelled(alloc, 1, 1, &[0])?)?;
+    files.hold("none", &spelled(alloc, 4, 0, &[])?)?;
+    files.hold("three", &spelled(alloc, 3, 1, &[1, 1, 1])?)?;
+    files.hold("huge", &spelled(alloc, 4096, 1048576, &[])?)?;
+    files.hold("raw", b"\x01\0\x01\0\x01\0\x01\0")?;
+    files.hold("empty", b"")?;
+    hold_changed(alloc, files)
+}
+
+/// Holds a file with its last byte cut off, and with one byte more.
+fn hold_changed(alloc: Global, files: &mut MemFiles) -> Result<(), NoMemory> {
+    let mut bytes = spelled(alloc, 4, 4, &VALUES)?;
+    bytes.push(0)?;
+    files.hold("longer", &bytes)?;
+    bytes.truncate(47);
+    files.hold("shorter", &bytes)
+}
+
+/// The words of a line.
+fn words_of(alloc: Global, line: &str) -> Result<Vec<String>, NoMemory> {
+    let mut words = Vec::new(alloc);
+    for word in line.split(' ') {
+        words.push(String::from_str(alloc, word)?)?;
+    }
+    Ok(words)
+}
+
+#[test]
+fn runs_end_as_they_should(rt: HostRuntime) -> Result<(), Fail> {
+    let alloc = rt.alloc();
+    let cut = FileError::Truncated { at: 47, want: 48 };
+    let table = [
+        ("nearest A Q", Status::Done, "query 0\n1 0 4\n", ""),
+        ("nearest points zero", Status::Done, "query 0\n1 0 1\n", ""),
+        ("nearest none Q", Status::Done, "query 0\n", ""),
+        ("nearest A none", Status::Done, "", ""),
+        (
+            "nearest A2 Q --k 2",
+            Status::Done,
+            "query 0\n1 0 4 100\n2 3 164 18446744073709551615\n",
+            "",
+        ),
+        (
+            "nearest raw raw --raw 4",
+            Status::Done,
+            "query 0\n1 0 0\n",
+            "",
+        ),
+        (
+            "nearest A Q --k 9",
+            Status::Done,
+            "query 0\n1 0 4\n2 3 164\n3 1 324\n4 2 484\n",
+            "",
+        ),
+        (
+            "nearest shorter Q",
+            Status::Format(Which::Series, cut),
+            "",
+            "isearch: data: ends at byte 47 of 48\n",
+        ),
+        (
+            "nearest longer Q",
+            Status::Format(Which::Series, FileError::Trailing(48)),
+            "",
+            "isearch: data: bytes after 48\n",
+        ),
+        (
+            "nearest A empty",
+            Status::Format(Which::Queries, FileError::ShortHeader(0)),
+            "",
+            "isearch: queries: header ends at byte 0\n",
+        ),
+        (
+            "nearest huge Q",
+            Status::Format(Which::Series, FileError::TooLarge(4294967296)),
+            "",
+            "isearch: data: too large 4294967296\n",
+        ),
+        (
+            "nearest A three",
+            Status::Mismatch(4, 3),
+            "",
+            "isearch: lengths differ: 4 and 3\n",
+        ),
+        (
+            "nearest A nobody",
+            Status::Missing(Which::Queries),
+            "",
+            "isearch: queries: no such file\n",
+        ),
+        (
+            "nearest A",
+            Status::Usage,
+            "",
+            "isearch: the words are not a command\n",
+        ),
+        (
+            "nearest A Q --k 0",
+            Status::Usage,
+            "",
+            "isearch: the words are not a command\n",
+        ),
+    ];
+    for (line, status, text, told) in table {
+        let mut files = MemFiles::new(alloc, 16, Vec::new(alloc), Vec::new(alloc));
+        hold_files(alloc, &mut files)?;
+        let words = words_of(alloc, line)?;
+        let mut out = MemSink::new(alloc, 1000, 1000, Vec::new(alloc))?;
+        let mut err = MemSink::new(alloc, 1000, 1000, Vec::new(alloc))?;
+        let ended = run(alloc, &words, &mut files, &mut out, &mut err, &NoGate);
+        assert_eq!(rt; ended, status, "{line}");
+        assert_eq!(rt; out.written(), text.as_bytes(), "{line}");
+        assert_eq!(rt; err.written(), told.as_bytes(), "{line}");
+    }
+    Ok(())
+}
+
+#[test]
+fn runs_whose_outside_fails(rt: HostRuntime) -> Result<(), Fail> {
+    let alloc = rt.alloc();
+    // An open, a read or a write fails: which of each (0: none), the status, and the bytes that were written.
+    let table = [
+        (1, 0, 0, Status::ReadFault(Which::Series), 0),
+        (2, 0, 0, Status::ReadFault(Which::Queries), 0),
+        (0, 1, 0, Status::ReadFault(Which::Series), 0),
+        (0, 3, 0, Status::ReadFault(Which::Series), 0),
+        (0, 4, 0, Status::ReadFault(Which::Series), 0),
+        (0, 5, 0, Status::ReadFault(Which::Queries), 0),
+        (0, 20, 0, Status::Done, 14),
+        (0, 0, 1, Status::WriteFault, 0),
+        (0, 0, 2, Status::WriteFault, 4),
+        (0, 0, 3, Status::WriteFault, 8),
+        (0, 0, 4, Status::WriteFault, 12),
+        (0, 0, 5, Status::Done, 14),
+    ];
+    for (open, read, write, status, count) in table {
+        assert!(rt; count <= 14);
+        let mut files = MemFiles::new(alloc, 16, [open].to_vec(alloc)?, [read].to_vec(alloc)?);
+        hold_files(alloc, &mut files)?;
+        let words = words_of(alloc, "nearest A Q")?;
+        let mut out = MemSink::new(alloc, 1000, 4, [write].to_vec(alloc)?)?;
+        let mut err = MemSink::new(alloc, 1000, 4, [1].to_vec(alloc)?)?;
+        let ended = run(alloc, &words, &mut files, &mut out, &mut err, &NoGate);
+        assert_eq!(rt; ended, status, "open {open}, read {read}, write {write}");
+        assert_eq!(rt;
+            out.written(),
+            &b"query 0\n1 0 4\n"[..count],
+            "open {open}, read {read}, write {write}"
+        );
+        assert_eq!(rt; err.written(), b"".as_slice(),
+            "open {open}, read {read}, write {write}"
+        );
+    }
+    Ok(())
+}

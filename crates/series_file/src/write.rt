@@ -1,0 +1,93 @@
+//! Writing a series file: the one text with a header that a collection has, without labels or with them.
+//! A file without labels is of version 1, one with labels of version 2.
+
+ghost use Rattle.std.specs.Prelude.{◌≡◌, ◌*◌, ◌++◌, ◌≤◌, length, None, IfOk, IfSome, OnOk, option_copied};
+ghost use Rattle.std.specs.List.{flat_map};
+ghost use Rattle.series_file.specs.Format.{text, values_text, labels_text, value_bytes, header_one, header_two};
+ghost use Rattle.series_file.specs.declared.error.Form.TheVariants.{Headed};
+ghost use Rattle.series_core.specs.declared.rows.TheConstants.{MAX_LENGTH};
+
+use byteorder::{ByteOrder, LittleEndian};
+use outside::NoMemory;
+use series_core::Rows;
+use std::alloc::{AllocError, Global};
+
+/// The text of the collection: that of version 1, or with labels, of which there is one a series, that of version 2.
+pub fn write_series<R: Rows>(
+    alloc: Global,
+    rows: &R,
+    labels: Option<&[u64]>,
+) -> Result<Vec<u8>, NoMemory>
+    requires narrow { option_copied labels ≡ None → (R.collection rows.now).points ≤ 65535 }
+    requires each { IfSome (option_copied labels) (λ ls. length ls ≡ length (R.collection rows.now).series) }
+    ensures { IfOk result (λ bytes. bytes.items ≡ text Headed (R.collection rows.now) (option_copied labels.entry)) }
+{
+    let mut bytes = Vec::new(alloc);
+    match labels {
+        None => append_header_one(&mut bytes, rows)?,
+        Some(labels) => {
+            append_header_two(&mut bytes, rows)?;
+            append_labels(&mut bytes, labels)?;
+        }
+    }
+    append_values(&mut bytes, rows)?;
+    Ok(bytes)
+}
+
+// Appends the header of version 1, which has two bytes for the length.
+fn append_header_one<R: Rows>(bytes: &mut Vec<u8>, rows: &R) -> Result<(), AllocError>
+    requires { (R.collection rows.now).points ≤ 65535 }
+    ensures { OnOk result (bytes.new.items ≡ bytes.old.items ++ header_one (R.collection rows.now)) }
+{
+    let length = rows.length() as u16;
+    let count = rows.count();
+    bytes.extend_from_slice(&[73, 83, 69, 82, 1, 0])?;
+    bytes.extend_from_slice(&length.to_le_bytes())?;
+    bytes.extend_from_slice(&count.to_le_bytes())?;
+    bytes.extend_from_slice(&[0; 4])?;
+    Ok(())
+}
+
+// Appends the header of version 2.
+fn append_header_two<R: Rows>(bytes: &mut Vec<u8>, rows: &R) -> Result<(), AllocError>
+    ensures { OnOk result (bytes.new.items ≡ bytes.old.items ++ header_two (R.collection rows.now)) }
+{
+    let length = rows.length();
+    let count = rows.count();
+    bytes.extend_from_slice(&[73, 83, 69, 82, 2, 0])?;
+    bytes.extend_from_slice(&[0; 2])?;
+    bytes.extend_from_slice(&length.to_le_bytes())?;
+    bytes.extend_from_slice(&count.to_le_bytes())?;
+    Ok(())
+}
+
+// Appends the labels, of eight bytes each.
+fn append_labels(bytes: &mut Vec<u8>, labels: &[u64]) -> Result<(), AllocError>
+    ensures { OnOk result (bytes.new.items ≡ bytes.old.items ++ labels_text labels.now) }
+{
+    let start = bytes.len();
+    bytes.resize(start + 8 * labels.len(), 0)?;
+    LittleEndian::write_u64_into(labels, &mut bytes[start..]);
+    Ok(())
+}
+
+// Appends the values, series after series.
+fn append_values<R: Rows>(bytes: &mut Vec<u8>, rows: &R) -> Result<(), AllocError>
+    ensures { OnOk result (bytes.new.items ≡ bytes.old.items ++ values_text (R.collection rows.now)) }
+{
+    let count = rows.count();
+    for i in 0..count {
+        append_row(bytes, rows.row(i))?;
+    }
+    Ok(())
+}
+
+// Appends the values of one series, of two bytes each.
+fn append_row(bytes: &mut Vec<u8>, row: &[i16]) -> Result<(), AllocError>
+    ensures { OnOk result (bytes.new.items ≡ bytes.old.items ++ flat_map value_bytes row.now) }
+{
+    let start = bytes.len();
+    bytes.resize(start + 2 * row.len(), 0)?;
+    LittleEndian::write_i16_into(row, &mut bytes[start..]);
+    Ok(())
+}
