@@ -27,6 +27,14 @@ static void fill(int16_t *values) {
     }
 }
 
+static void scatter(int16_t *values) {
+    uint64_t x = 7;
+    for (size_t i = 0; i < (size_t)ROWS * POINTS; i++) {
+        x = x * 6364136223846793005u + 1442695040888963407u;
+        values[i] = (int16_t)(x >> 48);
+    }
+}
+
 static inline uint16_t difference(int16_t a, int16_t b) {
     return (uint16_t)((a > b ? a : b) - (a > b ? b : a));
 }
@@ -93,14 +101,15 @@ __attribute__((noinline)) static int value_by_value(const int16_t *x, const int1
 
 typedef int kernel(const int16_t *, const int16_t *, size_t, uint64_t, uint64_t *);
 
-static void pass(const char *name, kernel *within, const int16_t *values, size_t rows, size_t n, uint64_t limit) {
+static void pass(const char *name, const char *kind, kernel *within, const int16_t *values, size_t n, uint64_t limit) {
+    size_t rows = ROWS * POINTS / n;
     double begin = now();
     uint64_t check = 0;
     for (size_t i = 1; i < rows; i++) {
         uint64_t found;
         check += within(values + i * n, values, n, limit, &found) ? found : 1;
     }
-    printf("%s, %zu of %zu, limit %llu: %.0f (%llu)\n", name, rows, n, (unsigned long long)limit, now() - begin, (unsigned long long)check);
+    printf("%s, %zu of %zu, limit %llu%s: %.0f (%llu)\n", name, rows, n, (unsigned long long)limit, kind, now() - begin, (unsigned long long)check);
 }
 
 int main(void) {
@@ -111,10 +120,16 @@ int main(void) {
     for (int l = 0; l < 3; l++)
         for (int round = 0; round < ROUNDS; round++)
             for (size_t n = POINTS; n <= 4 * POINTS; n *= 4) {
-                pass("C near and far", near_and_far, values, ROWS * POINTS / n, n, limits[l]);
-                pass("C in blocks", in_blocks, values, ROWS * POINTS / n, n, limits[l]);
-                pass("C value by value", value_by_value, values, ROWS * POINTS / n, n, limits[l]);
+                pass("C near and far", "", near_and_far, values, n, limits[l]);
+                pass("C in blocks", "", in_blocks, values, n, limits[l]);
+                pass("C value by value", "", value_by_value, values, n, limits[l]);
             }
+    scatter(values);
+    for (int round = 0; round < ROUNDS; round++) {
+        pass("C near and far", " and scattered", near_and_far, values, POINTS, NONE);
+        pass("C in blocks", " and scattered", in_blocks, values, POINTS, NONE);
+        pass("C value by value", " and scattered", value_by_value, values, POINTS, NONE);
+    }
     free(values);
     return 0;
 }
