@@ -1,4 +1,5 @@
-//! Any two blocks: their squares take 32 bits each and add up in 64.
+//! Blocks that may differ by anything: their squares take 32 bits each and add up in 64.
+//! No sum wraps, since the distance of any two series stays far below 2^64.
 
 ghost use Rattle.std.specs.Prelude.{◌≡◌, ◌+◌, ◌≤◌, ◌<◌, ◌^◌, length, map, FitsSigned};
 ghost use Rattle.std.specs.List.{All};

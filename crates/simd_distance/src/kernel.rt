@@ -36,7 +36,7 @@ pub fn distance_within(x: &[i16], q: &[i16], limit: u64) -> Option<u64>
     if sum <= limit { Some(sum) } else { None }
 }
 
-/// The squared Euclidean distance of two blocks of 64 values. Near blocks take half the time of others.
+/// The squared Euclidean distance of two blocks of 64 values. Near blocks add up in half the bits.
 fn block_distance(x: &[i16], q: &[i16]) -> u64
     requires x_block { length x.now ≡ 64 }
     requires q_block { length q.now ≡ 64 }

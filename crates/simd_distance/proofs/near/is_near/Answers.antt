@@ -2,6 +2,7 @@
 use Rattle.std.proofs.Common.{◌≡◌, ◌+◌, ◌*◌, ◌<◌, drop, length, sym, subst, arith}
 use Rattle.std.specs.Prelude.{ℕ, bit_or}
 use Rattle.std.proofs.lemmas.Bool.{ltb-true, lt-ltb}
+use Rattle.std.proofs.lemmas.Simd.{Each1-replicate}
 use Rattle.std.specs.Simd.Lanes.{chunk, fold_l}
 use Rattle.simd_distance.specs.Lanes.{IsNear}
 use Rattle.simd_distance.proofs.NearLists.{Below, near_part, near_from_part, both_below, below_both, all_below, below_all, near_at_end}
@@ -9,13 +10,10 @@ use Rattle.simd_distance.proofs.near.is_near.Goals as goal
 
 pub loop-eight-init : goal.loop-eight-init
 loop-eight-init c =
-    let zero_is : 0 < 8192 = omega arith in
+    let none : 0 < 8192 = omega arith in
     record {
       sound = λ _ near. near;
-      complete = λ _. (
-        zero_is,
-        (zero_is, (zero_is, (zero_is, (zero_is, (zero_is, (zero_is, (zero_is, tt))))))),
-      );
+      complete = λ _. Each1-replicate (λ n. n < 8192) 8 0 none;
     }
 
 pub loop-eight-preserved : goal.loop-eight-preserved
