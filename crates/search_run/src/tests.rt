@@ -15,9 +15,45 @@ const LABELLED: &[u8] = b"ISER\x02\0\0\0\x04\0\0\0\x04\0\0\0\
     \0\0\0\0\0\0\0\0\x0a\0\x0a\0\x0a\0\x0a\0\xf6\xff\xf6\xff\xf6\xff\xf6\xff\0\0\0\0\x0a\0\x0a\0";
 
 // Words, and the status, the text and the line of their run.
-const RUNS: [(&str, Status, &str, &str); 15] = [
+const RUNS: [(&str, Status, &str, &str); 21] = [
     ("nearest A Q", Status::Done, "query 0\n1 0 4\n", ""),
     ("nearest points zero", Status::Done, "query 0\n1 0 1\n", ""),
+    (
+        "nearest low high",
+        Status::Done,
+        "query 0\n1 0 17591649177600\n",
+        "",
+    ),
+    (
+        "nearest first15 Q",
+        Status::Format(Which::Series, FileError::ShortHeader(15)),
+        "",
+        "isearch: data: header ends at byte 15\n",
+    ),
+    (
+        "nearest A2shorter Q",
+        Status::Format(Which::Series, FileError::Truncated { at: 79, want: 80 }),
+        "",
+        "isearch: data: ends at byte 79 of 80\n",
+    ),
+    (
+        "nearest A2longer Q",
+        Status::Format(Which::Series, FileError::Trailing(80)),
+        "",
+        "isearch: data: bytes after 80\n",
+    ),
+    (
+        "nearest A2reserved Q",
+        Status::Format(Which::Series, FileError::Reserved(1)),
+        "",
+        "isearch: data: reserved 1\n",
+    ),
+    (
+        "nearest A nothree",
+        Status::Mismatch(4, 3),
+        "",
+        "isearch: lengths differ: 4 and 3\n",
+    ),
     ("nearest none Q", Status::Done, "query 0\n", ""),
     ("nearest A none", Status::Done, "", ""),
     (
@@ -112,16 +148,39 @@ fn hold_files(alloc: Global, files: &mut MemFiles) -> Result<(), NoMemory> {
     files.hold("huge", &spelled(alloc, 4096, 1048576, &[])?)?;
     files.hold("raw", b"\x01\0\x01\0\x01\0\x01\0")?;
     files.hold("empty", b"")?;
+    files.hold("nothree", &spelled(alloc, 3, 0, &[])?)?;
+    hold_level(alloc, files, "low", i16::MIN)?;
+    hold_level(alloc, files, "high", i16::MAX)?;
     hold_changed(alloc, files)
 }
 
-/// Holds a file with its last byte cut off, and with one byte more.
+/// Holds a file of one series of 4096 values, all the same.
+fn hold_level(alloc: Global, files: &mut MemFiles, name: &str, value: i16) -> Result<(), NoMemory> {
+    let mut values = Vec::new(alloc);
+    for _ in 0..4096 {
+        values.push(value)?;
+    }
+    files.hold(name, &spelled(alloc, 4096, 1, &values)?)
+}
+
+/// Holds files with their last byte cut off, with one byte more, with a header that is cut or changed.
 fn hold_changed(alloc: Global, files: &mut MemFiles) -> Result<(), NoMemory> {
     let mut bytes = spelled(alloc, 4, 4, &VALUES)?;
     bytes.push(0)?;
     files.hold("longer", &bytes)?;
     bytes.truncate(47);
-    files.hold("shorter", &bytes)
+    files.hold("shorter", &bytes)?;
+    bytes.truncate(15);
+    files.hold("first15", &bytes)?;
+    let mut labelled = LABELLED.to_vec(alloc)?;
+    labelled.push(0)?;
+    files.hold("A2longer", &labelled)?;
+    labelled.truncate(79);
+    files.hold("A2shorter", &labelled)?;
+    if let Some(reserved) = labelled.get_mut(6) {
+        *reserved = 1;
+    }
+    files.hold("A2reserved", &labelled)
 }
 
 /// The words of a line.
