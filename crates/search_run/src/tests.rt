@@ -249,3 +249,47 @@ fn runs_whose_outside_fails(rt: HostRuntime) -> Result<(), Fail> {
     }
     Ok(())
 }
+
+#[test]
+fn each_read_may_fail(rt: HostRuntime) -> Result<(), Fail> {
+    let alloc = rt.alloc();
+    // In pieces of 16 bytes the series take three reads and their end a fourth.
+    for read in 1..=20u64 {
+        let mut files = MemFiles::new(alloc, 16, Vec::new(alloc), [read].to_vec(alloc)?);
+        hold_files(alloc, &mut files)?;
+        let words = words_of(alloc, "nearest A Q")?;
+        let mut out = MemSink::new(alloc, 1000, 1000, Vec::new(alloc))?;
+        let mut err = MemSink::new(alloc, 1000, 1000, Vec::new(alloc))?;
+        let ended = run(alloc, &words, &mut files, &mut out, &mut err, &NoGate);
+        if read <= 4 {
+            assert_eq!(rt; ended, Status::ReadFault(Which::Series), "read {read}");
+        } else if ended != Status::Done {
+            assert_eq!(rt; ended, Status::ReadFault(Which::Queries), "read {read}");
+        }
+        assert_eq!(rt;
+            out.written().is_empty(),
+            ended != Status::Done,
+            "read {read}"
+        );
+    }
+    Ok(())
+}
+
+#[test]
+fn a_line_that_is_not_told_changes_no_status(rt: HostRuntime) -> Result<(), Fail> {
+    let alloc = rt.alloc();
+    for line in ["nearest A three", "nearest A nothree"] {
+        let mut files = MemFiles::new(alloc, 16, Vec::new(alloc), Vec::new(alloc));
+        hold_files(alloc, &mut files)?;
+        let words = words_of(alloc, line)?;
+        let mut out = MemSink::new(alloc, 1000, 1000, Vec::new(alloc))?;
+        let mut err = MemSink::new(alloc, 1000, 1000, [1].to_vec(alloc)?)?;
+        let ended = run(alloc, &words, &mut files, &mut out, &mut err, &NoGate);
+        assert_eq!(rt; ended, Status::Mismatch(4, 3), "{line}");
+        assert!(rt;
+            out.written().is_empty() && err.written().is_empty(),
+            "{line}"
+        );
+    }
+    Ok(())
+}
