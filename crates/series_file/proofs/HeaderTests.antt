@@ -33,7 +33,7 @@ tests_by four version narrow middle last =
     (if nat_eq version 1 then last else narrow)
 
 -- the header in front has the tests of the whole
-header_tests-append : (head rest : List ℕ) → length head ≡ 16
+pub header_tests-append : (head rest : List ℕ) → length head ≡ 16
     → header_tests (head ++ rest) ≡ header_tests head
 header_tests-append head rest size =
     ap (λ four. tests_by four (field 4 2 (head ++ rest)) (field 6 2 (head ++ rest))
@@ -58,7 +58,7 @@ size_by version narrow middle last =
     + 2 * ((if nat_eq version 1 then middle else last) *
     (if nat_eq version 1 then narrow else middle))
 
-size_of-append : (head rest : List ℕ) → length head ≡ 16 → size_of (head ++ rest) ≡ size_of head
+pub size_of-append : (head rest : List ℕ) → length head ≡ 16 → size_of (head ++ rest) ≡ size_of head
 size_of-append head rest size =
     ap (λ m. size_by m (field 6 2 (head ++ rest)) (field 8 4 (head ++ rest))
     (field 12 4 (head ++ rest)))

@@ -5,6 +5,9 @@ pub mod Numbers
 pub mod Values
 pub mod HeaderTests
 pub mod Outcomes
+pub mod Leaving
+pub mod Reaching
+pub mod ReadAgain
 pub mod HeaderSpelled
 pub mod Spelled
 pub mod RawValues

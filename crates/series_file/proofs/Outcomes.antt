@@ -1,5 +1,5 @@
 -- What the stages of reading a file say together, where its bytes are told.
-use Rattle.std.proofs.Common.{◌≡◌, ℕ, ◌+◌, ◌<◌, ◌≤◌, List, [], ◌∷◌, ◌++◌, length, take, Option, None, Some, IfSome, sym, ap, ◌∙◌, subst, arith, append_assoc, append-nil, length-append}
+use Rattle.std.proofs.Common.{◌≡◌, ℕ, ◌+◌, ◌<◌, ◌≤◌, List, [], ◌∷◌, ◌++◌, length, take, Option, None, Some, IfSome, refl, sym, ap, ◌∙◌, subst, arith, append_assoc, append-nil, length-append}
 use Rattle.std.specs.List.{All}
 use Rattle.std.specs.Io.KnownBytes.{prepend_known, IsAtEnd}
 use Rattle.outside.specs.Taken.{taken_then}
@@ -14,7 +14,8 @@ use Rattle.series_file.specs.declared.error.FileError.{FileError}
 use Rattle.series_file.specs.declared.error.FileError.TheVariants.{ReadFault, NoMemory, ShortHeader, Truncated, Trailing}
 use Rattle.std.specs.Prelude.{nat_lt, Result, Ok, Err, MatchResult, IfOk, IfErr}
 use Rattle.std.proofs.lemmas.List.{take_all}
-use Rattle.series_file.specs.Format.{IsFile}
+use Rattle.series_file.specs.Format.{IsFile, HasText}
+use Rattle.series_core.specs.Collection.{Collection}
 use Rattle.series_file.specs.declared.error.Loaded.{Loaded}
 use Rattle.series_file.proofs.Numbers.{are_bytes}
 use Rattle.series_file.proofs.Spelled.{is_headed}
@@ -118,6 +119,29 @@ values_explain before between rest h labels e came labelled =
         ∙ moved rest ∙ x
 
 -- where header, labels and values came, the bytes are a file with a header
+headed_file : (before between rest now : Option (List ℕ)) (h : Header)
+    (labels : Option (List ℕ)) (loaded : Loaded)
+    → (came : HeaderCame before between h) → (labelled : LabelsCame h between rest labels)
+    → (valued : ValuesCame h rest now labels loaded)
+    → IsFile Headed (came.0 ++ (labelled.0 ++ valued.0)) loaded.rows loaded.labels
+headed_file before between rest now h labels loaded came labelled valued =
+    is_headed came.0 labelled.0 valued.0 loaded.rows loaded.labels
+    (are_bytes came.0 came.1.each) came.1.size came.1.tests
+    (subst (λ (g : Header). IsHeader g) same came.1.sound)
+    (are_bytes labelled.0 labelled.1.each)
+    (labelled.1.size ∙ ap label_bytes same)
+    (valued.1.labels_kept ∙ labelled.1.spelled
+    ∙ ap (λ (g : Header). labels_in g labelled.0) same)
+    (are_bytes valued.0 valued.1.each)
+    (valued.1.size ∙ ap value_bytes same)
+    valued.1.sound
+    (valued.1.points ∙ ap (λ (g : Header). g.length) same)
+    (valued.1.series ∙ ap (λ (g : Header). rows_in g valued.0) same)
+  where
+    same : h ≡ header_of came.0
+    same = came.1.spelled
+
+-- where they are told, they are all that was left
 pub headed_found : (before between rest now : Option (List ℕ)) (h : Header)
     (labels : Option (List ℕ)) (loaded : Loaded)
     → HeaderCame before between h → LabelsCame h between rest labels
@@ -130,22 +154,23 @@ headed_found before between rest now h labels loaded came labelled valued = (
       (taken_then came.0 (labelled.0 ++ valued.0) before between now came.1.taken
       (taken_then labelled.0 valued.0 between rest now labelled.1.taken valued.1.taken))
       valued.1.end
-      (is_headed came.0 labelled.0 valued.0 loaded.rows loaded.labels
-      (are_bytes came.0 came.1.each) came.1.size came.1.tests
-      (subst (λ (g : Header). IsHeader g) same came.1.sound)
-      (are_bytes labelled.0 labelled.1.each)
-      (labelled.1.size ∙ ap label_bytes same)
-      (valued.1.labels_kept ∙ labelled.1.spelled
-      ∙ ap (λ (g : Header). labels_in g labelled.0) same)
-      (are_bytes valued.0 valued.1.each)
-      (valued.1.size ∙ ap value_bytes same)
-      valued.1.sound
-      (valued.1.points ∙ ap (λ (g : Header). g.length) same)
-      (valued.1.series ∙ ap (λ (g : Header). rows_in g valued.0) same)),
+      (headed_file before between rest now h labels loaded came labelled valued),
 )
-  where
-    same : h ≡ header_of came.0
-    same = came.1.spelled
+
+-- what a file stands for has a text
+pub has_text : (form : Form) (bytes : List ℕ) (rows : Collection) (labels : Option (List ℕ))
+    → IsFile form bytes rows labels → HasText form rows labels
+has_text form bytes rows labels file =
+    record { sound = file.sound; total = file.total; fits = file.fits; spelled = refl }
+
+-- so has what came from a file with a header, told or not
+pub headed_fits : (before between rest now : Option (List ℕ)) (h : Header)
+    (labels : Option (List ℕ)) (loaded : Loaded)
+    → HeaderCame before between h → LabelsCame h between rest labels
+    → ValuesCame h rest now labels loaded → HasText Headed loaded.rows loaded.labels
+headed_fits before between rest now h labels loaded came labelled valued =
+    has_text Headed (came.0 ++ (labelled.0 ++ valued.0)) loaded.rows loaded.labels
+    (headed_file before between rest now h labels loaded came labelled valued)
 
 -- what explains an error by the file's bytes explains it
 pub explains : (form : Form) (before : Option (List ℕ)) (e : FileError)

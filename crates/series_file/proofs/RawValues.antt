@@ -1,6 +1,6 @@
 -- The values of a raw file: whole series, and no more of them than allowed.
-use Rattle.std.proofs.Common.{◌≡◌, ℕ, ◌+◌, ◌*◌, ◌/◌, ◌%◌, ◌<◌, ◌≤◌, List, [], length, Option, None, IfSome, ap, sym, ◌∙◌, subst, arith, append-nil}
-use Rattle.std.specs.Prelude.{ℤ, true}
+use Rattle.std.proofs.Common.{◌≡◌, ℕ, suc, ◌+◌, ◌*◌, ◌/◌, ◌%◌, ◌<◌, ◌≤◌, List, [], ◌∷◌, length, Option, None, Some, IfSome, ap, sym, ◌∙◌, refl, subst, ⊎_elim, arith, append-nil}
+use Rattle.std.specs.Prelude.{ℤ, true, false}
 use Rattle.std.specs.Io.KnownBytes.{prepend_known, IsAtEnd}
 use Rattle.std.proofs.Math.Nat.{le_of_mul-le-mul_right, mul-div_cancel, div-add-mod, mul_comm, mul_assoc}
 use Rattle.outside.specs.Taken.{taken_then}
@@ -8,13 +8,18 @@ use Rattle.series_core.specs.Collection.{Collection, IsCollection}
 use Rattle.series_core.specs.Flat.{rows_of}
 use Rattle.series_core.specs.declared.rows.TheConstants.{MAX_COUNT, MAX_VALUES}
 use Rattle.series_file.specs.Items.{items_from, value_at, Comes}
-use Rattle.series_file.specs.Format.{IsFile}
+use Rattle.series_file.specs.Format.{IsFile, HasText}
 use Rattle.series_file.specs.Faults.{raw_limit}
 use Rattle.series_file.specs.Stages.{Ends}
 use Rattle.series_file.specs.declared.error.Form.TheVariants.{Raw}
 use Rattle.series_file.proofs.Numbers.{are_bytes}
 use Rattle.series_file.proofs.Spelled.{is_raw}
-use Rattle.series_file.proofs.Outcomes.{told_end}
+use Rattle.series_file.proofs.Outcomes.{told_end, has_text}
+use Rattle.series_file.proofs.Leaving.{LeavesBehind}
+use Rattle.series_file.proofs.Reaching.{trailing_left}
+use Rattle.series_file.specs.Reading.{reach}
+use Rattle.std.proofs.lemmas.Option.{none-some, same_Some}
+use Rattle.std.proofs.lemmas.Bool.{cases_lt}
 use Rattle.series_file.proofs.Values.{length-items_from}
 
 -- bytes of whole series of n values are n values a series
@@ -51,6 +56,25 @@ raw_limits n bytes some within whole =
     (le_of_mul-le-mul_right product some, values)
 
 -- the bytes are a raw file
+raw_file : (n limit bytes size : ℕ) (before between : Option (List ℕ)) (items : List ℤ) (rows : Collection)
+    → 0 < n → limit ≡ raw_limit n → (came : Comes value_at 2 limit before between items bytes)
+    → bytes % (2 * n) ≡ 0 → size ≡ length items → IsCollection rows → rows.points ≡ n
+    → rows.series ≡ rows_of n (size / n) items → IsFile (Raw n) came.0 rows None
+raw_file n limit bytes size before between items rows some e came whole count sound points series =
+    is_raw n q came.0 rows (are_bytes came.0 came.1.each) (came.1.amount
+    ∙ raw_whole n bytes whole) sound points
+    (series ∙ ap (λ m. rows_of n m items)
+    (raw_count n q size some (raw_size n limit bytes size before between items came whole count))
+    ∙ ap (rows_of n q) (came.1.items ∙ ap (λ m. items_from value_at 2 m came.0) half))
+    (raw_limits n bytes some (subst (λ (m : ℕ). bytes ≤ m) e came.1.limit) whole).1
+  where
+    q : ℕ
+    q = bytes / (2 * n)
+
+    half : bytes / 2 ≡ q * n
+    half = ap (λ m. m / 2) (raw_whole n bytes whole) ∙ mul-div_cancel (q * n) (omega arith)
+
+-- where they are told, they are all that was left
 pub raw_found : (n limit bytes size : ℕ) (before between now : Option (List ℕ)) (items : List ℤ)
     (rows : Collection)
     → 0 < n → limit ≡ raw_limit n → Comes value_at 2 limit before between items bytes
@@ -64,16 +88,41 @@ raw_found n limit bytes size before between now items rows some e came whole cou
       (taken_then came.0 [] before between now came.1.taken ends.0
       ∙ ap (λ bs. prepend_known bs now) (append-nil came.0))
       ends.1
-      (is_raw n q came.0 rows (are_bytes came.0 came.1.each) (came.1.amount
-      ∙ raw_whole n bytes whole) sound points
-      (series ∙ ap (λ m. rows_of n m items)
-      (raw_count n q size some (raw_size n limit bytes size before between items came whole count))
-      ∙ ap (rows_of n q) (came.1.items ∙ ap (λ m. items_from value_at 2 m came.0) half))
-      (raw_limits n bytes some (subst (λ (m : ℕ). bytes ≤ m) e came.1.limit) whole).1),
+      (raw_file n limit bytes size before between items rows some e came whole count sound points series),
 )
-  where
-    q : ℕ
-    q = bytes / (2 * n)
 
-    half : bytes / 2 ≡ q * n
-    half = ap (λ m. m / 2) (raw_whole n bytes whole) ∙ mul-div_cancel (q * n) (omega arith)
+-- what came has a text, told or not
+pub raw_fits : (n limit bytes size : ℕ) (before between : Option (List ℕ)) (items : List ℤ)
+    (rows : Collection)
+    → 0 < n → limit ≡ raw_limit n → Comes value_at 2 limit before between items bytes
+    → bytes % (2 * n) ≡ 0 → size ≡ length items → IsCollection rows → rows.points ≡ n
+    → rows.series ≡ rows_of n (size / n) items → HasText (Raw n) rows None
+raw_fits n limit bytes size before between items rows some e came whole count sound points series =
+    has_text (Raw n) came.0 rows None
+    (raw_file n limit bytes size before between items rows some e came whole count sound points series)
+
+-- at the end of the file no byte more comes
+ends_once : (between now : Option (List ℕ)) → IsAtEnd between → (more : Ends false between now)
+    → between ≡ None
+ends_once None now ended more = refl
+ends_once (Some rest) None ended more = absurd (none-some rest (sym more.1))
+ends_once (Some rest) (Some behind) ended more =
+    let none : length rest ≡ 0 = ap length ended in
+    let some : length rest ≡ suc (length behind) = ap length (same_Some rest (more.0 ∷ behind) more.1) in
+    absurd (omega (arith, none, some))
+
+-- so a byte that comes after all that was wanted is one behind it
+pub raw_left : (n limit bytes : ℕ) (before between now : Option (List ℕ)) (items : List ℤ)
+    → limit ≡ raw_limit n → Comes value_at 2 limit before between items bytes → Ends false between now
+    → LeavesBehind (reach (Raw n)) before now
+raw_left n limit bytes before between now items e came more =
+    subst (λ (m : ℕ). LeavesBehind (λ _. m + 1) before now) e
+    (⊎_elim
+    (λ (less : bytes < limit). untold less)
+    (λ (all : limit ≤ bytes). trailing_left value_at 2 limit bytes before between now items came all more)
+    (cases_lt bytes limit))
+  where
+    untold : bytes < limit → LeavesBehind (λ _. limit + 1) before now
+    untold less =
+        subst (λ (b : Option (List ℕ)). LeavesBehind (λ _. limit + 1) b now)
+        (sym (came.1.taken ∙ ap (prepend_known came.0) (ends_once between now (came.1.end less) more))) tt

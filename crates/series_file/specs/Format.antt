@@ -18,6 +18,10 @@ magic = 73 ∷ 83 ∷ 69 ∷ 82 ∷ []
 abbrev pub value_bytes : ℤ → List ℕ
 value_bytes v = little_bytes 2 (cast_unsigned w16 v)
 
+-- how many values all series have
+abbrev pub values_of : Collection → ℕ
+values_of rows = length rows.series * rows.points
+
 -- the values, series after series
 abbrev pub values_text : Collection → List ℕ
 values_text rows = flat_map value_bytes (joined rows.series)
@@ -52,6 +56,14 @@ HasForm Headed rows (Some labels) = (length labels ≡ length rows.series) × Al
 -- the bytes are a series file of this form, and stand for this collection with these labels
 pub record IsFile (form : Form) (bytes : List ℕ) (rows : Collection) (labels : Option (List ℕ)) : Type 0 where
   pub sound : IsCollection rows
-  pub total : length rows.series * rows.points ≤ MAX_VALUES
+  pub total : values_of rows ≤ MAX_VALUES
   pub fits : HasForm form rows labels
   pub spelled : bytes ≡ text form rows labels
+
+-- the collection with these labels has a text in this form
+abbrev pub HasText : Form → Collection → Option (List ℕ) → Type 0
+HasText form rows labels = IsFile form (text form rows labels) rows labels
+
+-- with no more values than a file may have, the bytes are the series file of this collection with these labels
+abbrev pub SpellsFile : Collection → Option (List ℕ) → List ℕ → Type 0
+SpellsFile rows labels bytes = values_of rows ≤ MAX_VALUES → IsFile Headed bytes rows labels

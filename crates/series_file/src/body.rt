@@ -1,13 +1,11 @@
 //! What follows the header of a series file: the labels, the values and the end, in this order.
 //! Each part is read whole or refused, and nothing is read past one byte behind the end.
 
-ghost use Rattle.std.specs.Prelude.{◌≡◌, ◌≢◌, ◌+◌, ◌*◌, ◌<◌, ◌≤◌, length, IfOk, IfErr, IfSome, IsErrOf};
-ghost use Rattle.std.specs.Io.KnownBytes.{IsAtEnd};
-ghost use Rattle.outside.specs.Count.{Rose};
-ghost use Rattle.outside.specs.Files.{IsClosed};
+ghost use Rattle.std.specs.Prelude.{◌≡◌, ◌+◌, IfOk, IfErr};
 ghost use Rattle.series_file.specs.Stages.{Ends};
+ghost use Rattle.series_file.specs.Reading.{Leaves, Reads};
 ghost use Rattle.series_file.specs.Header.{IsHeader};
-ghost use Rattle.series_file.specs.Body.{LabelsCame, ValuesCame, ExplainsSize, label_bytes, value_bytes, file_bytes};
+ghost use Rattle.series_file.specs.Body.{LabelsCame, ValuesCame, ExplainsSize, label_bytes, value_bytes};
 ghost use Rattle.series_file.specs.declared.error.FileError.TheVariants.{ReadFault};
 
 use crate::error::{FileError, Loaded};
@@ -27,15 +25,8 @@ pub fn read_labels<F: Files>(
     requires { IsHeader header }
     ensures came { IfOk result (LabelsCame header (F.left files.old) (F.left files.new)) }
     ensures refused { IfErr result (ExplainsSize header 16 (F.left files.old)) }
-    ensures fault { IsErrOf result ReadFault → Rose (F.faults files.old) (F.faults files.new)
-        × IsClosed (F.held files.new) (F.at files.new) (F.left files.new)
-        × IfSome (F.blamed files.new) (λ blamed. F.at files.old ≡ Some blamed) }
-    ensures stays_open { (result ≢ Err ReadFault)
-        → (F.at files.new ≡ F.at files.old) × (F.blamed files.new ≡ F.blamed files.old) }
-    ensures kept { F.held files.new ≡ F.held files.old }
-    ensures counts { (F.faults files.old ≤ F.faults files.new) × (F.misses files.old ≤ F.misses files.new) }
-    ensures reliable { F.reliable files.old → (result ≢ Err ReadFault)
-        × (F.faults files.new ≡ F.faults files.old) × F.reliable files.new }
+    ensures left { IfErr result (Leaves (λ _. label_bytes header + (value_bytes header + 1)) (F.left files.old) (F.left files.new)) }
+    ensures files { Reads F.held F.left F.at F.blamed F.faults F.misses F.reliable result files.old files.new }
 {
     if !header.labelled {
         return Ok(None);
@@ -63,15 +54,8 @@ pub fn read_values<F: Files>(
     requires { IsHeader header }
     ensures came { IfOk result (ValuesCame header (F.left files.old) (F.left files.new) labels) }
     ensures refused { IfErr result (ExplainsSize header (16 + label_bytes header) (F.left files.old)) }
-    ensures fault { IsErrOf result ReadFault → Rose (F.faults files.old) (F.faults files.new)
-        × IsClosed (F.held files.new) (F.at files.new) (F.left files.new)
-        × IfSome (F.blamed files.new) (λ blamed. F.at files.old ≡ Some blamed) }
-    ensures stays_open { (result ≢ Err ReadFault)
-        → (F.at files.new ≡ F.at files.old) × (F.blamed files.new ≡ F.blamed files.old) }
-    ensures kept { F.held files.new ≡ F.held files.old }
-    ensures counts { (F.faults files.old ≤ F.faults files.new) × (F.misses files.old ≤ F.misses files.new) }
-    ensures reliable { F.reliable files.old → (result ≢ Err ReadFault)
-        × (F.faults files.new ≡ F.faults files.old) × F.reliable files.new }
+    ensures left { IfErr result (Leaves (λ _. value_bytes header + 1) (F.left files.old) (F.left files.new)) }
+    ensures files { Reads F.held F.left F.at F.blamed F.faults F.misses F.reliable result files.old files.new }
 {
     let want = header.value_bytes();
     let arrived: Arrived<i16> = match read_items(alloc, files, want) {
@@ -94,19 +78,11 @@ pub fn read_values<F: Files>(
 pub fn is_at_end<F: Files>(files: &mut F) -> Result<bool, FileError>
     ensures ends { IfOk result (λ ends. Ends ends (F.left files.old) (F.left files.new)) }
     ensures errors { IfErr result (λ e. e ≡ ReadFault) }
-    ensures fault { IsErrOf result ReadFault → Rose (F.faults files.old) (F.faults files.new)
-        × IsClosed (F.held files.new) (F.at files.new) (F.left files.new)
-        × IfSome (F.blamed files.new) (λ blamed. F.at files.old ≡ Some blamed) }
-    ensures stays_open { (result ≢ Err ReadFault)
-        → (F.at files.new ≡ F.at files.old) × (F.blamed files.new ≡ F.blamed files.old) }
-    ensures kept { F.held files.new ≡ F.held files.old }
-    ensures counts { (F.faults files.old ≤ F.faults files.new) × (F.misses files.old ≤ F.misses files.new) }
-    ensures reliable { F.reliable files.old → (result ≢ Err ReadFault)
-        × (F.faults files.new ≡ F.faults files.old) × F.reliable files.new }
+    ensures files { Reads F.held F.left F.at F.blamed F.faults F.misses F.reliable result files.old files.new }
 {
     let mut byte = [0u8; 1];
     match fill(files, &mut byte) {
         Ok(count) => Ok(count == 0),
-        Err(_) => Err(FileError::ReadFault),
+        Err(e) => Err(e),
     }
 }

@@ -1,9 +1,9 @@
 //! The header of a series file: its fields by version, and the tests that it has to pass, in their order.
 
-ghost use Rattle.std.specs.Prelude.{◌≡◌, ◌*◌, ◌<◌, ◌≤◌, ◌==◌, None, Some, MatchResult, length, if◌then◌else◌};
+ghost use Rattle.std.specs.Prelude.{◌≡◌, ◌*◌, ◌<◌, ◌≤◌, ◌==◌, None, Some, length, if◌then◌else◌};
 ghost use Rattle.std.specs.List.{All};
-ghost use Rattle.series_file.specs.Faults.{first_of, header_tests, field_tests};
-ghost use Rattle.series_file.specs.Header.{header_of, IsHeader};
+ghost use Rattle.series_file.specs.Faults.{header_tests, field_tests};
+ghost use Rattle.series_file.specs.Header.{header_of, IsHeader, TestsTo};
 
 use crate::error::FileError;
 use byteorder::{ByteOrder, LittleEndian};
@@ -75,9 +75,7 @@ impl Header {
 /// The header that these bytes spell, or the first test that they fail.
 pub fn parse(bytes: &[u8]) -> Result<Header, FileError>
     requires { length bytes.now ≡ 16 }
-    ensures exact { MatchResult result
-        (λ header. (first_of (header_tests bytes.now) ≡ None) × (header ≡ header_of bytes.now) × IsHeader header)
-        (λ e. first_of (header_tests bytes.now) ≡ Some e) }
+    ensures exact { TestsTo (header_tests bytes.now) (header_of bytes.now) result }
     ensures each { All (λ b. b < 256) bytes.now }
 {
     if bytes[..4] != [73, 83, 69, 82] {
@@ -96,10 +94,8 @@ pub fn parse(bytes: &[u8]) -> Result<Header, FileError>
 
 // The fields as a header, or the first test that they fail.
 fn test(labelled: bool, length: u32, count: u32, reserved: u32) -> Result<Header, FileError>
-    ensures { MatchResult result
-        (λ header. (first_of (field_tests length count reserved) ≡ None)
-        × (header ≡ record { labelled = labelled; length = length; count = count }) × IsHeader header)
-        (λ e. first_of (field_tests length count reserved) ≡ Some e) }
+    ensures { TestsTo (field_tests length count reserved)
+        (record { labelled = labelled; length = length; count = count }) result }
 {
     if length == 0 || length > MAX_LENGTH {
         return Err(FileError::Length(length));

@@ -1,11 +1,10 @@
 //! Reading items piece by piece: as many as are wanted, or as many as the file has.
 //! Memory grows with the bytes that came, never by what is wanted alone.
 
-ghost use Rattle.std.specs.Prelude.{◌≡◌, ◌≢◌, ◌*◌, ◌/◌, ◌%◌, ◌++◌, ◌<◌, ◌≤◌, ◌⊎◌, length, min, IfOk, IfErr, IfSome, IsErrOf, OnOk};
+ghost use Rattle.std.specs.Prelude.{◌≡◌, ◌/◌, ◌%◌, ◌++◌, ◌<◌, ◌≤◌, ◌⊎◌, length, min, IfOk, IfErr, OnOk};
 ghost use Rattle.std.specs.List.{All};
-ghost use Rattle.outside.specs.Count.{Rose};
-ghost use Rattle.outside.specs.Files.{IsClosed};
 ghost use Rattle.series_file.specs.Items.{items_from, Comes};
+ghost use Rattle.series_file.specs.Reading.{Leaves, Reads};
 ghost use Rattle.series_file.specs.declared.error.FileError.TheVariants.{ReadFault, NoMemory};
 
 use crate::error::FileError;
@@ -36,15 +35,8 @@ pub fn read_items<F: Files, T: Item>(
     requires whole_want { want % T.SIZE ≡ 0 }
     ensures came { IfOk result (λ arrived. Comes T.at T.SIZE want (F.left files.old) (F.left files.new) arrived.items.items arrived.bytes) }
     ensures errors { IfErr result (λ e. (e ≡ ReadFault) ⊎ (e ≡ NoMemory)) }
-    ensures fault { IsErrOf result ReadFault → Rose (F.faults files.old) (F.faults files.new)
-        × IsClosed (F.held files.new) (F.at files.new) (F.left files.new)
-        × IfSome (F.blamed files.new) (λ blamed. F.at files.old ≡ Some blamed) }
-    ensures stays_open { (result ≢ Err ReadFault)
-        → (F.at files.new ≡ F.at files.old) × (F.blamed files.new ≡ F.blamed files.old) }
-    ensures kept { F.held files.new ≡ F.held files.old }
-    ensures counts { (F.faults files.old ≤ F.faults files.new) × (F.misses files.old ≤ F.misses files.new) }
-    ensures reliable { F.reliable files.old → (result ≢ Err ReadFault)
-        × (F.faults files.new ≡ F.faults files.old) × F.reliable files.new }
+    ensures left { IfErr result (Leaves (λ _. want) (F.left files.old) (F.left files.new)) }
+    ensures files { Reads F.held F.left F.at F.blamed F.faults F.misses F.reliable result files.old files.new }
 {
     let mut buffer = room(alloc, 0u8, PIECE)?;
     let mut cells = room(alloc, T::ZERO, PIECE / T::SIZE)?;
@@ -72,15 +64,8 @@ fn read_pieces<F: Files, T: Item>(
     requires whole_want { want % T.SIZE ≡ 0 }
     ensures came { IfOk result (λ arrived. Comes T.at T.SIZE want (F.left files.old) (F.left files.new) arrived.items.items arrived.bytes) }
     ensures errors { IfErr result (λ e. (e ≡ ReadFault) ⊎ (e ≡ NoMemory)) }
-    ensures fault { IsErrOf result ReadFault → Rose (F.faults files.old) (F.faults files.new)
-        × IsClosed (F.held files.new) (F.at files.new) (F.left files.new)
-        × IfSome (F.blamed files.new) (λ blamed. F.at files.old ≡ Some blamed) }
-    ensures stays_open { (result ≢ Err ReadFault)
-        → (F.at files.new ≡ F.at files.old) × (F.blamed files.new ≡ F.blamed files.old) }
-    ensures kept { F.held files.new ≡ F.held files.old }
-    ensures counts { (F.faults files.old ≤ F.faults files.new) × (F.misses files.old ≤ F.misses files.new) }
-    ensures reliable { F.reliable files.old → (result ≢ Err ReadFault)
-        × (F.faults files.new ≡ F.faults files.old) × F.reliable files.new }
+    ensures left { IfErr result (Leaves (λ _. want) (F.left files.old) (F.left files.new)) }
+    ensures files { Reads F.held F.left F.at F.blamed F.faults F.misses F.reliable result files.old files.new }
 {
     let mut items = Vec::new(alloc);
     let mut bytes = 0u64;
@@ -88,7 +73,7 @@ fn read_pieces<F: Files, T: Item>(
         let piece = piece_of(want - bytes, buffer.len());
         let count = match fill(files, &mut buffer[..piece]) {
             Ok(count) => count,
-            Err(_) => return Err(FileError::ReadFault),
+            Err(e) => return Err(e),
         };
         append(&mut items, cells, &buffer[..count])?;
         bytes += count as u64;

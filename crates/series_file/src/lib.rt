@@ -18,4 +18,8 @@ pub use read::read_series;
 pub use write::write_series;
 
 #[cfg(test)]
+mod plain_reader;
+#[cfg(test)]
+mod table_tests;
+#[cfg(test)]
 mod tests;

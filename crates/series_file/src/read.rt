@@ -1,16 +1,13 @@
 //! Reading a series file: its header, its labels, its values and its end, in this order.
 //! The first test that fails is the error; nothing is read past one byte behind the end that the file should have.
 
-ghost use Rattle.std.specs.Prelude.{◌≡◌, ◌≢◌, ◌<◌, ◌≤◌, IfOk, IfErr, IfSome, IsErrOf};
-ghost use Rattle.std.specs.Io.KnownBytes.{IsAtEnd};
-ghost use Rattle.outside.specs.Count.{Rose};
-ghost use Rattle.outside.specs.Files.{IsClosed};
-ghost use Rattle.series_file.specs.Format.{IsFile};
+ghost use Rattle.std.specs.Prelude.{◌≡◌, ◌<◌, ◌≤◌, IfOk, IfErr};
+ghost use Rattle.series_file.specs.Format.{HasText};
+ghost use Rattle.series_file.specs.Reading.{ReadsWhole, reach, Leaves, ReadsBack, Reads};
 ghost use Rattle.series_file.specs.Stages.{IsForm, HeaderCame, Explains};
 ghost use Rattle.series_file.specs.Header.{IsHeader};
 ghost use Rattle.series_file.specs.Faults.{raw_limit};
 ghost use Rattle.series_file.specs.declared.error.Form.TheVariants.{Headed, Raw};
-ghost use Rattle.series_file.specs.declared.error.FileError.TheVariants.{ReadFault};
 
 use crate::body::{is_at_end, read_labels, read_values};
 use crate::error::{FileError, Form, Loaded};
@@ -24,18 +21,12 @@ use std::alloc::Global;
 /// Reads the open file to its end, and gives the collection that it spells. After `ReadFault` no file is open.
 pub fn read_series<F: Files>(alloc: Global, files: &mut F, form: Form) -> Result<Loaded, FileError>
     requires { IsForm form }
-    ensures found { IfOk result (λ loaded. IsAtEnd (F.left files.new)
-        × IfSome (F.left files.old) (λ bytes. IsFile form bytes loaded.rows loaded.labels)) }
+    ensures found { IfOk result (ReadsWhole form (F.left files.old) (F.left files.new)) }
+    ensures fits { IfOk result (λ loaded. HasText form loaded.rows loaded.labels) }
     ensures refused { IfErr result (Explains form (F.left files.old)) }
-    ensures fault { IsErrOf result ReadFault → Rose (F.faults files.old) (F.faults files.new)
-        × IsClosed (F.held files.new) (F.at files.new) (F.left files.new)
-        × IfSome (F.blamed files.new) (λ blamed. F.at files.old ≡ Some blamed) }
-    ensures stays_open { (result ≢ Err ReadFault)
-        → (F.at files.new ≡ F.at files.old) × (F.blamed files.new ≡ F.blamed files.old) }
-    ensures kept { F.held files.new ≡ F.held files.old }
-    ensures counts { (F.faults files.old ≤ F.faults files.new) × (F.misses files.old ≤ F.misses files.new) }
-    ensures reliable { F.reliable files.old → (result ≢ Err ReadFault)
-        × (F.faults files.new ≡ F.faults files.old) × F.reliable files.new }
+    ensures back { ReadsBack form (F.left files.old) result }
+    ensures left { IfErr result (Leaves (reach form) (F.left files.old) (F.left files.new)) }
+    ensures files { Reads F.held F.left F.at F.blamed F.faults F.misses F.reliable result files.old files.new }
 {
     match form {
         Form::Headed => read_headed(alloc, files),
@@ -45,18 +36,11 @@ pub fn read_series<F: Files>(alloc: Global, files: &mut F, form: Form) -> Result
 
 // Reads a file with a header.
 fn read_headed<F: Files>(alloc: Global, files: &mut F) -> Result<Loaded, FileError>
-    ensures found { IfOk result (λ loaded. IsAtEnd (F.left files.new)
-        × IfSome (F.left files.old) (λ bytes. IsFile Headed bytes loaded.rows loaded.labels)) }
+    ensures found { IfOk result (ReadsWhole Headed (F.left files.old) (F.left files.new)) }
+    ensures fits { IfOk result (λ loaded. HasText Headed loaded.rows loaded.labels) }
     ensures refused { IfErr result (Explains Headed (F.left files.old)) }
-    ensures fault { IsErrOf result ReadFault → Rose (F.faults files.old) (F.faults files.new)
-        × IsClosed (F.held files.new) (F.at files.new) (F.left files.new)
-        × IfSome (F.blamed files.new) (λ blamed. F.at files.old ≡ Some blamed) }
-    ensures stays_open { (result ≢ Err ReadFault)
-        → (F.at files.new ≡ F.at files.old) × (F.blamed files.new ≡ F.blamed files.old) }
-    ensures kept { F.held files.new ≡ F.held files.old }
-    ensures counts { (F.faults files.old ≤ F.faults files.new) × (F.misses files.old ≤ F.misses files.new) }
-    ensures reliable { F.reliable files.old → (result ≢ Err ReadFault)
-        × (F.faults files.new ≡ F.faults files.old) × F.reliable files.new }
+    ensures left { IfErr result (Leaves (reach Headed) (F.left files.old) (F.left files.new)) }
+    ensures files { Reads F.held F.left F.at F.blamed F.faults F.misses F.reliable result files.old files.new }
 {
     let header = match read_header(files) {
         Ok(header) => header,
@@ -74,20 +58,13 @@ fn read_header<F: Files>(files: &mut F) -> Result<Header, FileError>
     ensures came { IfOk result (HeaderCame (F.left files.old) (F.left files.new)) }
     ensures sound { IfOk result IsHeader }
     ensures refused { IfErr result (Explains Headed (F.left files.old)) }
-    ensures fault { IsErrOf result ReadFault → Rose (F.faults files.old) (F.faults files.new)
-        × IsClosed (F.held files.new) (F.at files.new) (F.left files.new)
-        × IfSome (F.blamed files.new) (λ blamed. F.at files.old ≡ Some blamed) }
-    ensures stays_open { (result ≢ Err ReadFault)
-        → (F.at files.new ≡ F.at files.old) × (F.blamed files.new ≡ F.blamed files.old) }
-    ensures kept { F.held files.new ≡ F.held files.old }
-    ensures counts { (F.faults files.old ≤ F.faults files.new) × (F.misses files.old ≤ F.misses files.new) }
-    ensures reliable { F.reliable files.old → (result ≢ Err ReadFault)
-        × (F.faults files.new ≡ F.faults files.old) × F.reliable files.new }
+    ensures left { IfErr result (Leaves (reach Headed) (F.left files.old) (F.left files.new)) }
+    ensures files { Reads F.held F.left F.at F.blamed F.faults F.misses F.reliable result files.old files.new }
 {
     let mut bytes = [0u8; HEADER_BYTES];
     let count = match fill(files, &mut bytes) {
         Ok(count) => count,
-        Err(_) => return Err(FileError::ReadFault),
+        Err(e) => return Err(e),
     };
     if count < HEADER_BYTES {
         return Err(FileError::ShortHeader(count as u64));
@@ -99,18 +76,11 @@ fn read_header<F: Files>(files: &mut F) -> Result<Header, FileError>
 fn read_raw<F: Files>(alloc: Global, files: &mut F, length: u32) -> Result<Loaded, FileError>
     requires some_point { 0 < length }
     requires limit { length ≤ MAX_LENGTH }
-    ensures found { IfOk result (λ loaded. IsAtEnd (F.left files.new)
-        × IfSome (F.left files.old) (λ bytes. IsFile (Raw length) bytes loaded.rows loaded.labels)) }
+    ensures found { IfOk result (ReadsWhole (Raw length) (F.left files.old) (F.left files.new)) }
+    ensures fits { IfOk result (λ loaded. HasText (Raw length) loaded.rows loaded.labels) }
     ensures refused { IfErr result (Explains (Raw length) (F.left files.old)) }
-    ensures fault { IsErrOf result ReadFault → Rose (F.faults files.old) (F.faults files.new)
-        × IsClosed (F.held files.new) (F.at files.new) (F.left files.new)
-        × IfSome (F.blamed files.new) (λ blamed. F.at files.old ≡ Some blamed) }
-    ensures stays_open { (result ≢ Err ReadFault)
-        → (F.at files.new ≡ F.at files.old) × (F.blamed files.new ≡ F.blamed files.old) }
-    ensures kept { F.held files.new ≡ F.held files.old }
-    ensures counts { (F.faults files.old ≤ F.faults files.new) × (F.misses files.old ≤ F.misses files.new) }
-    ensures reliable { F.reliable files.old → (result ≢ Err ReadFault)
-        × (F.faults files.new ≡ F.faults files.old) × F.reliable files.new }
+    ensures left { IfErr result (Leaves (reach (Raw length)) (F.left files.old) (F.left files.new)) }
+    ensures files { Reads F.held F.left F.at F.blamed F.faults F.misses F.reliable result files.old files.new }
 {
     let limit = raw_limit(length);
     let arrived: Arrived<i16> = match read_items(alloc, files, limit) {

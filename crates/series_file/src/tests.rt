@@ -8,8 +8,8 @@ use series_core::{Flat, Rows};
 use std::alloc::Global;
 use std::test::Fail;
 
-// Four series of length 4, in a file of version 1.
-const PLAIN: [u8; 48] = [
+/// Four series of length 4, in a file of version 1.
+pub const PLAIN: [u8; 48] = [
     0x49, 0x53, 0x45, 0x52, 1, 0, 4, 0, 4, 0, 0, 0, 0, 0, 0, 0, //
     0, 0, 0, 0, 0, 0, 0, 0, 10, 0, 10, 0, 10, 0, 10, 0, //
     0xf6, 0xff, 0xf6, 0xff, 0xf6, 0xff, 0xf6, 0xff, 0, 0, 0, 0, 10, 0, 10, 0,

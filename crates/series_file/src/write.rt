@@ -1,9 +1,10 @@
 //! Writing a series file: the one text with a header that a collection has, without labels or with them.
 //! A file without labels is of version 1, one with labels of version 2.
 
-ghost use Rattle.std.specs.Prelude.{◌≡◌, ◌*◌, ◌++◌, ◌≤◌, length, None, IfOk, IfSome, OnOk, option_copied};
-ghost use Rattle.std.specs.List.{flat_map};
-ghost use Rattle.series_file.specs.Format.{text, values_text, labels_text, value_bytes, header_one, header_two};
+ghost use Rattle.std.specs.Prelude.{◌≡◌, ◌*◌, ◌^◌, ◌++◌, ◌<◌, ◌≤◌, length, None, IfOk, IfSome, OnOk, option_copied};
+ghost use Rattle.std.specs.List.{All, flat_map};
+ghost use Rattle.series_core.specs.Collection.{IsCollection};
+ghost use Rattle.series_file.specs.Format.{SpellsFile, text, values_text, labels_text, value_bytes, header_one, header_two};
 ghost use Rattle.series_file.specs.declared.error.Form.TheVariants.{Headed};
 ghost use Rattle.series_core.specs.declared.rows.TheConstants.{MAX_LENGTH};
 
@@ -13,6 +14,7 @@ use series_core::Rows;
 use std::alloc::{AllocError, Global};
 
 /// The text of the collection: that of version 1, or with labels, of which there is one a series, that of version 2.
+/// With no more values than a file may have it is a series file, which is read to the same again.
 pub fn write_series<R: Rows>(
     alloc: Global,
     rows: &R,
@@ -20,7 +22,8 @@ pub fn write_series<R: Rows>(
 ) -> Result<Vec<u8>, NoMemory>
     requires narrow { option_copied labels ≡ None → (R.collection rows.now).points ≤ 65535 }
     requires each { IfSome (option_copied labels) (λ ls. length ls ≡ length (R.collection rows.now).series) }
-    ensures { IfOk result (λ bytes. bytes.items ≡ text Headed (R.collection rows.now) (option_copied labels.entry)) }
+    ensures text { IfOk result (λ bytes. bytes.items ≡ text Headed (R.collection rows.now) (option_copied labels.entry)) }
+    ensures file { IfOk result (λ bytes. SpellsFile (R.collection rows.now) (option_copied labels.entry) bytes.items) }
 {
     let mut bytes = Vec::new(alloc);
     match labels {
@@ -63,7 +66,8 @@ fn append_header_two<R: Rows>(bytes: &mut Vec<u8>, rows: &R) -> Result<(), Alloc
 
 // Appends the labels, of eight bytes each.
 fn append_labels(bytes: &mut Vec<u8>, labels: &[u64]) -> Result<(), AllocError>
-    ensures { OnOk result (bytes.new.items ≡ bytes.old.items ++ labels_text labels.now) }
+    ensures text { OnOk result (bytes.new.items ≡ bytes.old.items ++ labels_text labels.now) }
+    ensures each { All (λ l. l < 2 ^ 64) labels.now }
 {
     let start = bytes.len();
     bytes.resize(start + 8 * labels.len(), 0)?;
@@ -73,7 +77,8 @@ fn append_labels(bytes: &mut Vec<u8>, labels: &[u64]) -> Result<(), AllocError>
 
 // Appends the values, series after series.
 fn append_values<R: Rows>(bytes: &mut Vec<u8>, rows: &R) -> Result<(), AllocError>
-    ensures { OnOk result (bytes.new.items ≡ bytes.old.items ++ values_text (R.collection rows.now)) }
+    ensures text { OnOk result (bytes.new.items ≡ bytes.old.items ++ values_text (R.collection rows.now)) }
+    ensures sound { IsCollection (R.collection rows.now) }
 {
     let count = rows.count();
     for i in 0..count {

@@ -11,5 +11,5 @@ returns-in-Err-clause-refused g c =
     rw c.refusal.ensures
     (refused c.args.which _ _ _ _ c.args.form _ _ _ _ _ c.in-Err.cause c.in-Ok.ensures.opened c.in-Err.ensures.refused
     (λ e. let err : FileError → Result Loaded FileError = λ x. Err x in
-    let f = c.in-Err.ensures.fault (ap err e) in
+    let f = c.in-Err.ensures.files.failed (ap err e) in
     (Rose-wider c.in-Ok.ensures.counts.0 f.0 (omega arith), f.2)))

@@ -1,6 +1,9 @@
 use Rattle.std.proofs.Common.{◌≡◌, ◌++◌, ◌/◌, ◌%◌, ◌+◌, ◌-◌, ◌≤◌, ◌<◌, ◌∙◌, ap, sym, refl, length, length-take, length-drop, length-append, take, drop, arith, ℕ, min}
 use Rattle.std.proofs.Math.Nat.{zero-mod}
 use Rattle.series_file.proofs.Arriving.{Comes-piece, Comes-nothing, whole_sum, whole_less, whole_min}
+use Rattle.std.proofs.lemmas.Result.{err_from_is_err_and}
+use Rattle.outside.specs.Taken.{taken_then}
+use Rattle.series_file.proofs.Leaving.{ok-not-err, Leaves-memory}
 use Rattle.series_file.proofs.items.read_pieces.Goals as goal
 
 pub returns-then-count-piece-clause-came : goal.returns-then-count-piece-clause-came
@@ -24,6 +27,7 @@ loop-bytes-preserved g c =
     let before = c.loop-bytes.invariant in
     let filled = c.in-Ok.ensures in
     let added = c.in_ok-append.ensures in
+    let still = filled.files.stays_open (ok-not-err _ _) in
     let fits : c.in-Ok.count ≤ length c.fill.new.buffer =
     omega (arith, filled.amount.0, c.fill.auto.buffer) in
     let count : c.in-Ok.count ≡ min (c.args.want - c.loop-bytes.bytes)
@@ -61,14 +65,10 @@ loop-bytes-preserved g c =
           (length c.loop-bytes.buffer)
           (whole_less g.T.Item.SIZE c.loop-bytes.bytes c.args.want before.limit before.whole c.requires.whole_want) whole_room));
       room = added.cells ∙ before.room ∙ ap (λ m. m / g.T.Item.SIZE) (sym size);
-      stays_open = (
-        filled.stays_open.0 ∙ before.stays_open.0,
-        filled.stays_open.1
-            ∙ before.stays_open.1,
-      );
-      kept = filled.kept ∙ before.kept;
-      counts = (omega (arith, filled.counts.0), omega (arith, filled.counts.1));
-      reliable = λ h. let b = before.reliable h in let r = filled.reliable b.1 in (r.1 ∙ b.0, r.2);
+      stays_open = (still.0 ∙ before.stays_open.0, still.1 ∙ before.stays_open.1);
+      kept = filled.files.kept ∙ before.kept;
+      counts = (omega (arith, filled.files.counts.0), omega (arith, filled.files.counts.1));
+      reliable = λ h. let b = before.reliable h in let r = filled.files.sure b.1 in (r.1 ∙ b.0, r.2);
     }
 
 pub loop-bytes-init : goal.loop-bytes-init
@@ -82,3 +82,24 @@ loop-bytes-init g c = record {
   counts = (omega arith, omega arith);
   reliable = λ h. (refl, h);
 }
+
+-- Memory ran out after at most all that was wanted.
+pub returns-in_err-append-clause-left : goal.returns-in_err-append-clause-left
+returns-in_err-append-clause-left g c =
+    let before = c.loop-bytes.invariant in
+    let filled = c.in-Ok.ensures in
+    let failed = err_from_is_err_and c.from_residual.result c.from_residual.ensures.1 in
+    let fits : c.in-Ok.count ≤ length c.fill.new.buffer =
+    omega (arith, filled.amount.0, c.fill.auto.buffer) in
+    let limit : c.loop-bytes.bytes + c.in-Ok.count ≤ c.args.want =
+    omega (arith, c.piece_of-piece.ensures, length-take {A = ℕ}, filled.amount.0, before.limit) in
+    rw (failed.1, failed.2)
+    (Leaves-memory c.args.want (before.came.0 ++ take c.in-Ok.count c.fill.new.buffer) _ _
+    (taken_then before.came.0 (take c.in-Ok.count c.fill.new.buffer) _ _ _ before.came.1.taken filled.taken)
+    (omega (
+      arith,
+      length-append before.came.0 (take c.in-Ok.count c.fill.new.buffer),
+      length-take c.in-Ok.count c.fill.new.buffer,
+      before.came.1.amount,
+      limit,
+    )))

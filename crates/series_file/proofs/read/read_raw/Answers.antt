@@ -1,7 +1,7 @@
 use Rattle.std.proofs.Common.{◌*◌, ◌≤◌, ◌∙◌, ap, sym, subst, Bool}
 use Rattle.series_file.specs.Faults.{raw_limit}
 use Rattle.series_file.specs.Stages.{Ends}
-use Rattle.series_file.proofs.RawValues.{raw_size, raw_count, raw_limits, raw_found}
+use Rattle.series_file.proofs.RawValues.{raw_size, raw_count, raw_limits, raw_found, raw_fits, raw_left}
 use Rattle.series_file.proofs.read.read_raw.Goals as goal
 
 -- There are whole series alone, and no more values than allowed.
@@ -40,3 +40,18 @@ returns-clause-found g c =
     let rows = c.from_values-rows.ensures in
     raw_found c.args.length _ _ _ _ _ _ _ c.from_values-rows.result c.requires.some_point c.raw_limit-limit.ensures
     c.in-Ok.ensures.came whole c.in-Ok.arrived.items.ok.0 ends rows.sound rows.points rows.series
+
+pub returns-clause-fits : goal.returns-clause-fits
+returns-clause-fits g c =
+    let whole = rw c.from.ensures at c.if-arrived-from-ne0.false in
+    let rows = c.from_values-rows.ensures in
+    raw_fits c.args.length _ _ _ _ _ _ c.from_values-rows.result c.requires.some_point c.raw_limit-limit.ensures
+    c.in-Ok.ensures.came whole c.in-Ok.arrived.items.ok.0 rows.sound rows.points rows.series
+
+-- One byte behind the limit was read.
+pub returns-in-Ok-false-clause-left : goal.returns-in-Ok-false-clause-left
+returns-in-Ok-false-clause-left g c =
+    let more = subst (λ (b : Bool). Ends b (g.F.Files.left c.read_items.new.files)
+    (g.F.Files.left c.is_at_end.new.files))
+    c.in-Ok-false.field-0-test c.in-Ok-false.ensures.ends in
+    raw_left c.args.length _ _ _ _ _ _ c.raw_limit-limit.ensures c.in-Ok.ensures.came more
