@@ -1,0 +1,5 @@
+pub mod Places
+pub mod Ranking
+pub mod Shutting
+pub mod Numbers
+pub mod Enough
