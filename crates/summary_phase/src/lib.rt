@@ -1,0 +1,18 @@
+//! The first phase of building: workers draw chunks of the collection and sort the full words of its series into
+//! buffers, one list for each root number.
+#![tactic(auto)]
+
+mod buffers;
+mod chunk;
+mod laws;
+mod member;
+mod summary;
+
+pub use buffers::Buffers;
+pub use chunk::{CHUNK, chunks};
+pub use laws::root_law;
+pub use member::Member;
+pub use summary::summarise;
+
+#[cfg(test)]
+mod tests;
