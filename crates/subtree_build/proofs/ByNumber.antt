@@ -1,0 +1,287 @@
+-- Members put into the order of their numbers: what a sort gives (`sorted_is_by_number`), a filter of them
+-- (`filter_by_number`), and a list that ascends already (`permuted_by_number`).
+use Rattle.std.proofs.Common.{◌≡◌, ℕ, ◌+◌, ◌≤◌, ◌⊎◌, Bool, true, false, cond, List, [], ◌∷◌, length, refl, sym, ap, ◌∙◌, inl, inr, arith}
+use Rattle.std.specs.Prelude.{count_by, sum_by, filter, nat_lt, IsPermutation}
+use Rattle.std.specs.List.Sorted.{IsNonDecreasingBy}
+use Rattle.std.proofs.lemmas.Bool.{cond_both, cond-true, cond-false, ltb-true, ltb-false, le-ltb, cases_Bool}
+use Rattle.std.proofs.lemmas.Bool.Decides.{nat_tests}
+use Rattle.std.proofs.lemmas.List.Sums.{sum_by-cons}
+use Rattle.std.proofs.lemmas.List.Sorted.{IsPermutation-sym, Contains-permutation, sum_by-IsPermutation}
+use Rattle.list_totals.specs.Totals.{total, times, one_if_same}
+use Rattle.list_totals.proofs.Totals.{total_map}
+use Rattle.summary_phase.specs.declared.member.Member.{Member}
+use Rattle.subtree_build.specs.Members.{numbers_of, insert_by_number, by_number, NumbersDiffer}
+use Rattle.subtree_build.proofs.Ascending.{Has, AllFrom, IsOrdered, IsAscending, Among, from_less, same_members, has_from_contains, contains_from_has, ordered_from_sort}
+
+-- a total over the members is that of the list with one of them put in front
+total_insert : (f : Member → ℕ) (m : Member) (xs : List Member)
+    → total f (insert_by_number m xs) ≡ f m + total f xs
+total_insert f m [] = refl
+total_insert f m (x ∷ xs) =
+    cond_both (nat_lt x.number m.number) (x ∷ insert_by_number m xs) (m ∷ x ∷ xs)
+    (λ (ys : List Member). total f ys ≡ f m + (f x + total f xs))
+    (λ _. let h = total_insert f m xs in omega arith)
+    (λ _. refl)
+
+-- a total over the members does not depend on their order
+pub total_by_number : (f : Member → ℕ) (xs : List Member) → total f (by_number xs) ≡ total f xs
+total_by_number f [] = refl
+total_by_number f (x ∷ xs) =
+    let h = total_by_number f xs in
+    let front = total_insert f x (by_number xs) in
+    omega arith
+
+-- std's sum over a list is the total
+pub sum_by_is_total : {X : Type 0} (f : X → ℕ) (xs : List X) → sum_by f xs ≡ total f xs
+sum_by_is_total f [] = refl
+sum_by_is_total f (x ∷ xs) = sum_by-cons f x xs ∙ ap (λ n. f x + n) (sum_by_is_total f xs)
+
+-- as many members pass a test, in whatever order they stand
+pub count_by_number : (p : Member → Bool) (xs : List Member) → count_by p (by_number xs) ≡ count_by p xs
+count_by_number p xs =
+    let one : Member → ℕ = λ m. cond (p m) 1 0 in
+    sum_by_is_total one (by_number xs) ∙ total_by_number one xs ∙ sym (sum_by_is_total one xs)
+
+-- a list's length is the total of ones
+length_is_total : (xs : List Member) → length xs ≡ total (λ m. 1) xs
+length_is_total [] = refl
+length_is_total (x ∷ xs) = let h = length_is_total xs in omega arith
+
+-- there are as many members, in whatever order they stand
+pub length-by_number : (xs : List Member) → length (by_number xs) ≡ length xs
+length-by_number xs =
+    length_is_total (by_number xs) ∙ total_by_number (λ m. 1) xs ∙ sym (length_is_total xs)
+
+-- how often a number is that of a member, as a total over the members
+pub times_numbers : (i : ℕ) (xs : List Member)
+    → times i (numbers_of xs) ≡ total (λ (m : Member). one_if_same i m.number) xs
+times_numbers i xs = total_map (one_if_same i) (λ (m : Member). m.number) xs
+
+-- each number is as often that of a member, in whatever order they stand
+pub times_by_number : (i : ℕ) (xs : List Member)
+    → times i (numbers_of (by_number xs)) ≡ times i (numbers_of xs)
+times_by_number i xs =
+    times_numbers i (by_number xs)
+    ∙ total_by_number (λ (m : Member). one_if_same i m.number) xs
+    ∙ sym (times_numbers i xs)
+
+-- an insert of a number from n on into such numbers
+from_insert : (n : ℕ) (m : Member) (xs : List Member) → n ≤ m.number → AllFrom n xs
+    → AllFrom n (insert_by_number m xs)
+from_insert n m [] here all = (here, tt)
+from_insert n m (x ∷ xs) here all =
+    cond_both (nat_lt x.number m.number) (x ∷ insert_by_number m xs) (m ∷ x ∷ xs) (AllFrom n)
+    (λ _. (all.0, from_insert n m xs here all.1))
+    (λ _. (here, all))
+
+-- an insert keeps a list ordered
+ordered_insert : (m : Member) (xs : List Member) → IsOrdered xs → IsOrdered (insert_by_number m xs)
+ordered_insert m [] up = (tt, tt)
+ordered_insert m (x ∷ xs) up =
+    cond_both (nat_lt x.number m.number) (x ∷ insert_by_number m xs) (m ∷ x ∷ xs) IsOrdered
+    (λ less. (
+      from_insert x.number m xs (omega (arith, ltb-true x.number m.number less)) up.0,
+      ordered_insert m xs up.1,
+    ))
+    (λ not. let no_less = ltb-false x.number m.number not in
+    ((no_less, from_less m.number x.number xs no_less up.0), up))
+
+-- the members in the order of their numbers are ordered
+pub ordered_by_number : (xs : List Member) → IsOrdered (by_number xs)
+ordered_by_number [] = tt
+ordered_by_number (x ∷ xs) = ordered_insert x (by_number xs) (ordered_by_number xs)
+
+-- where a member's number stands but once, none behind it has the number
+above_once : (x : Member) (xs : List Member) → AllFrom x.number xs
+    → total (λ (m : Member). one_if_same x.number m.number) xs ≡ 0 → AllFrom (x.number + 1) xs
+above_once x [] all none = tt
+above_once x (y ∷ ys) all none =
+    (apart x.number y.number all.0 (omega arith), above_once x ys all.1 (omega arith))
+  where
+    -- a number that is not below another and is another
+    apart : (a b : ℕ) → a ≤ b → one_if_same a b ≡ 0 → a + 1 ≤ b
+    apart a b no_less other = grind (arith, nat_tests)
+
+-- a number counts as itself
+counts_itself : (a : ℕ) → one_if_same a a ≡ 1
+counts_itself a = grind (arith, nat_tests)
+
+-- ordered members of different numbers ascend
+pub ascending_from_ordered : (xs : List Member) → IsOrdered xs → NumbersDiffer xs → IsAscending xs
+ascending_from_ordered [] up differ = tt
+ascending_from_ordered (x ∷ xs) up differ = (
+  above_once x xs up.0
+      (omega (arith, differ x.number, counts_itself x.number, times_numbers x.number xs)),
+  ascending_from_ordered xs up.1 (λ i. omega (arith, differ i)),
+)
+
+-- what stands in a list stands in it after an insert, and so does what is inserted
+into_insert : (m x : Member) (xs : List Member) → Has m (x ∷ xs) → Has m (insert_by_number x xs)
+into_insert m x [] h = h
+into_insert m x (y ∷ ys) h =
+    cond_both (nat_lt y.number x.number) (y ∷ insert_by_number x ys) (x ∷ y ∷ ys) (Has m)
+    (λ _. moved h (λ k. into_insert m x ys k))
+    (λ _. h)
+  where
+    moved : Has m (x ∷ y ∷ ys) → (Has m (x ∷ ys) → Has m (insert_by_number x ys))
+        → Has m (y ∷ insert_by_number x ys)
+    moved (inl first) goes = inr (goes (inl first))
+    moved (inr (inl second)) goes = inl second
+    moved (inr (inr behind)) goes = inr (goes (inr behind))
+
+-- what stands in a list after an insert stood in it, or is what was inserted
+from_the_insert : (m x : Member) (xs : List Member) → Has m (insert_by_number x xs) → Has m (x ∷ xs)
+from_the_insert m x [] h = h
+from_the_insert m x (y ∷ ys) h =
+    cond_both (nat_lt y.number x.number) (y ∷ insert_by_number x ys) (x ∷ y ∷ ys)
+    (λ (zs : List Member). Has m zs → Has m (x ∷ y ∷ ys))
+    (λ _ k. back k (λ j. from_the_insert m x ys j))
+    (λ _ k. k)
+    h
+  where
+    back : Has m (y ∷ insert_by_number x ys) → (Has m (insert_by_number x ys) → Has m (x ∷ ys))
+        → Has m (x ∷ y ∷ ys)
+    back (inl first) goes = inr (inl first)
+    back (inr behind) goes = place (goes behind)
+      where
+        place : Has m (x ∷ ys) → Has m (x ∷ y ∷ ys)
+        place (inl inserted) = inl inserted
+        place (inr there) = inr (inr there)
+
+-- the members in the order of their numbers are the same members
+pub into_by_number : (xs : List Member) → Among xs (by_number xs)
+into_by_number [] m h = h
+into_by_number (x ∷ xs) m (inl first) = into_insert m x (by_number xs) (inl first)
+into_by_number (x ∷ xs) m (inr behind) =
+    into_insert m x (by_number xs) (inr (into_by_number xs m behind))
+
+-- and no others
+pub from_by_number : (xs : List Member) → Among (by_number xs) xs
+from_by_number [] m h = h
+from_by_number (x ∷ xs) m h = place (from_the_insert m x (by_number xs) h) (λ k. from_by_number xs m k)
+  where
+    place : Has m (x ∷ by_number xs) → (Has m (by_number xs) → Has m xs) → Has m (x ∷ xs)
+    place (inl first) goes = inl first
+    place (inr behind) goes = inr (goes behind)
+
+-- a permutation of members of different numbers has different numbers
+pub differ_permuted : (xs ys : List Member) → IsPermutation xs ys → NumbersDiffer xs → NumbersDiffer ys
+differ_permuted xs ys moved differ i =
+    let one : Member → ℕ = λ m. one_if_same i m.number in
+    let same : total one ys ≡ total one xs
+    = sym (sum_by_is_total one ys) ∙ sum_by-IsPermutation one xs ys moved ∙ sum_by_is_total one xs in
+    omega (arith, differ i, same, times_numbers i xs, times_numbers i ys)
+
+-- a permutation has the same members
+among_permuted : (xs ys : List Member) → IsPermutation xs ys → Among xs ys
+among_permuted xs ys moved m h =
+    has_from_contains ys m (Contains-permutation xs ys m moved (contains_from_has xs m h))
+
+-- members of different numbers in the order of their numbers strictly ascend
+pub ascending_by_number : (xs : List Member) → NumbersDiffer xs → IsAscending (by_number xs)
+ascending_by_number xs differ =
+    ascending_from_ordered (by_number xs) (ordered_by_number xs)
+    (λ i. omega (arith, differ i, times_by_number i xs))
+
+-- what a sort by number gives is the members in the order of their numbers
+pub sorted_is_by_number : (xs ys : List Member) → NumbersDiffer xs → IsPermutation xs ys
+    → IsNonDecreasingBy (λ (m : Member). m.number) ys → ys ≡ by_number xs
+sorted_is_by_number xs ys differ moved up =
+    same_members ys (by_number xs)
+    (ascending_from_ordered ys (ordered_from_sort ys up) (differ_permuted xs ys moved differ))
+    (ascending_by_number xs differ)
+    (λ m h. into_by_number xs m (among_permuted ys xs (IsPermutation-sym xs ys moved) m h))
+    (λ m h. among_permuted xs ys moved m (from_by_number xs m h))
+
+-- a permutation of members that ascend is put back into their order
+pub permuted_by_number : (xs ys : List Member) → IsAscending xs → NumbersDiffer xs → IsPermutation xs ys
+    → by_number ys ≡ xs
+permuted_by_number xs ys up differ moved =
+    same_members (by_number ys) xs (ascending_by_number ys (differ_permuted xs ys moved differ)) up
+    (λ m h. among_permuted ys xs (IsPermutation-sym xs ys moved) m (from_by_number ys m h))
+    (λ m h. into_by_number ys m (among_permuted xs ys moved m h))
+
+-- a member that no other precedes is inserted in front
+front_insert : (m : Member) (xs : List Member) → AllFrom m.number xs → insert_by_number m xs ≡ m ∷ xs
+front_insert m [] all = refl
+front_insert m (x ∷ xs) all =
+    cond-false (nat_lt x.number m.number) (x ∷ insert_by_number m xs) (m ∷ x ∷ xs)
+    (le-ltb x.number m.number all.0)
+
+-- a filter of numbers from n on has such numbers
+from_filter : (n : ℕ) (p : Member → Bool) (xs : List Member) → AllFrom n xs → AllFrom n (filter p xs)
+from_filter n p [] all = tt
+from_filter n p (x ∷ xs) all =
+    cond_both (p x) (x ∷ filter p xs) (filter p xs) (AllFrom n)
+    (λ _. (all.0, from_filter n p xs all.1)) (λ _. from_filter n p xs all.1)
+
+-- a filter of a list into which m was inserted: m is inserted if it passes
+filter_insert : (p : Member → Bool) (m : Member) (xs : List Member) → IsOrdered xs
+    → filter p (insert_by_number m xs) ≡ cond (p m) (insert_by_number m (filter p xs)) (filter p xs)
+filter_insert p m [] up = refl
+filter_insert p m (x ∷ xs) up = by_order (cases_Bool (nat_lt x.number m.number)) (filter_insert p m xs up.1)
+  where
+    -- m goes behind x
+    behind : (b c : Bool) → p x ≡ b → p m ≡ c → nat_lt x.number m.number ≡ true
+        → filter p (insert_by_number m xs) ≡ cond (p m) (insert_by_number m (filter p xs)) (filter p xs)
+        → cond b (x ∷ filter p (insert_by_number m xs)) (filter p (insert_by_number m xs))
+        ≡ cond (p m) (insert_by_number m (cond b (x ∷ filter p xs) (filter p xs)))
+        (cond b (x ∷ filter p xs) (filter p xs))
+    behind false c e f less rest = rest
+    behind true true e f less rest =
+        ap (λ (zs : List Member). x ∷ zs) (rest ∙ cond-true (p m) _ _ f)
+        ∙ sym (cond-true (nat_lt x.number m.number) (x ∷ insert_by_number m (filter p xs)) (m ∷ x ∷ filter p xs) less)
+        ∙ sym (cond-true (p m) (insert_by_number m (x ∷ filter p xs)) (x ∷ filter p xs) f)
+    behind true false e f less rest =
+        ap (λ (zs : List Member). x ∷ zs) (rest ∙ cond-false (p m) _ _ f)
+        ∙ sym (cond-false (p m) (insert_by_number m (x ∷ filter p xs)) (x ∷ filter p xs) f)
+
+    by_order : (nat_lt x.number m.number ≡ true) ⊎ (nat_lt x.number m.number ≡ false)
+        → filter p (insert_by_number m xs) ≡ cond (p m) (insert_by_number m (filter p xs)) (filter p xs)
+        → filter p (cond (nat_lt x.number m.number) (x ∷ (insert_by_number m xs)) (m ∷ x ∷ xs))
+        ≡ cond (p m) (insert_by_number m (filter p (x ∷ xs))) (filter p (x ∷ xs))
+    by_order (inl less) rest =
+        ap (filter p) (cond-true (nat_lt x.number m.number) (x ∷ (insert_by_number m xs)) (m ∷ x ∷ xs) less)
+        ∙ behind (p x) (p m) refl refl less rest
+    by_order (inr no_less) rest =
+        ap (filter p) (cond-false (nat_lt x.number m.number) (x ∷ (insert_by_number m xs)) (m ∷ x ∷ xs) no_less)
+        ∙ ap (λ (zs : List Member). cond (p m) zs (filter p (x ∷ xs)))
+        (sym (front_insert m (filter p (x ∷ xs))
+        (from_filter m.number p (x ∷ xs) (
+          ltb-false x.number m.number no_less,
+          from_less m.number x.number xs (ltb-false x.number m.number no_less) up.0,
+        ))))
+
+-- the members that pass a test, in the order of their numbers
+pub filter_by_number : (p : Member → Bool) (xs : List Member)
+    → filter p (by_number xs) ≡ by_number (filter p xs)
+filter_by_number p [] = refl
+filter_by_number p (x ∷ xs) =
+    filter_insert p x (by_number xs) (ordered_by_number xs)
+    ∙ by_test (p x) (filter_by_number p xs)
+  where
+    by_test : (b : Bool) → filter p (by_number xs) ≡ by_number (filter p xs)
+        → cond b (insert_by_number x (filter p (by_number xs))) (filter p (by_number xs))
+        ≡ by_number (cond b (x ∷ filter p xs) (filter p xs))
+    by_test true rest = ap (insert_by_number x) rest
+    by_test false rest = rest
+
+-- a filter of members of different numbers has different numbers
+pub differ_filtered : (p : Member → Bool) (xs : List Member) → NumbersDiffer xs
+    → NumbersDiffer (filter p xs)
+differ_filtered p xs differ i =
+    omega (
+      arith,
+      differ i,
+      times_numbers i xs,
+      times_numbers i (filter p xs),
+      fewer (λ (m : Member). one_if_same i m.number) xs,
+    )
+  where
+    -- a total over a filter is at most that over all
+    fewer : (f : Member → ℕ) (ys : List Member) → total f (filter p ys) ≤ total f ys
+    fewer f [] = omega arith
+    fewer f (y ∷ ys) =
+        let h = fewer f ys in
+        cond_both (p y) (y ∷ filter p ys) (filter p ys) (λ (zs : List Member). total f zs ≤ f y + total f ys)
+        (λ _. omega arith) (λ _. omega arith)

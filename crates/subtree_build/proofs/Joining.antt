@@ -1,0 +1,114 @@
+-- Parts put together one by one (`joined_nodes_push`), and the numbers of their leaves (`moved_fits`).
+use Rattle.std.proofs.Common.{◌≡◌, ℕ, ◌+◌, ◌^◌, ◌<◌, ◌≤◌, List, [], ◌∷◌, ◌++◌, length, get_or, refl, sym, ap, ◌∙◌, subst, arith, append_assoc, append-nil, length-append, All, add_assoc, zero-add}
+use Rattle.std.specs.Prelude.{flat_map}
+use Rattle.std.proofs.lemmas.List.Elements.{All-get_or}
+use Rattle.list_totals.specs.Totals.{total}
+use Rattle.list_totals.proofs.Totals.{total_append}
+use Rattle.subtree_build.specs.declared.leaf.TreeLeaf.{TreeLeaf}
+use Rattle.subtree_build.specs.declared.part.Part.{Part}
+use Rattle.subtree_build.specs.Tree.{Tree, absent, leaf, split, leaves_of, numbered, IsBuilt}
+use Rattle.subtree_build.specs.Outline.{outline, moved_up, AllLeaves}
+use Rattle.subtree_build.specs.Parts.{leaves_in, joined_nodes, NumbersWithin}
+
+-- the leaves of parts, one part after another
+abbrev pub part_leaves : List Part → List TreeLeaf
+part_leaves parts = flat_map (λ p. p.leaves.items) parts
+
+-- one part more
+pub joined_nodes_push : (first : ℕ) (parts : List Part) (p : Part)
+    → joined_nodes first (parts ++ p ∷ [])
+    ≡ joined_nodes first parts ++ moved_up (first + total leaves_in parts) (outline p.node) ∷ []
+joined_nodes_push first [] p =
+    ap (λ n. moved_up n (outline p.node) ∷ []) (omega arith)
+joined_nodes_push first (q ∷ parts) p =
+    ap (λ xs. moved_up first (outline q.node) ∷ xs)
+    (joined_nodes_push (first + leaves_in q) parts p
+    ∙ ap (λ n. joined_nodes (first + leaves_in q) parts ++ moved_up n (outline p.node) ∷ [])
+    (add_assoc first (leaves_in q) (total leaves_in parts)))
+
+-- the leaves of all parts are as many as those of each together
+pub length-part_leaves : (parts : List Part) → length (part_leaves parts) ≡ total leaves_in parts
+length-part_leaves [] = refl
+length-part_leaves (p ∷ parts) =
+    let rest = length-part_leaves parts in
+    length-append p.leaves.items (part_leaves parts) ∙ ap (λ n. leaves_in p + n) rest
+
+-- the leaves of one part more
+pub part_leaves_push : (parts : List Part) (p : Part)
+    → part_leaves (parts ++ p ∷ []) ≡ part_leaves parts ++ p.leaves.items
+part_leaves_push [] p = append-nil p.leaves.items
+part_leaves_push (q ∷ parts) p =
+    ap (λ xs. q.leaves.items ++ xs) (part_leaves_push parts p)
+    ∙ sym (append_assoc q.leaves.items (part_leaves parts) p.leaves.items)
+
+-- the item in the middle of a list
+at_middle : {X : Type 0} (xs ys : List X) (y d : X) → get_or (xs ++ y ∷ ys) (length xs) d ≡ y
+at_middle [] ys y d = refl
+at_middle (x ∷ xs) ys y d = at_middle xs ys y d
+
+-- what holds of all items holds of the one in the middle
+pub All-middle : {X : Type 0} (P : X → Type 0) (xs ys : List X) (y : X) → All P (xs ++ y ∷ ys) → P y
+All-middle P xs ys y all =
+    subst P (at_middle xs ys y y)
+    (All-get_or P (xs ++ y ∷ ys) (length xs) y
+    (let long = length-append xs (y ∷ ys) in omega arith) all)
+
+-- leaf numbers below a count, moved up, fit where the count does
+pub moved_fits : (t : Tree ℕ) (count by room : ℕ) → AllLeaves (λ l. l < count) t → count + by ≤ room
+    → AllLeaves (λ l. l + by < room) t
+moved_fits absent count by room all fits = tt
+moved_fits (leaf l) count by room all fits = omega arith
+moved_fits (split j low high) count by room all fits =
+    (moved_fits low count by room all.0 fits, moved_fits high count by room all.1 fits)
+
+-- a numbered tree moved up is the tree numbered from there
+pub moved_numbered : {A : Type 0} (t : Tree A) (first by : ℕ)
+    → moved_up by (numbered first t) ≡ numbered (first + by) t
+moved_numbered absent first by = refl
+moved_numbered (leaf x) first by = refl
+moved_numbered (split j low high) first by =
+    ap (λ t. split j t (moved_up by (numbered (first + length (leaves_of low)) high)))
+    (moved_numbered low first by)
+    ∙ ap (λ t. split j (numbered (first + by) low) t)
+    (moved_numbered high (first + length (leaves_of low)) by
+    ∙ ap (λ n. numbered n high) (omega arith))
+
+-- the leaves of a numbered tree have numbers from the first on, as many as there are leaves
+pub numbered_within : {A : Type 0} (t : Tree A) (first : ℕ)
+    → AllLeaves (λ l. l < first + length (leaves_of t)) (numbered first t)
+numbered_within absent first = tt
+numbered_within (leaf x) first = omega arith
+numbered_within (split j low high) first =
+    let long = length-append (leaves_of low) (leaves_of high) in (
+      less (numbered first low) (first + length (leaves_of low)) (first + length (leaves_of low ++ leaves_of high))
+          (omega arith) (numbered_within low first),
+      less (numbered (first + length (leaves_of low)) high)
+          (first + length (leaves_of low) + length (leaves_of high))
+          (first + length (leaves_of low ++ leaves_of high))
+          (omega arith) (numbered_within high (first + length (leaves_of low))),
+    )
+  where
+    -- numbers below a count are below a greater one
+    less : (t : Tree ℕ) (a b : ℕ) → a ≤ b → AllLeaves (λ l. l < a) t → AllLeaves (λ l. l < b) t
+    less absent a b le all = tt
+    less (leaf l) a b le all = omega arith
+    less (split j low high) a b le all = (less low a b le all.0, less high a b le all.1)
+
+-- a part that was built has the numbers of its own leaves
+pub built_within : (t : Tree TreeLeaf) (p : Part) → IsBuilt t [] (outline p.node) p.leaves.items
+    → NumbersWithin p
+built_within t p built =
+    let P : Tree ℕ → Type 0 = λ n. AllLeaves (λ l. l < leaves_in p) n in
+    let Q : ℕ → Type 0 = λ k. AllLeaves (λ l. l < k) (numbered 0 t) in
+    let long : leaves_in p ≡ length (leaves_of t) = ap length built.leaves_are in
+    subst P (sym built.node_is)
+    (subst Q (sym long) (subst Q (zero-add (length (leaves_of t))) (numbered_within t 0)))
+
+-- a part's leaves fit behind those of the parts before it
+pub fits_behind : (all done rest : List Part) (p : Part) → done ++ p ∷ rest ≡ all
+    → total leaves_in all < 2 ^ 32 → leaves_in p + length (part_leaves done) < 2 ^ 32
+fits_behind all done rest p whole few =
+    let parts : total leaves_in all ≡ total leaves_in done + (leaves_in p + total leaves_in rest)
+    = ap (total leaves_in) (sym whole) ∙ total_append leaves_in done (p ∷ rest) in
+    let long = length-part_leaves done in
+    omega arith

@@ -1,0 +1,24 @@
+-- The lemmas of this crate.
+pub mod Ranges
+pub mod Nearest
+pub mod Outlines
+pub mod Descents
+pub mod Starts
+pub mod Bounds
+pub mod Splits
+pub mod Ascending
+pub mod ByNumber
+pub mod Divisions
+pub mod Children
+pub mod Standing
+pub mod Joining
+pub mod Partition
+pub mod RootNumbers
+pub mod Contained
+pub mod OfCollection
+pub mod Fitting
+pub mod Indexing
+pub mod Gathering
+pub mod Spliced
+pub mod Placing
+pub mod Assembling

@@ -1,0 +1,188 @@
+-- Parts that workers drew, put in the order of their places: one for each place (`places_are`).
+use Rattle.std.proofs.Common.{◌≡◌, ℕ, zero, suc, ◌+◌, ◌<◌, ◌≤◌, true, List, [], ◌∷◌, length, get_or, map, refl, sym, ap, ◌∙◌, subst, ⊎_elim, arith, All, zero-add}
+use Rattle.std.specs.Prelude.{flat_map, IsPermutation}
+use Rattle.std.specs.List.{range_with_len}
+use Rattle.std.specs.List.Sorted.{IsNonDecreasingBy}
+use Rattle.std.proofs.lemmas.Bool.{cases_eq}
+use Rattle.std.proofs.lemmas.Bool.Decides.{nat_tests}
+use Rattle.std.proofs.lemmas.List.{map-append}
+use Rattle.std.proofs.lemmas.List.Elements.{All-nil, All-append, All-map, All-head, All-tail}
+use Rattle.std.proofs.lemmas.List.Sorted.{sum_by-IsPermutation}
+use Rattle.list_totals.specs.Totals.{total, times, one_if_same, once_below}
+use Rattle.list_totals.proofs.Totals.{total_map, times_append}
+use Rattle.claim_word.specs.Passes.{Claim, Pass, EachDrawnOnce}
+use Rattle.subtree_build.specs.declared.building.Builder.{Builder}
+use Rattle.subtree_build.specs.declared.part.Part.{Part}
+use Rattle.subtree_build.specs.declared.settings.Settings.{Settings}
+use Rattle.subtree_build.specs.declared.splicing.RootLists.{RootLists}
+use Rattle.subtree_build.specs.Building.{HasBuilt, IsPartAt, places_of}
+use Rattle.subtree_build.proofs.ByNumber.{sum_by_is_total}
+
+-- the passes of workers are of these claims
+pub builders_own : (settings : Settings) (found : RootLists) (claims : Claim) (team : List Builder)
+    → All (HasBuilt settings found claims) team
+    → All (λ (p : Pass). p.claims ≡ claims) (map (λ (w : Builder). w.pass) team)
+builders_own settings found claims team built =
+    All-map (λ (p : Pass). p.claims ≡ claims) (λ (w : Builder). w.pass) team
+    (λ k d inside. (built k d inside).own)
+
+-- the passes of complete workers have ended
+builders_ended : (settings : Settings) (found : RootLists) (claims : Claim) (team : List Builder)
+    → All (HasBuilt settings found claims) team → All (λ (w : Builder). w.complete ≡ true) team
+    → All (λ (p : Pass). p.ended ≡ true) (map (λ (w : Builder). w.pass) team)
+builders_ended settings found claims team built whole =
+    All-map (λ (p : Pass). p.ended ≡ true) (λ (w : Builder). w.pass) team
+    (λ k d inside. (built k d inside).ended (whole k d inside))
+
+-- what complete workers made are root children at their places
+pub builders_made : (settings : Settings) (found : RootLists) (claims : Claim) (team : List Builder)
+    → All (HasBuilt settings found claims) team → All (λ (w : Builder). w.complete ≡ true) team
+    → All (IsPartAt settings found) (flat_map (λ (w : Builder). w.parts.items) team)
+builders_made settings found claims [] built whole = All-nil (IsPartAt settings found)
+builders_made settings found claims (w ∷ team) built whole =
+    All-append (IsPartAt settings found) w.parts.items (flat_map (λ (x : Builder). x.parts.items) team)
+    ((All-head (HasBuilt settings found claims) w team built).made
+    (All-head (λ (x : Builder). x.complete ≡ true) w team whole))
+    (builders_made settings found claims team
+    (All-tail (HasBuilt settings found claims) w team built)
+    (All-tail (λ (x : Builder). x.complete ≡ true) w team whole))
+
+-- the places of what complete workers made are what their passes drew
+times_drawn : (settings : Settings) (found : RootLists) (claims : Claim) (team : List Builder) (x : ℕ)
+    → All (HasBuilt settings found claims) team → All (λ (w : Builder). w.complete ≡ true) team
+    → times x (places_of (flat_map (λ (w : Builder). w.parts.items) team))
+    ≡ total (λ (p : Pass). times x p.draws) (map (λ (w : Builder). w.pass) team)
+times_drawn settings found claims [] x built whole = refl
+times_drawn settings found claims (w ∷ team) x built whole =
+    let rest = flat_map (λ (y : Builder). y.parts.items) team in
+    let drawn : places_of w.parts.items ≡ w.pass.draws
+    = (All-head (HasBuilt settings found claims) w team built).drawn
+    (All-head (λ (y : Builder). y.complete ≡ true) w team whole) in
+    ap (times x) (map-append (λ (p : Part). p.place) w.parts.items rest)
+    ∙ times_append x (places_of w.parts.items) (places_of rest)
+    ∙ ap (λ ds. times x ds + times x (places_of rest)) drawn
+    ∙ ap (λ n. times x w.pass.draws + n)
+    (times_drawn settings found claims team x
+    (All-tail (HasBuilt settings found claims) w team built)
+    (All-tail (λ (y : Builder). y.complete ≡ true) w team whole))
+
+-- each number is from a on, and none is followed by a smaller one
+abbrev UpFrom : ℕ → List ℕ → Type 0
+UpFrom a [] = Unit {0}
+UpFrom a (x ∷ xs) = (a ≤ x) × UpFrom x xs
+
+-- places that do not fall
+up_from_sort : (a : ℕ) (ps : List Part) → ((d : Part) → 0 < length ps → a ≤ (get_or ps 0 d).place)
+    → IsNonDecreasingBy (λ (p : Part). p.place) ps → UpFrom a (places_of ps)
+up_from_sort a [] first up = tt
+up_from_sort a (p ∷ ps) first up = (
+  first p (omega arith),
+  up_from_sort p.place ps (λ d some. up 0 1 d (omega arith) (omega arith))
+      (λ i j d before inside. up (suc i) (suc j) d (omega arith) (omega arith)),
+)
+
+-- a number below those of a list does not stand in it
+not_in : (x a : ℕ) (xs : List ℕ) → x < a → UpFrom a xs → times x xs ≡ 0
+not_in x a [] below up = refl
+not_in x a (y ∷ ys) below up =
+    let other : one_if_same x y ≡ 0 = apart x y (omega (arith, up.0)) in
+    omega (arith, other, not_in x y ys (omega (arith, up.0)) up.1)
+  where
+    apart : (x y : ℕ) → x < y → one_if_same x y ≡ 0
+    apart x y less = grind (arith, nat_tests)
+
+-- numbers of which a is none are from a + 1 on
+up_next : (a : ℕ) (xs : List ℕ) → UpFrom a xs → times a xs ≡ 0 → UpFrom (a + 1) xs
+up_next a [] up none = tt
+up_next a (x ∷ xs) up none = (above a x up.0 (omega arith), up.1)
+  where
+    above : (a x : ℕ) → a ≤ x → one_if_same a x ≡ 0 → a + 1 ≤ x
+    above a x no_less other = grind (arith, nat_tests)
+
+-- a number counts once as itself, and not as another
+itself : (x y : ℕ) → x ≡ y → one_if_same x y ≡ 1
+itself x y same = grind (arith, nat_tests)
+
+another : (x y : ℕ) → y < x → one_if_same x y ≡ 0
+another x y less = grind (arith, nat_tests)
+
+within : (x n : ℕ) → x < n → once_below x n ≡ 1
+within x n inside = grind (arith, nat_tests)
+
+past : (x n : ℕ) → n ≤ x → once_below x n ≡ 0
+past x n outside = grind (arith, nat_tests)
+
+-- numbers in order, each of those from a up to a + n once and no others, are those numbers
+ordered_range : (a n : ℕ) (xs : List ℕ) → UpFrom a xs
+    → ((x : ℕ) → a ≤ x → times x xs ≡ once_below x (a + n)) → xs ≡ range_with_len a n
+ordered_range a zero [] up once = refl
+ordered_range a zero (y ∷ ys) up once =
+    absurd (omega (arith, once y up.0, itself y y refl, past y (a + 0) (omega (arith, up.0))))
+ordered_range a (suc n) [] up once =
+    absurd (omega (arith, once a (omega arith), within a (a + suc n) (omega arith)))
+ordered_range a (suc n) (y ∷ ys) up once =
+    ⊎_elim
+    (λ same.
+    let up' : UpFrom a ys = let P : ℕ → Type 0 = λ k. UpFrom k ys in subst P (sym same) up.1 in
+    let none : times a ys ≡ 0
+    = omega (arith, once a (omega arith), within a (a + suc n) (omega arith), itself a y same) in
+    ap (λ k. k ∷ ys) (sym same)
+    ∙ ap (λ zs. a ∷ zs)
+    (ordered_range (a + 1) n ys (up_next a ys up' none)
+    (λ x above. omega (
+      arith,
+      once x (omega (arith, above)),
+      another x y (omega (arith, above, same)),
+      ap (once_below x) (end a n),
+    ))))
+    (λ other. absurd (omega (
+      arith,
+      once a (omega arith),
+      within a (a + suc n) (omega arith),
+      not_in a y (y ∷ ys) (omega (arith, other, up.0)) (omega arith, up.1),
+    )))
+    (cases_eq a y)
+  where
+    end : (a n : ℕ) → a + suc n ≡ a + 1 + n
+    end a n = omega arith
+
+-- a permutation has each place as often
+times_permuted : (ps qs : List Part) (x : ℕ) → IsPermutation ps qs
+    → times x (places_of qs) ≡ times x (places_of ps)
+times_permuted ps qs x moved =
+    let one : Part → ℕ = λ p. one_if_same x p.place in
+    total_map (one_if_same x) (λ (p : Part). p.place) qs
+    ∙ sym (sum_by_is_total one qs)
+    ∙ sum_by-IsPermutation one ps qs moved
+    ∙ sum_by_is_total one ps
+    ∙ sym (total_map (one_if_same x) (λ (p : Part). p.place) ps)
+
+-- where complete workers drew all places, each once, their parts in order have the places in order
+pub places_are : (settings : Settings) (found : RootLists) (claims : Claim) (count : ℕ)
+    (team : List Builder) (passes : List Pass) (parts sorted : List Part)
+    → All (HasBuilt settings found claims) team → All (λ (w : Builder). w.complete ≡ true) team
+    → passes ≡ map (λ (w : Builder). w.pass) team
+    → parts ≡ flat_map (λ (w : Builder). w.parts.items) team
+    → 0 < length passes → EachDrawnOnce count passes → IsPermutation parts sorted
+    → IsNonDecreasingBy (λ (p : Part). p.place) sorted
+    → places_of sorted ≡ range_with_len 0 count
+places_are settings found claims count team passes parts sorted built whole is_passes is_parts some drawn
+    moved up =
+    let P : List Pass → Type 0 = λ ps. All (λ (p : Pass). p.ended ≡ true) ps in
+    let ended : All (λ (p : Pass). p.ended ≡ true) passes
+    = subst P (sym is_passes) (builders_ended settings found claims team built whole) in
+    let all : drawn.drawn ≡ count = all_drawn passes drawn some ended in
+    ordered_range 0 count (places_of sorted) (up_from_sort 0 sorted (λ d some. omega arith) up)
+    (λ x low.
+    times_permuted parts sorted x moved
+    ∙ ap (λ (ps : List Part). times x (places_of ps)) is_parts
+    ∙ times_drawn settings found claims team x built whole
+    ∙ ap (total (λ (p : Pass). times x p.draws)) (sym is_passes)
+    ∙ drawn.once x
+    ∙ ap (once_below x) (all ∙ sym (zero-add count)))
+  where
+    -- where some pass has ended all numbers are drawn
+    all_drawn : (ps : List Pass) → (each : EachDrawnOnce count ps) → 0 < length ps
+        → All (λ (p : Pass). p.ended ≡ true) ps → each.drawn ≡ count
+    all_drawn [] each none ended = absurd (omega arith)
+    all_drawn (p ∷ ps) each more ended = each.whole 0 p more (ended 0 p more)

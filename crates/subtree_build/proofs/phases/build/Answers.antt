@@ -1,0 +1,40 @@
+-- The parts of all root children, put together, are the tree of the collection.
+use Rattle.std.proofs.Common.{◌∙◌, rules}
+use Rattle.subtree_build.proofs.Assembling.{can_build, few_roots, within_all, few_parts, nodes_are, leaves_all}
+use Rattle.subtree_build.proofs.phases.build.Goals as goal
+
+pub build_parts-requires-clause-found : goal.build_parts-requires-clause-found
+build_parts-requires-clause-found g c =
+    let h = can_build c.args.settings.now (g.R.Rows.collection c.args.rows.now) c.in_ok-found.found
+    c.in_ok-found.ensures.roots in
+    search (rules, h)
+
+pub build_parts-requires-clause-few : goal.build_parts-requires-clause-few
+build_parts-requires-clause-few g c =
+    let few = few_roots c.args.settings.now.layout (g.R.Rows.collection c.args.rows.now) c.in_ok-found.found
+    c.in_ok-found.ensures.roots in
+    search (rules, few)
+
+pub join_parts-requires-clause-within : goal.join_parts-requires-clause-within
+join_parts-requires-clause-within g c =
+    within_all c.args.settings.now c.in_ok-found.found c.in_ok-parts.parts.items c.in_ok-parts.ensures.built
+
+pub join_parts-requires-clause-few : goal.join_parts-requires-clause-few
+join_parts-requires-clause-few g c =
+    few_parts c.args.settings.now (g.R.Rows.collection c.args.rows.now) c.in_ok-found.found
+    c.in_ok-parts.parts.items c.in_ok-found.ensures.roots c.in_ok-parts.ensures.places
+    c.in_ok-parts.ensures.built
+
+pub of_tree-requires-clause-nodes : goal.of_tree-requires-clause-nodes
+of_tree-requires-clause-nodes g c =
+    c.in_ok-nodes.ensures.nodes
+    ∙ nodes_are c.args.settings.now (g.R.Rows.collection c.args.rows.now) c.in_ok-found.found
+    c.in_ok-parts.parts.items c.in_ok-found.ensures.roots c.in_ok-parts.ensures.places
+    c.in_ok-parts.ensures.built
+
+pub of_tree-requires-clause-leaves : goal.of_tree-requires-clause-leaves
+of_tree-requires-clause-leaves g c =
+    c.in_ok-nodes.ensures.leaves
+    ∙ leaves_all c.args.settings.now (g.R.Rows.collection c.args.rows.now) c.in_ok-found.found
+    c.in_ok-parts.parts.items c.in_ok-found.ensures.roots c.in_ok-parts.ensures.places
+    c.in_ok-parts.ensures.built

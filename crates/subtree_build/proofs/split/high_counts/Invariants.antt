@@ -1,0 +1,10 @@
+-- The counts of the members so far.
+use Rattle.std.proofs.Common.{◌≡◌, ℕ, ◌<◌, get_or, length, take}
+use Rattle.std.specs.Prelude.{count_by}
+use Rattle.subtree_build.specs.Splitting.{goes_high}
+use Rattle.subtree_build.proofs.split.high_counts.Given as goal
+
+abbrev pub invariant-loop-member : goal.invariant-loop-member
+invariant-loop-member l =
+    (j : ℕ) → j < length l.word
+    → get_or l.counts j 0 ≡ count_by (goes_high l.word j) (take l.member-index l.members)

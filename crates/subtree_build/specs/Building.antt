@@ -1,0 +1,80 @@
+-- Workers of the second phase: what they build from, and what they have built.
+use Rattle.std.specs.Prelude.{◌≡◌, ℕ, ◌^◌, ◌<◌, List, [], length, map, true, false, slice_index, slice_index_or, IsPermutation}
+use Rattle.std.specs.List.{All}
+use Rattle.claim_word.specs.Passes.{Claim, fresh_pass}
+use Rattle.series_core.specs.Collection.{Collection, IsCollection}
+use Rattle.segment_sums.specs.Division.{IsDivision}
+use Rattle.isax_word.specs.declared.layout.Layout.{Layout}
+use Rattle.isax_word.specs.Word.{one_bit_word}
+use Rattle.summary_phase.specs.declared.member.Member.{Member}
+use Rattle.summary_phase.specs.Members.{members_of}
+use Rattle.summary_phase.specs.Roots.{of_root}
+use Rattle.subtree_build.specs.declared.building.Builder.{Builder}
+use Rattle.subtree_build.specs.declared.leaf.TreeLeaf.{TreeLeaf}
+use Rattle.subtree_build.specs.declared.part.Part.{Part}
+use Rattle.subtree_build.specs.declared.settings.Settings.{Settings}
+use Rattle.subtree_build.specs.declared.splicing.RootLists.{RootLists}
+use Rattle.subtree_build.specs.Division.{node_of, roots_of}
+use Rattle.subtree_build.specs.Members.{NumbersDiffer, HaveSegments, by_number}
+use Rattle.subtree_build.specs.Outline.{outline}
+use Rattle.subtree_build.specs.Tree.{Tree, IsBuilt}
+
+-- the members of the root child at a place
+abbrev pub list_at : RootLists → ℕ → List Member
+list_at found i = slice_index_or found.lists.items i []
+
+-- the root number of the root child at a place
+abbrev pub root_at : RootLists → ℕ → ℕ
+root_at found i = slice_index found.roots.items i
+
+-- a root number and its members, of which there are some, from which a root child can be built
+pub record IsRootList (w root : ℕ) (list : List Member) : Type 0 where
+  pub root_fits : root < 2 ^ w
+  pub some : 0 < length list
+  pub few : length list < 2 ^ 32
+  pub segments : HaveSegments w list
+  pub numbers : NumbersDiffer list
+
+-- there is a list for each root number, from which its root child can be built
+pub record CanBuild (settings : Settings) (found : RootLists) : Type 0 where
+  pub one_list_each : length found.lists.items ≡ length found.roots.items
+  pub each : (i : ℕ) → i < length found.roots.items
+      → IsRootList settings.layout.cuts.segments (root_at found i) (list_at found i)
+
+-- the root child at a place
+abbrev pub child_at : Settings → RootLists → ℕ → Tree TreeLeaf
+child_at settings found i =
+    node_of settings.leaf_size (one_bit_word (root_at found i) settings.layout.cuts.segments)
+    (by_number (list_at found i))
+
+-- a part is the root child at its place
+pub record IsPartAt (settings : Settings) (found : RootLists) (p : Part) : Type 0 where
+  pub placed : p.place < length found.roots.items
+  pub built : IsBuilt (child_at settings found p.place) [] (outline p.node) p.leaves.items
+
+-- a worker has drawn nothing and made nothing
+pub record IsIdle (claims : Claim) (w : Builder) : Type 0 where
+  pub fresh : w.pass ≡ fresh_pass claims
+  pub empty : w.parts.items ≡ []
+  pub begun : w.complete ≡ false
+
+-- the places of parts
+abbrev pub places_of : List Part → List ℕ
+places_of parts = map (λ p. p.place) parts
+
+-- a worker's pass is of these claims; where it is complete its pass has ended, and it has made the root child of
+-- each place that it drew
+pub record HasBuilt (settings : Settings) (found : RootLists) (claims : Claim) (w : Builder) : Type 0 where
+  pub own : w.pass.claims ≡ claims
+  pub ended : w.complete ≡ true → w.pass.ended ≡ true
+  pub drawn : w.complete ≡ true → places_of w.parts.items ≡ w.pass.draws
+  pub made : w.complete ≡ true → All (IsPartAt settings found) w.parts.items
+
+-- the root numbers that some series has, and for each of them a list of the members under it, each once
+pub record HoldsRoots (layout : Layout) (c : Collection) (found : RootLists) : Type 0 where
+  pub division : IsDivision layout.cuts
+  pub sound : IsCollection c
+  pub roots : found.roots.items ≡ roots_of c layout
+  pub one_list_each : length found.lists.items ≡ length found.roots.items
+  pub members : (i : ℕ) → i < length found.roots.items
+      → IsPermutation (of_root (members_of layout c) (root_at found i)) (list_at found i)

@@ -1,0 +1,28 @@
+//! The iSAX tree of a collection: its series divided by root number, and then bit by bit.
+#![tactic(auto)]
+
+mod building;
+mod index;
+mod laws;
+mod leaf;
+mod node;
+mod part;
+mod phases;
+mod settings;
+mod splicing;
+mod split;
+mod start;
+mod subtree;
+mod summaries;
+
+pub use index::Index;
+pub use laws::{leaf_bound_is_below_distances, leaf_bound_is_no_less};
+pub use leaf::{MemberList, TreeLeaf};
+pub use node::Node;
+pub use phases::build;
+pub use settings::Settings;
+
+#[cfg(test)]
+mod drawn;
+#[cfg(test)]
+mod tests;
