@@ -1,0 +1,109 @@
+-- What a bound above the radius rules out: of a member's word that member, and of a node's word all below it
+-- (`far_below`).
+use Rattle.std.proofs.Common.{◌≡◌, ℕ, ℤ, ◌+◌, ◌<◌, ◌≤◌, List, [], ◌∷◌, ◌++◌, All, Some, length, get_or, refl, sym, ap, ◌∙◌, subst, true, false, arith}
+use Rattle.std.specs.Prelude.{slice_get, nat_le}
+use Rattle.std.specs.List.{flat_map}
+use Rattle.std.proofs.lemmas.Bool.{cond-true, cond-false, le-leb, lt-leb}
+use Rattle.std.proofs.lemmas.List.Concat.{flat_map-append}
+use Rattle.std.proofs.lemmas.List.Elements.{All-get_or, All-head, All-tail}
+use Rattle.std.proofs.lemmas.Option.{get_or_from_slice_get}
+use Rattle.series_core.specs.Answer.{pair_of}
+use Rattle.series_core.specs.Collection.{IsSeries}
+use Rattle.series_core.specs.Distance.{squared_distance}
+use Rattle.series_core.specs.declared.pair.Pair.{Pair}
+use Rattle.isax_word.specs.declared.word.Part.{Part}
+use Rattle.isax_word.specs.FullWord.{full_word}
+use Rattle.isax_word.specs.Word.{IsPart, IsWord, child_word}
+use Rattle.isax_word.proofs.Words.{IsWord-child_word}
+use Rattle.lower_bound.specs.Bound.{View, view_of, word_bound, eight_bit_word}
+use Rattle.lower_bound.proofs.Bounds.{child_bound, full_bound_below_distance}
+use Rattle.summary_phase.specs.declared.member.Member.{Member}
+use Rattle.subtree_build.specs.Tree.{Tree, absent, leaf, split, leaves_of}
+use Rattle.subtree_build.specs.Index.{IndexParts, StandsUnder, leaf_at}
+use Rattle.subtree_build.specs.Members.{series_at}
+use Rattle.subtree_build.proofs.Bounds.{members_no_nearer}
+use Rattle.range_query.specs.Near.{Asked, IsAsked, near_series, near_members, near_leaf, near_leaves}
+
+-- a row that is lent is the series
+pub series_is_row : (a : Asked) (i : ℕ) (row : List ℤ) → slice_get a.collection.series i ≡ Some row
+    → series_at a.collection i ≡ row
+series_is_row a i row is = get_or_from_slice_get a.collection.series i row [] is
+
+-- a series above the radius is not near
+pub far_series : (a : Asked) (i : ℕ)
+    → a.radius < squared_distance (series_at a.collection i) a.query → near_series a i ≡ []
+far_series a i far = cond-false _ _ _ (lt-leb _ _ far)
+
+-- a series within the radius is near
+pub near_series_is : (a : Asked) (i d : ℕ) (row : List ℤ)
+    → slice_get a.collection.series i ≡ Some row → d ≡ squared_distance row a.query → d ≤ a.radius
+    → near_series a i ≡ record { distance = d; number = i } ∷ []
+near_series_is a i d row is same near =
+    let series = series_at a.collection i in
+    let e : squared_distance series a.query ≡ d =
+    ap (λ x. squared_distance x a.query) (series_is_row a i row is) ∙ sym same in
+    cond-true _ _ _ (le-leb (squared_distance series a.query) a.radius (omega arith))
+    ∙ ap (λ n. record { distance = n; number = i } ∷ []) e
+
+-- members above the radius are not near
+pub far_members : (a : Asked) (members : List Member)
+    → All (λ m. a.radius < squared_distance (series_at a.collection m.number) a.query) members
+    → near_members a members ≡ []
+far_members a [] far = refl
+far_members a (m ∷ members) far =
+    let P : Member → Type 0 =
+    λ m. a.radius < squared_distance (series_at a.collection m.number) a.query in
+    ap (λ l. l ++ near_members a members) (far_series a m.number (All-head P m members far))
+    ∙ far_members a members (All-tail P m members far)
+
+module _ (a : Asked) (ix : IndexParts) (view : View) (is : IsAsked a ix view) where
+  -- a series has the length of the query
+  pub length-series : (i : ℕ) (row : List ℤ) → i < length a.collection.series
+      → slice_get a.collection.series i ≡ Some row → length row ≡ length a.query
+  length-series i row low there =
+      ap (λ (xs : List ℤ). length xs) (sym (series_is_row a i row there))
+      ∙ (is.collection.each i [] low).points ∙ is.points ∙ sym is.query
+
+  -- a member whose word's bound is above the radius is not near
+  pub far_member : (i : ℕ) (full : List ℕ) → i < length a.collection.series
+      → full ≡ full_word view.layout (series_at a.collection i)
+      → a.radius < word_bound view (eight_bit_word full) → near_series a i ≡ []
+  far_member i full low word above =
+      let series = series_at a.collection i in
+      let long : length series ≡ view.layout.cuts.row_length =
+      (is.collection.each i [] low).points ∙ is.points in
+      let below = full_bound_below_distance view.layout series a.query is.cuts long is.query in
+      let same : word_bound view (eight_bit_word full)
+      ≡ word_bound (view_of view.layout a.query) (eight_bit_word (full_word view.layout series)) =
+      ap (λ v. word_bound v (eight_bit_word full)) is.of_query
+      ∙ ap (λ f. word_bound (view_of view.layout a.query) (eight_bit_word f)) word in
+      far_series a i (omega arith)
+
+  -- below a node whose word's bound is above the radius nothing is near
+  pub far_below : (word : List Part) (t : Tree ℕ) → IsWord word → StandsUnder ix.leaves word t
+      → a.radius < word_bound view word → near_leaves a ix.leaves (leaves_of t) ≡ []
+  far_below word absent kept stands above = refl
+  far_below word (leaf l) kept stands above =
+      let members = (leaf_at ix.leaves l).members in
+      let P : List Part → Type 0 = λ w. All IsPart w in
+      let bounds =
+      members_no_nearer a.collection view.layout ix l a.query is.fits is.collection is.cuts
+      is.points is.query stands.0 (subst P (sym stands.1) kept.parts) in
+      let same : word_bound view word
+      ≡ word_bound (view_of view.layout a.query) (leaf_at ix.leaves l).word =
+      ap (λ v. word_bound v word) is.of_query
+      ∙ ap (λ w. word_bound (view_of view.layout a.query) w) (sym stands.1) in
+      let far = far_members a members (λ k d low. let b = bounds k d low in omega arith) in
+      ap (λ (l : List Pair). l ++ []) far
+  far_below word (split segment low high) kept stands above =
+      let used = stands.0.used in
+      let divisible = stands.0.divisible in
+      let low_bound = child_bound view 0 word segment false is.is_view kept.parts used divisible in
+      let high_bound = child_bound view 0 word segment true is.is_view kept.parts used divisible in
+      flat_map-append (near_leaf a ix.leaves) (leaves_of low)
+      (leaves_of high)
+      ∙ ap (λ (l : List Pair). l ++ near_leaves a ix.leaves (leaves_of high))
+      (far_below (child_word word segment false) low
+      (IsWord-child_word word segment false kept used divisible) stands.1 (omega arith))
+      ∙ far_below (child_word word segment true) high
+      (IsWord-child_word word segment true kept used divisible) stands.2 (omega arith)

@@ -1,0 +1,19 @@
+use Rattle.std.proofs.Common.{◌≡◌, ◌≤◌, ◌-◌, false}
+use Rattle.range_query.specs.Near.{near_drawn}
+use Rattle.range_query.specs.Searches.{asked_of}
+use Rattle.range_query.proofs.team.draw_all.Given as goal
+
+abbrev pub invariant-loop-drawn : goal.invariant-loop-drawn
+invariant-loop-drawn g l = record {
+  own : l.pass.claims ≡ l.claims;
+  goes_on : l.pass.ended ≡ false;
+  turns : l.turn ≤ l.pass.met;
+  met : l.pass.met ≤ l.claims.count;
+  all_near :
+      l.found.items
+      ≡ near_drawn (asked_of g.R.Rows.collection l.search) l.search.index.now l.pass.draws;
+}
+
+-- each draw leaves fewer root children undrawn
+abbrev pub decreases-loop-drawn : goal.decreases-loop-drawn
+decreases-loop-drawn g l = l.claims.count - l.pass.met

@@ -1,0 +1,12 @@
+-- A search: what it asks, and that its parts belong together.
+use Rattle.series_core.specs.Collection.{Collection}
+use Rattle.range_query.specs.declared.walk.Search.{Search}
+use Rattle.range_query.specs.Near.{Asked, IsAsked, ask}
+
+-- what a search asks, where its rows are seen as a collection
+abbrev pub asked_of : {R : Type 0} → (R → Collection) → Search R → Asked
+asked_of collection s = ask (collection s.rows.now) s.query.now s.radius
+
+-- the index fits the collection under the layout of the query's view, all of one length
+abbrev pub IsReady : {R : Type 0} → (R → Collection) → Search R → Type 0
+IsReady collection s = IsAsked (asked_of collection s) s.index.now s.view.now

@@ -1,0 +1,40 @@
+//! Worked rows: a radius at a distance, one below it, and none within.
+use crate::tests::plain::listed;
+use crate::within;
+use breakpoints::Table;
+use isax_word::Layout;
+use outside::NoGate;
+use segment_sums::Cuts;
+use series_core::{Flat, Rows};
+use std::test::*;
+use subtree_build::{Settings, build};
+
+const VALUES: [i16; 16] = [0, 0, 0, 0, 10, 10, 10, 10, -10, -10, -10, -10, 0, 0, 10, 10];
+
+#[test]
+fn four_series_within_three_radii(rt: HostRuntime) -> Result<(), Fail> {
+    let alloc = rt.alloc();
+    let rows = Flat::from_values(4, VALUES.to_vec(alloc)?);
+    let layout = Layout {
+        cuts: Cuts::new(4, 4),
+        table: Table::Flat,
+    };
+    let settings = Settings {
+        layout,
+        leaf_size: 1000,
+    };
+    let index = build(&rt, alloc, &rows, &settings, 2, &NoGate)?;
+    let near: [(u64, &[(u64, u32)]); 4] = [
+        (164, &[(4, 0), (164, 3)]),
+        (163, &[(4, 0)]),
+        (0, &[]),
+        (u64::MAX, &[(4, 0), (164, 3), (324, 1), (484, 2)]),
+    ];
+    for (radius, want) in near {
+        let pairs = within(
+            &rt, alloc, &rows, &index, &layout, &[1; 4], radius, 2, &NoGate,
+        )?;
+        assert_eq!(rt; listed(alloc, &pairs)?.as_slice(), want, "radius {radius}");
+    }
+    Ok(())
+}
