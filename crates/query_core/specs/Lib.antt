@@ -1,0 +1,22 @@
+-- The definitions of this crate, and those of the crates below that its public clauses cite.
+pub mod Members
+pub mod Ground
+pub mod Measures
+pub mod Machine
+pub mod Sound
+pub mod Outcome
+pub mod Legal
+pub mod Straight
+pub mod OwnRecord
+pub mod Stands
+pub mod Replies
+pub mod Closes
+pub mod Schedules
+pub mod Examples
+pub use Rattle.list_totals.specs.Totals
+pub use Rattle.series_core.specs.Collection
+pub use Rattle.series_core.specs.Distance
+pub use Rattle.series_core.specs.Pairs
+pub use Rattle.series_core.specs.Order
+pub use Rattle.series_core.specs.Answer
+pub use Rattle.leaf_queues.specs.PlainQueue
