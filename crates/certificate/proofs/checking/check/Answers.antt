@@ -1,0 +1,52 @@
+use Rattle.std.proofs.Common.{◌≡◌, Some, [], length, sym, ◌∙◌, ap, arith}
+use Rattle.std.specs.Option.{option_copied}
+use Rattle.std.proofs.lemmas.Option.{get_or_from_slice_get}
+use Rattle.std.proofs.lemmas.Result.{err_from_is_err_and}
+use Rattle.certificate.specs.Refusals.{refusal_of}
+use Rattle.certificate.specs.Verdict.{block_refusal, query_refusal}
+use Rattle.certificate.proofs.Stepping.{read_here, refused, passed, walked}
+use Rattle.certificate.proofs.Whole.{verdict_answers, verdict_blocks}
+use Rattle.certificate.proofs.checking.check.Goals as goal
+
+pub loop-b-init : goal.loop-b-init
+loop-b-init g c =
+    let as_many : length c.args.blocks.now ≡ length (g.Q.Rows.collection c.args.queries.now).series =
+    omega (arith, c.count-want.ensures.count) in
+    verdict_blocks (g.R.Rows.collection c.args.rows.now) (option_copied c.args.labels)
+    (g.Q.Rows.collection c.args.queries.now) c.args.k c.args.layout.now c.args.blocks.now as_many
+
+pub loop-b-preserved : goal.loop-b-preserved
+loop-b-preserved g c =
+    let rows = g.R.Rows.collection c.args.rows.now in
+    let queries = g.Q.Rows.collection c.args.queries.now in
+    let labels = option_copied c.args.labels in
+    passed (query_refusal rows labels queries c.args.k c.args.layout.now) _ c.loop-b.b c.args.blocks.now
+    c.index-blocks-b.result c.loop-b.invariant (read_here _ _ _ c.loop-b-test.true c.index-blocks-b.is)
+    (ap (λ q. block_refusal rows labels c.args.k c.args.layout.now c.loop-b.b q c.index-blocks-b.result)
+    (get_or_from_slice_get queries.series c.loop-b.b c.row.result.now [] c.row.ensures)
+    ∙ sym c.check_block.ensures ∙ ap refusal_of c.in_ok-check_block.was)
+
+pub returns-in_err-check_block-clause-verdict : goal.returns-in_err-check_block-clause-verdict
+returns-in_err-check_block-clause-verdict g c =
+    let rows = g.R.Rows.collection c.args.rows.now in
+    let queries = g.Q.Rows.collection c.args.queries.now in
+    let labels = option_copied c.args.labels in
+    let e = err_from_is_err_and c.from_residual.result c.from_residual.ensures.1 in
+    ap refusal_of e.1
+    ∙ refused (query_refusal rows labels queries c.args.k c.args.layout.now) _ c.loop-b.b c.args.blocks.now
+    c.index-blocks-b.result e.0 c.loop-b.invariant (read_here _ _ _ c.loop-b-test.true c.index-blocks-b.is)
+    (ap (λ q. block_refusal rows labels c.args.k c.args.layout.now c.loop-b.b q c.index-blocks-b.result)
+    (get_or_from_slice_get queries.series c.loop-b.b c.row.result.now [] c.row.ensures)
+    ∙ sym c.check_block.ensures ∙ ap refusal_of c.in_err-check_block.was ∙ ap Some (sym e.2))
+
+pub returns-clause-verdict : goal.returns-clause-verdict
+returns-clause-verdict g c =
+    walked (query_refusal (g.R.Rows.collection c.args.rows.now) (option_copied c.args.labels)
+    (g.Q.Rows.collection c.args.queries.now) c.args.k c.args.layout.now) _ c.loop-b.b c.args.blocks.now
+    c.loop-b.invariant c.loop-b-test.false
+
+pub returns-clause-answers : goal.returns-clause-answers
+returns-clause-answers g c =
+    verdict_answers (g.R.Rows.collection c.args.rows.now) (option_copied c.args.labels)
+    (g.Q.Rows.collection c.args.queries.now) c.args.k c.args.layout.now c.args.blocks.now c.requires.some
+    (sym (returns-clause-verdict g c))

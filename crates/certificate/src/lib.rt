@@ -1,0 +1,23 @@
+//! Certificates: what a search says of each query, checked against the plain list of all series and nothing else.
+#![tactic(auto)]
+
+mod answers;
+mod block;
+mod checking;
+mod error;
+mod fields;
+mod leaves;
+mod line;
+mod misses;
+mod parts;
+mod reader;
+mod text;
+mod words;
+
+pub use block::{Block, EntryLists, LeafLine, LeafLineList, Said};
+pub use checking::check;
+pub use error::{CertError, Reject};
+pub use text::read;
+
+#[cfg(test)]
+mod tests;
