@@ -1,0 +1,9 @@
+//! Collections of random walks, made from one number: large valid inputs that are the same each time.
+#![tactic(auto)]
+
+mod drawing;
+
+pub use drawing::{generator, walks};
+
+#[cfg(test)]
+mod tests;
