@@ -21,7 +21,15 @@ fn main(rt: HostRuntime) -> ExitCode {
             let mut files = RealFiles::new(&rt);
             let mut out = RealSink::new(rt.stdout());
             let mut err = RealSink::new(rt.stderr());
-            run(rt.alloc(), &words, &mut files, &mut out, &mut err, &NoGate)
+            run(
+                &rt,
+                rt.alloc(),
+                &words,
+                &mut files,
+                &mut out,
+                &mut err,
+                &NoGate,
+            )
         }
         Err(status) => status,
     };

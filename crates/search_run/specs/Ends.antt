@@ -1,118 +1,50 @@
 -- How a run ends: for each status what shows it, and what was written.
-use Rattle.std.specs.Prelude.{◌≡◌, ◌≢◌, ℕ, ◌<◌, ◌⊎◌, List, length, Option, Some}
+use Rattle.std.specs.Prelude.{◌≡◌, ℕ, ◌<◌, ◌⊎◌, List, length, Option}
 use Rattle.std.specs.Io.KnownBytes.{append_known}
 use Rattle.outside.specs.Count.{Rose}
 use Rattle.outside.specs.Files.{Held}
 use Rattle.outside.specs.Sink.{AppendsPrefix}
-use Rattle.series_file.specs.declared.error.Loaded.{Loaded}
-use Rattle.search_run.specs.Loads.{HoldsFile, RefusesFile}
-use Rattle.search_run.specs.Requests.{Serves}
-use Rattle.search_run.specs.Texts.{nearest_text}
-use Rattle.search_run.specs.declared.request.Request.{Request}
+use Rattle.command_words.specs.Settings.{HasSettings}
+use Rattle.command_words.specs.declared.command.Command.{Command}
+use Rattle.search_run.specs.Traffic.{Reading, Writing}
+use Rattle.search_run.specs.Commands.{IsServed, IsText, Refuses, CanAnswer}
 use Rattle.search_run.specs.declared.status.Status.{Status}
-use Rattle.search_run.specs.declared.status.Status.TheVariants.{Done, Usage, ReadFault, Mismatch, WriteFault, Memory}
-use Rattle.search_run.specs.declared.status.Which.{Which}
-use Rattle.search_run.specs.declared.status.Which.TheVariants.{Series, Queries}
+use Rattle.search_run.specs.declared.status.Status.TheVariants.{Done, Usage, ReadFault, WriteFault, Memory}
 
--- What was handed in to read from, and what reading did: the files, the counts of faults and of absent names
--- before and after, and the name of the file that failed. Files and name are there where they are told.
-pub record Reading : Type 0 where
-  pub held : Option Held
-  pub faults : ℕ
-  pub later : ℕ
-  pub misses : ℕ
-  pub more : ℕ
-  pub blamed : Option (List ℕ)
+-- Nothing was written.
+abbrev pub WroteNothing : Writing → Type 0
+WroteNothing writing = writing.now ≡ writing.before
 
--- What was handed in to write to, and what writing did: the bytes before and after, where told, the count of
--- faults before and after, and how many bytes were sure to be taken.
-pub record Writing : Type 0 where
-  pub before : Option (List ℕ)
-  pub now : Option (List ℕ)
-  pub faults : ℕ
-  pub later : ℕ
-  pub sure : ℕ
-
--- what reading did between two states of the files
-abbrev pub read_from : {F : Type 0} → (F → Option Held) → (F → ℕ) → (F → ℕ) → (F → Option (List ℕ)) → F → F → Reading
-read_from held faults misses blamed old new = record {
-  held = held old;
-  faults = faults old;
-  later = faults new;
-  misses = misses old;
-  more = misses new;
-  blamed = blamed new;
-}
-
--- what writing did between two states of a sink
-abbrev pub wrote_to : {S : Type 0} → (S → Option (List ℕ)) → (S → ℕ) → (S → ℕ) → S → S → Writing
-wrote_to written faults sure old new = record {
-  before = written old;
-  now = written new;
-  faults = faults old;
-  later = faults new;
-  sure = sure old;
-}
-
--- the file of this role, of this name and of the request's form, was refused with this status
-abbrev pub RefusesNamed : Reading → Request → Which → List ℕ → Status → Type 0
-RefusesNamed reading r which name status =
-    RefusesFile which reading.held name r.form reading.faults reading.later reading.misses reading.more
-    reading.blamed status
-
--- the two lengths differ, and the status says so
-abbrev pub Differs : ℕ → ℕ → Status → Type 0
-Differs a b (Mismatch c d) = (c ≡ a) × (d ≡ b) × (a ≢ b)
-Differs a b _ = ⊥
-
--- both files hold what was loaded
-abbrev pub HoldsBoth : Option Held → Request → Loaded → Loaded → Type 0
-HoldsBoth held r series queries = HoldsFile held r.series r.form series × HoldsFile held r.queries r.form queries
-
--- The request was refused with this status: by the file of the series, or after it by that of the queries,
--- or after both because their series have different lengths.
-abbrev pub Refuses : Reading → Request → Status → Type 0
-Refuses reading r status =
-    RefusesNamed reading r Series r.series status
-    ⊎ (((series : Loaded) × HoldsFile reading.held r.series r.form series
-    × RefusesNamed reading r Queries r.queries status)
-    ⊎ ((series : Loaded) × (queries : Loaded) × HoldsBoth reading.held r series queries
-    × Differs series.rows.points queries.rows.points status))
-
--- both files hold series of one length, and this is the text of the search
-abbrev pub IsText : Option Held → Request → List ℕ → Type 0
-IsText held r text = (series : Loaded) × (queries : Loaded) × HoldsBoth held r series queries
-    × (queries.rows.points ≡ series.rows.points) × (text ≡ nearest_text series.rows series.labels r.k queries.rows)
-
--- what shows each status of a request, and what was written
-abbrev pub Answers : Reading → Writing → Request → Status → Type 0
-Answers reading writing r Done = (text : List ℕ) × IsText reading.held r text
-    × (writing.now ≡ append_known writing.before text)
-Answers reading writing r WriteFault = (text : List ℕ) × IsText reading.held r text
+-- What shows each status of work with such a text that such causes refuse, and what was written: all of a text, a
+-- prefix of one where writing failed, a prefix or nothing where memory ran out, and else nothing, for a cause.
+abbrev pub Concludes : (List ℕ → Type 0) → (Status → Type 0) → Writing → Status → Type 0
+Concludes IsIt Refused writing Done =
+    (text : List ℕ) × IsIt text × (writing.now ≡ append_known writing.before text)
+Concludes IsIt Refused writing WriteFault = (text : List ℕ) × IsIt text
     × AppendsPrefix writing.before text writing.now × Rose writing.faults writing.later × (writing.sure < length text)
-Answers reading writing r Memory = (writing.now ≡ writing.before)
-    ⊎ ((text : List ℕ) × IsText reading.held r text × AppendsPrefix writing.before text writing.now)
-Answers reading writing r status = Refuses reading r status × (writing.now ≡ writing.before)
+Concludes IsIt Refused writing Memory = WroteNothing writing
+    ⊎ ((text : List ℕ) × IsIt text × AppendsPrefix writing.before text writing.now)
+Concludes IsIt Refused writing status = Refused status × WroteNothing writing
+
+-- what shows each status of a command, and what was written
+abbrev pub Answers : Reading → Writing → Command → Status → Type 0
+Answers reading writing command status =
+    Concludes (IsText reading.held command) (Refuses reading command) writing status
+
+-- the words have this command, and it is one that is answered
+abbrev pub Asks : List (List ℕ) → Command → Type 0
+Asks words command = HasSettings words command × IsServed command
 
 -- what shows each status of a run, and what was written
 abbrev pub Ends : List (List ℕ) → Reading → Writing → Status → Type 0
-Ends words reading writing Usage = ((r : Request) → Serves words r → ⊥) × (writing.now ≡ writing.before)
-Ends words reading writing Memory = (writing.now ≡ writing.before)
-    ⊎ ((r : Request) × Serves words r × Answers reading writing r Memory)
-Ends words reading writing status = (r : Request) × Serves words r × Answers reading writing r status
+Ends words reading writing Usage = ((command : Command) → Asks words command → ⊥) × WroteNothing writing
+Ends words reading writing Memory = WroteNothing writing
+    ⊎ ((command : Command) × Asks words command × Answers reading writing command Memory)
+Ends words reading writing status = (command : Command) × Asks words command × Answers reading writing command status
 
--- the files are told, and both names are held, with series of one length
-pub record CanAnswer (held : Option Held) (r : Request) : Type 0 where
-  pub told : Held
-  pub is_told : held ≡ Some told
-  pub series : Loaded
-  pub queries : Loaded
-  pub holds : HoldsBoth (Some told) r series queries
-  pub lengths : queries.rows.points ≡ series.rows.points
-
--- the words have a request, and its files can be answered from
+-- the words ask for a command that nothing keeps from its work
 abbrev pub CanSearch : List (List ℕ) → Option Held → Type 0
-CanSearch words held = (r : Request) × Serves words r × CanAnswer held r
+CanSearch words held = (command : Command) × Asks words command × CanAnswer held command
 
 -- All of the text was written, or memory ran out, or reading or writing failed and was counted. The counts of
 -- faults are those of reading before and after, and those of writing before and after.

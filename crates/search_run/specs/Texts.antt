@@ -1,7 +1,6 @@
 -- The text of a run: for each query in order its line and the lines of its answers.
 use Rattle.std.specs.Prelude.{ℕ, ◌+◌, ℤ, List, [], ◌∷◌, ◌++◌, Option, None, Some, codes, decimal, slice_index}
 use Rattle.series_core.specs.Collection.{Collection}
-use Rattle.series_core.specs.Answer.{answer}
 use Rattle.series_core.specs.declared.pair.Pair.{Pair}
 
 -- the line of query i
@@ -23,15 +22,15 @@ abbrev pub answer_lines : Option (List ℕ) → ℕ → List Pair → List ℕ
 answer_lines labels r [] = []
 answer_lines labels r (p ∷ ps) = answer_line labels r p ++ answer_lines labels (r + 1) ps
 
--- the text of query i
-abbrev pub query_text : Collection → Option (List ℕ) → ℕ → ℕ → List ℤ → List ℕ
-query_text rows labels k i q = query_line i ++ answer_lines labels 1 (answer rows q k)
+-- the text of query i, with these answers
+abbrev pub query_text : Option (List ℕ) → ℕ → List Pair → List ℕ
+query_text labels i pairs = query_line i ++ answer_lines labels 1 pairs
 
--- the text of these queries, the first of them with number i
-abbrev pub nearest_from : Collection → Option (List ℕ) → ℕ → ℕ → List (List ℤ) → List ℕ
-nearest_from rows labels k i [] = []
-nearest_from rows labels k i (q ∷ qs) = query_text rows labels k i q ++ nearest_from rows labels k (i + 1) qs
+-- the text of these queries, the first of them with number i, each with the answers that are found for it
+abbrev pub texts_from : Option (List ℕ) → (List ℤ → List Pair) → ℕ → List (List ℤ) → List ℕ
+texts_from labels found i [] = []
+texts_from labels found i (q ∷ qs) = query_text labels i (found q) ++ texts_from labels found (i + 1) qs
 
--- the whole text of a search for the k nearest
-abbrev pub nearest_text : Collection → Option (List ℕ) → ℕ → Collection → List ℕ
-nearest_text rows labels k queries = nearest_from rows labels k 0 queries.series
+-- the whole text of a search
+abbrev pub search_text : Option (List ℕ) → (List ℤ → List Pair) → Collection → List ℕ
+search_text labels found queries = texts_from labels found 0 queries.series

@@ -3,19 +3,31 @@
 #![tactic(auto)]
 
 mod answer;
+mod answering;
+mod crew;
+mod finder;
+mod layout;
 mod line;
 mod load;
 mod nearest;
-mod request;
+mod range;
+mod serving;
+mod sources;
 mod stages;
 mod status;
 mod stop;
+mod summary;
 mod tell;
 mod text;
+mod trial;
 
-pub use request::Request;
+pub use random_walks::walks;
 pub use stages::run;
 pub use status::{Status, Which};
 
 #[cfg(test)]
+mod ranges;
+#[cfg(test)]
 mod tests;
+#[cfg(test)]
+mod trials;

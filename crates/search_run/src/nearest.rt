@@ -1,69 +1,55 @@
-//! The search for the k nearest: for each query in order its text, built whole and then written.
-//! A text is written only once all of it stands in memory, so what is written is a prefix of the whole text.
+//! The command `nearest`: for each query its k nearest, by a walk over all series.
 
-ghost use Rattle.std.specs.Prelude.{◌≡◌, ◌<◌, ◌≤◌, length, [], get_or, OnOk, IfOk, IfErr};
-ghost use Rattle.std.specs.Io.KnownBytes.{append_known};
-ghost use Rattle.series_core.specs.declared.best.TheConstants.{MAX_BEST};
-ghost use Rattle.search_run.specs.Texts.{query_text, nearest_text};
-ghost use Rattle.search_run.specs.Stops.{Stops};
+ghost use Rattle.std.specs.Prelude.{◌≡◌, ◌≢◌};
+ghost use Rattle.command_words.specs.Limits.{OptionsKeepLimits};
+ghost use Rattle.search_run.specs.Traffic.{read_from, wrote_to};
+ghost use Rattle.search_run.specs.Sources.{sources, RefusesBoth};
+ghost use Rattle.search_run.specs.Commands.{IsNearestText, CanRead};
+ghost use Rattle.search_run.specs.Ends.{Concludes, IsAnswered};
+ghost use Rattle.search_run.specs.declared.status.Status.{Status};
+ghost use Rattle.search_run.specs.declared.status.Which.{Which};
 
-use crate::answer::{answer, row_of};
+use crate::answering::write_answers;
+use crate::crew::Crew;
+use crate::finder::Finder;
+use crate::sources::read_both;
+use crate::status::Status;
 use crate::stop::Stop;
-use crate::text::{push_answers, push_query};
-use outside::{NoMemory, Sink, write_whole};
-use series_core::{Flat, Rows};
-use series_file::Loaded;
-use std::alloc::Global;
+use command_words::{Options, Text};
+use outside::{Files, Gate, Sink};
+use std::thread::Threads;
 
-/// Writes for each query its line and the lines of its k nearest series, with 0 < k <= 1024.
-pub fn write_nearest<S: Sink>(
-    alloc: Global,
-    loaded: &Loaded,
-    queries: &Flat,
-    k: u32,
+/// Answers `nearest`: reads both files and writes the text of their k nearest.
+pub fn answer_nearest<T: Threads + Sync, F: Files, S: Sink, G: Gate + Sync>(
+    crew: &Crew<'_, T, G>,
+    series: &Text,
+    queries: &Text,
+    options: &Options,
+    files: &mut F,
     out: &mut S,
-) -> Result<(), Stop>
-    requires some { 0 < k }
-    requires limit { k ≤ MAX_BEST }
-    requires same_length { queries.now.points ≡ loaded.now.rows.points }
-    ensures ok { OnOk result (S.written out.new
-        ≡ append_known (S.written out.old) (nearest_text loaded.now.rows loaded.now.labels k queries.now)) }
-    ensures stops { IfErr result (Stops (nearest_text loaded.now.rows loaded.now.labels k queries.now)
-        (S.written out.old) (S.written out.new) (S.faults out.old) (S.faults out.new) (S.sure out.old)) }
-    ensures counts { S.faults out.old ≤ S.faults out.new }
+) -> Status
+    requires { OptionsKeepLimits options.now }
+    ensures answers { let both = sources series.now queries.now options.now in
+        Concludes (IsNearestText (F.held files.old) both options.now.k)
+        (RefusesBoth (read_from F.held F.faults F.misses F.blamed files.old files.new) both)
+        (wrote_to S.written S.faults S.sure out.old out.new) result }
+    ensures not_usage { result ≢ Status.Usage }
+    ensures complete { CanRead (F.held files.old) (sources series.now queries.now options.now)
+        → IsAnswered (F.faults files.old) (F.faults files.new) (S.faults out.old) (S.faults out.new) result }
+    ensures kept { F.held files.new ≡ F.held files.old }
+    ensures reliable { F.reliable files.old → (w : Which) → result ≢ Status.ReadFault w }
 {
-    for i in 0..queries.count() {
-        let text = match text_of(alloc, loaded, queries, k, i) {
-            Ok(text) => text,
-            Err(_) => return Err(Stop::NoMemory),
-        };
-        match write_whole(out, &text) {
-            Ok(()) => {}
-            Err(_) => return Err(Stop::WriteFault),
-        }
+    let both = match read_both(crew.alloc, files, series, queries, options) {
+        Ok(both) => both,
+        Err(status) => return status,
+    };
+    let scan = Finder::Scan {
+        rows: &both.series.rows,
+        k: options.k,
+    };
+    match write_answers(crew, &scan, &both.series.labels, &both.queries.rows, out) {
+        Ok(()) => Status::Done,
+        Err(Stop::WriteFault) => Status::WriteFault,
+        Err(Stop::NoMemory) => Status::Memory,
     }
-    Ok(())
-}
-
-// The text of query i.
-fn text_of(
-    alloc: Global,
-    loaded: &Loaded,
-    queries: &Flat,
-    k: u32,
-    i: u32,
-) -> Result<Vec<u8>, NoMemory>
-    requires some { 0 < k }
-    requires limit { k ≤ MAX_BEST }
-    requires same_length { queries.now.points ≡ loaded.now.rows.points }
-    requires below { i < length queries.now.series }
-    ensures { IfOk result (λ text. text.items
-        ≡ query_text loaded.now.rows loaded.now.labels k i (get_or queries.now.series i [])) }
-{
-    let query = row_of(queries, i);
-    let best = answer(alloc, &loaded.rows, query, k)?;
-    let mut text = Vec::new(alloc);
-    push_query(&mut text, i)?;
-    push_answers(&mut text, &loaded.labels, best.pairs())?;
-    Ok(text)
 }

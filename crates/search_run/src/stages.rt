@@ -2,34 +2,38 @@
 //! Each stage is one function with one contract; the first that fails decides the status.
 
 ghost use Rattle.std.specs.Prelude.{◌≡◌, ◌≢◌, ◌≤◌, IfOk, IfErr, map, string_bytes};
-ghost use Rattle.search_run.specs.Requests.{IsRequest};
-ghost use Rattle.search_run.specs.Ends.{Ends, Answers, Refuses, HoldsBoth, CanAnswer, CanSearch, IsAnswered, read_from, wrote_to};
+ghost use Rattle.command_words.specs.Limits.{KeepsLimits};
+ghost use Rattle.search_run.specs.Traffic.{read_from, wrote_to};
+ghost use Rattle.search_run.specs.Commands.{IsServed, CanAnswer};
+ghost use Rattle.search_run.specs.Ends.{Ends, Answers, CanSearch, IsAnswered};
 ghost use Rattle.search_run.specs.Status.{fault_line};
 ghost use Rattle.search_run.specs.Told.{Tells};
 ghost use Rattle.search_run.specs.declared.status.Status.{Status};
 ghost use Rattle.search_run.specs.declared.status.Which.{Which};
 
-use crate::load::load;
-use crate::nearest::write_nearest;
-use crate::request::{Request, request_of};
+use crate::crew::Crew;
+use crate::nearest::answer_nearest;
+use crate::range::answer_range;
+use crate::serving::is_served;
 use crate::status::{Status, Which};
-use crate::stop::Stop;
 use crate::tell::tell;
-use command_words::WordsError;
+use crate::trial::answer_trial;
+use command_words::{Command, WordsError, parse_words};
 use outside::{Files, Gate, Sink};
-use series_core::Rows;
-use series_file::Loaded;
 use std::alloc::Global;
+use std::thread::Threads;
 
 /// Runs the program on the words of a command line: answers go to `out`, and to `err` a line where it failed.
-/// `files` is where names are opened. The status tells how it ended.
-pub fn run<F: Files, S: Sink, E: Sink, G: Gate + Sync>(
+/// `files` is where names are opened, `rt` gives threads, and `gate` comes before each turn of a worker. The status
+/// tells how it ended.
+pub fn run<T: Threads + Sync, F: Files, S: Sink, E: Sink, G: Gate + Sync>(
+    rt: &T,
     alloc: Global,
     words: &[String],
     files: &mut F,
     out: &mut S,
     err: &mut E,
-    _gate: &G,
+    gate: &G,
 ) -> Status
     ensures ends { Ends (map string_bytes words.now)
         (read_from F.held F.faults F.misses F.blamed files.old files.new)
@@ -40,13 +44,19 @@ pub fn run<F: Files, S: Sink, E: Sink, G: Gate + Sync>(
     ensures kept { F.held files.new ≡ F.held files.old }
     ensures reliable { F.reliable files.old → (w : Which) → result ≢ Status.ReadFault w }
 {
-    let status = search(alloc, words, files, out);
+    let crew = Crew { rt, alloc, gate };
+    let status = search(&crew, words, files, out);
     tell(err, &status);
     status
 }
 
 // Runs all but the line that tells how it ended.
-fn search<F: Files, S: Sink>(alloc: Global, words: &[String], files: &mut F, out: &mut S) -> Status
+fn search<T: Threads + Sync, F: Files, S: Sink, G: Gate + Sync>(
+    crew: &Crew<'_, T, G>,
+    words: &[String],
+    files: &mut F,
+    out: &mut S,
+) -> Status
     ensures ends { Ends (map string_bytes words.now)
         (read_from F.held F.faults F.misses F.blamed files.old files.new)
         (wrote_to S.written S.faults S.sure out.old out.new) result }
@@ -55,79 +65,56 @@ fn search<F: Files, S: Sink>(alloc: Global, words: &[String], files: &mut F, out
     ensures kept { F.held files.new ≡ F.held files.old }
     ensures reliable { F.reliable files.old → (w : Which) → result ≢ Status.ReadFault w }
 {
-    match request_of(alloc, words) {
-        Ok(request) => answer_request(alloc, &request, files, out),
+    match parse_words(crew.alloc, words) {
+        Ok(command) => {
+            if is_served(&command) {
+                answer_command(crew, &command, files, out)
+            } else {
+                Status::Usage
+            }
+        }
         Err(WordsError::Usage) => Status::Usage,
         Err(WordsError::NoMemory) => Status::Memory,
     }
 }
 
-// Reads both files and writes the text of the search.
-fn answer_request<F: Files, S: Sink>(
-    alloc: Global,
-    request: &Request,
+// Answers one command.
+fn answer_command<T: Threads + Sync, F: Files, S: Sink, G: Gate + Sync>(
+    crew: &Crew<'_, T, G>,
+    command: &Command,
     files: &mut F,
     out: &mut S,
 ) -> Status
-    requires { IsRequest request.now }
+    requires limits { KeepsLimits command.now }
+    requires served { IsServed command.now }
     ensures answers { Answers
         (read_from F.held F.faults F.misses F.blamed files.old files.new)
-        (wrote_to S.written S.faults S.sure out.old out.new) request.now result }
-    ensures complete { CanAnswer (F.held files.old) request.now
+        (wrote_to S.written S.faults S.sure out.old out.new) command.now result }
+    ensures not_usage { result ≢ Status.Usage }
+    ensures complete { CanAnswer (F.held files.old) command.now
         → IsAnswered (F.faults files.old) (F.faults files.new) (S.faults out.old) (S.faults out.new) result }
     ensures kept { F.held files.new ≡ F.held files.old }
     ensures reliable { F.reliable files.old → (w : Which) → result ≢ Status.ReadFault w }
 {
-    let both = match read_both(alloc, request, files) {
-        Ok(both) => both,
-        Err(status) => return status,
-    };
-    match write_nearest(alloc, &both.series, &both.queries.rows, request.k, out) {
-        Ok(()) => Status::Done,
-        Err(Stop::WriteFault) => Status::WriteFault,
-        Err(Stop::NoMemory) => Status::Memory,
+    match command {
+        Command::Nearest {
+            series,
+            queries,
+            options,
+        } => answer_nearest(crew, series, queries, options, files, out),
+        Command::Range {
+            series,
+            queries,
+            radius,
+            options,
+        } => answer_range(crew, series, queries, *radius, options, files, out),
+        Command::Trial {
+            seed,
+            count,
+            length,
+            queries,
+            options,
+        } => answer_trial(crew.alloc, *seed, *count, *length, *queries, options, out),
+        _ => Status::Usage,
     }
-}
-
-// The series and the queries, of one length.
-#[derive(Drop)]
-struct Both {
-    series: Loaded,
-    queries: Loaded,
-}
-
-// Reads the file of the series and then that of the queries, and compares their lengths.
-fn read_both<F: Files>(alloc: Global, request: &Request, files: &mut F) -> Result<Both, Status>
-    requires { IsRequest request.now }
-    ensures found { IfOk result (λ both. HoldsBoth (F.held files.old) request.now both.series both.queries) }
-    ensures lengths { IfOk result (λ both. both.queries.rows.points ≡ both.series.rows.points) }
-    ensures refused { IfErr result (Refuses
-        (read_from F.held F.faults F.misses F.blamed files.old files.new) request.now) }
-    ensures kept { F.held files.new ≡ F.held files.old }
-    ensures reliable { F.reliable files.old → (w : Which) → result ≢ Err (Status.ReadFault w) }
-{
-    let series = match load(
-        alloc,
-        files,
-        request.series.text.as_str(),
-        Which::Series,
-        request.form,
-    ) {
-        Ok(series) => series,
-        Err(status) => return Err(status),
-    };
-    let queries = match load(
-        alloc,
-        files,
-        request.queries.text.as_str(),
-        Which::Queries,
-        request.form,
-    ) {
-        Ok(queries) => queries,
-        Err(status) => return Err(status),
-    };
-    if series.rows.length() != queries.rows.length() {
-        return Err(Status::Mismatch(series.rows.length(), queries.rows.length()));
-    }
-    Ok(Both { series, queries })
 }

@@ -137,7 +137,7 @@ fn spelled(alloc: Global, length: u16, count: u32, values: &[i16]) -> Result<Vec
 }
 
 /// Holds the files of the tables: `A` and its query `Q`, `A2` with labels, and small and broken ones.
-fn hold_files(alloc: Global, files: &mut MemFiles) -> Result<(), NoMemory> {
+pub fn hold_files(alloc: Global, files: &mut MemFiles) -> Result<(), NoMemory> {
     files.hold("A", &spelled(alloc, 4, 4, &VALUES)?)?;
     files.hold("Q", &spelled(alloc, 4, 1, &[1, 1, 1, 1])?)?;
     files.hold("A2", LABELLED)?;
@@ -184,7 +184,7 @@ fn hold_changed(alloc: Global, files: &mut MemFiles) -> Result<(), NoMemory> {
 }
 
 /// The words of a line.
-fn words_of(alloc: Global, line: &str) -> Result<Vec<String>, NoMemory> {
+pub fn words_of(alloc: Global, line: &str) -> Result<Vec<String>, NoMemory> {
     let mut words = Vec::new(alloc);
     for word in line.split(' ') {
         words.push(String::from_str(alloc, word)?)?;
@@ -201,7 +201,7 @@ fn runs_end_as_they_should(rt: HostRuntime) -> Result<(), Fail> {
         let words = words_of(alloc, line)?;
         let mut out = MemSink::new(alloc, 1000, 1000, Vec::new(alloc))?;
         let mut err = MemSink::new(alloc, 1000, 1000, Vec::new(alloc))?;
-        let ended = run(alloc, &words, &mut files, &mut out, &mut err, &NoGate);
+        let ended = run(&rt, alloc, &words, &mut files, &mut out, &mut err, &NoGate);
         assert_eq!(rt; ended, status, "{line}");
         assert_eq!(rt; out.written(), text.as_bytes(), "{line}");
         assert_eq!(rt; err.written(), told.as_bytes(), "{line}");
@@ -234,7 +234,7 @@ fn runs_whose_outside_fails(rt: HostRuntime) -> Result<(), Fail> {
         let words = words_of(alloc, "nearest A Q")?;
         let mut out = MemSink::new(alloc, 1000, 4, [write].to_vec(alloc)?)?;
         let mut err = MemSink::new(alloc, 1000, 4, [1].to_vec(alloc)?)?;
-        let ended = run(alloc, &words, &mut files, &mut out, &mut err, &NoGate);
+        let ended = run(&rt, alloc, &words, &mut files, &mut out, &mut err, &NoGate);
         assert_eq!(rt; ended, status, "open {open}, read {read}, write {write}");
         assert_eq!(rt;
             out.written(),
@@ -260,7 +260,7 @@ fn each_read_may_fail(rt: HostRuntime) -> Result<(), Fail> {
         let words = words_of(alloc, "nearest A Q")?;
         let mut out = MemSink::new(alloc, 1000, 1000, Vec::new(alloc))?;
         let mut err = MemSink::new(alloc, 1000, 1000, Vec::new(alloc))?;
-        let ended = run(alloc, &words, &mut files, &mut out, &mut err, &NoGate);
+        let ended = run(&rt, alloc, &words, &mut files, &mut out, &mut err, &NoGate);
         if read <= 4 {
             assert_eq!(rt; ended, Status::ReadFault(Which::Series), "read {read}");
         } else if ended != Status::Done {
@@ -284,7 +284,7 @@ fn a_line_that_is_not_told_changes_no_status(rt: HostRuntime) -> Result<(), Fail
         let words = words_of(alloc, line)?;
         let mut out = MemSink::new(alloc, 1000, 1000, Vec::new(alloc))?;
         let mut err = MemSink::new(alloc, 1000, 1000, [1].to_vec(alloc)?)?;
-        let ended = run(alloc, &words, &mut files, &mut out, &mut err, &NoGate);
+        let ended = run(&rt, alloc, &words, &mut files, &mut out, &mut err, &NoGate);
         assert_eq!(rt; ended, Status::Mismatch(4, 3), "{line}");
         assert!(rt;
             out.written().is_empty() && err.written().is_empty(),

@@ -1,0 +1,43 @@
+-- What a run was handed to read from and to write to, and what reading and writing did.
+use Rattle.std.specs.Prelude.{ℕ, List, Option}
+use Rattle.outside.specs.Files.{Held}
+
+-- What was handed in to read from, and what reading did: the files, the counts of faults and of absent names
+-- before and after, and the name of the file that failed. Files and name are there where they are told.
+pub record Reading : Type 0 where
+  pub held : Option Held
+  pub faults : ℕ
+  pub later : ℕ
+  pub misses : ℕ
+  pub more : ℕ
+  pub blamed : Option (List ℕ)
+
+-- What was handed in to write to, and what writing did: the bytes before and after, where told, the count of
+-- faults before and after, and how many bytes were sure to be taken.
+pub record Writing : Type 0 where
+  pub before : Option (List ℕ)
+  pub now : Option (List ℕ)
+  pub faults : ℕ
+  pub later : ℕ
+  pub sure : ℕ
+
+-- what reading did between two states of the files
+abbrev pub read_from : {F : Type 0} → (F → Option Held) → (F → ℕ) → (F → ℕ) → (F → Option (List ℕ)) → F → F → Reading
+read_from held faults misses blamed old new = record {
+  held = held old;
+  faults = faults old;
+  later = faults new;
+  misses = misses old;
+  more = misses new;
+  blamed = blamed new;
+}
+
+-- what writing did between two states of a sink
+abbrev pub wrote_to : {S : Type 0} → (S → Option (List ℕ)) → (S → ℕ) → (S → ℕ) → S → S → Writing
+wrote_to written faults sure old new = record {
+  before = written old;
+  now = written new;
+  faults = faults old;
+  later = faults new;
+  sure = sure old;
+}

@@ -1,0 +1,65 @@
+-- A trial: a search over random walks that are all made from one number, and the four lines that sum it up.
+use Rattle.std.specs.Prelude.{◌≡◌, ℕ, ◌*◌, ◌≤◌, ℤ, List, [], ◌∷◌, ◌++◌, codes, decimal, length, map}
+use Rattle.list_totals.specs.Totals.{total}
+use Rattle.series_core.specs.Answer.{answer}
+use Rattle.series_core.specs.Collection.{Collection}
+use Rattle.series_core.specs.declared.pair.Pair.{Pair}
+use Rattle.command_words.specs.declared.options.Options.{Options}
+use Rattle.search_run.specs.Sources.{HasSegments}
+use Rattle.random_walks.specs.Walks.{state_at, walks_from}
+use Rattle.search_run.specs.declared.summary.Summary.{Summary}
+
+-- the series of a trial: so many walks of n values, drawn from the generator that stands at the seed
+abbrev pub trial_series : ℕ → ℕ → ℕ → Collection
+trial_series seed count n = walks_from n seed count
+
+-- the queries of a trial: so many walks, drawn behind the series from the same stream
+abbrev pub trial_queries : ℕ → ℕ → ℕ → ℕ → Collection
+trial_queries seed count n queries = walks_from n (state_at seed (count * n)) queries
+
+-- the answers to these queries
+abbrev pub answers_of : Collection → ℕ → List (List ℤ) → List (List Pair)
+answers_of series k queries = map (λ q. answer series q k) queries
+
+-- the sum of a number of each pair over all answers
+abbrev pub sum_over : (Pair → ℕ) → List (List Pair) → ℕ
+sum_over f answers = total (λ pairs. total f pairs) answers
+
+-- how many answers there are, and the sums of their distances and of their numbers
+abbrev pub summed : List (List Pair) → Summary
+summed answers = record {
+  answers = total (λ pairs. length pairs) answers;
+  distances = sum_over (λ p. p.distance) answers;
+  numbers = sum_over (λ p. p.number) answers;
+}
+
+-- text and a number behind it
+abbrev pub counted : List ℕ → ℕ → List ℕ
+counted text n = text ++ decimal n
+
+-- the four lines
+abbrev pub summary_lines : ℕ → ℕ → ℕ → ℕ → Summary → List ℕ
+summary_lines count n queries k s =
+    counted (codes "series ") count ++ counted (codes " length ") n
+    ++ counted (codes " queries ") queries ++ counted (codes " k ") k
+    ++ counted (codes "\nanswers ") s.answers ++ counted (codes "\ntotal ") s.distances
+    ++ counted (codes "\nnumbers ") s.numbers ++ 10 ∷ []
+
+-- the text of a trial
+abbrev pub trial_text : ℕ → ℕ → ℕ → ℕ → ℕ → List ℕ
+trial_text seed count n queries k =
+    summary_lines count n queries k
+    (summed (answers_of (trial_series seed count n) k (trial_queries seed count n queries).series))
+
+-- the walks have as many segments as were asked for, if any were, and this is the text of the trial
+abbrev pub IsTrialText : ℕ → ℕ → ℕ → ℕ → Options → List ℕ → Type 0
+IsTrialText seed count n queries o text =
+    HasSegments o.segments n × (text ≡ trial_text seed count n queries o.k)
+
+-- the numbers of a trial are within their limits
+pub record KeepsTrialLimits (count n queries : ℕ) : Type 0 where
+  pub count_limit : count ≤ 16777216
+  pub some_point : 1 ≤ n
+  pub length_limit : n ≤ 65536
+  pub queries_limit : queries ≤ 1000
+  pub values_limit : count * n ≤ 134217728

@@ -1,0 +1,27 @@
+//! How series become words, by the options of a command.
+
+ghost use Rattle.std.specs.Prelude.{◌≡◌, ◌≤◌, IfSome};
+ghost use Rattle.command_words.specs.Limits.{IsWithin};
+ghost use Rattle.search_run.specs.Sources.{HasSegments};
+
+use breakpoints::Table;
+use isax_word::Layout;
+use segment_sums::Cuts;
+
+/// The layout of series of `length` values: with the asked segments, or with as many as there may be, up to 16.
+pub fn layout_of(length: u32, segments: Option<u32>, table: Table) -> Layout
+    requires some_point { 1 ≤ length }
+    requires length_limit { length ≤ 65536 }
+    requires within { IfSome segments (IsWithin 1 16) }
+    requires fits { HasSegments segments length }
+    ensures { result.cuts.row_length ≡ length }
+{
+    let count = match segments {
+        Some(segments) => segments,
+        None => length.min(16),
+    };
+    Layout {
+        cuts: Cuts::new(length, count),
+        table,
+    }
+}

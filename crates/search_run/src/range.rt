@@ -1,0 +1,78 @@
+//! The command `range`: for each query all series within a radius, by a search of the tree.
+
+ghost use Rattle.std.specs.Prelude.{◌≡◌, ◌≢◌};
+ghost use Rattle.command_words.specs.Limits.{OptionsKeepLimits};
+ghost use Rattle.search_run.specs.Traffic.{read_from, wrote_to};
+ghost use Rattle.search_run.specs.Sources.{sources, RefusesBoth};
+ghost use Rattle.search_run.specs.Commands.{IsRangeText, CanRead};
+ghost use Rattle.search_run.specs.Ends.{Concludes, IsAnswered};
+ghost use Rattle.search_run.specs.declared.status.Status.{Status};
+ghost use Rattle.search_run.specs.declared.status.Which.{Which};
+
+use crate::answering::write_answers;
+use crate::crew::Crew;
+use crate::finder::Finder;
+use crate::layout::layout_of;
+use crate::sources::read_both;
+use crate::status::Status;
+use crate::stop::Stop;
+use command_words::{Options, Text};
+use outside::{Files, Gate, Sink};
+use series_core::Rows;
+use std::thread::Threads;
+use subtree_build::{Settings, build};
+
+/// Answers `range`: reads both files, builds the tree, and writes for each query all series within the radius.
+pub fn answer_range<T: Threads + Sync, F: Files, S: Sink, G: Gate + Sync>(
+    crew: &Crew<'_, T, G>,
+    series: &Text,
+    queries: &Text,
+    radius: u64,
+    options: &Options,
+    files: &mut F,
+    out: &mut S,
+) -> Status
+    requires { OptionsKeepLimits options.now }
+    ensures answers { let both = sources series.now queries.now options.now in
+        Concludes (IsRangeText (F.held files.old) both radius)
+        (RefusesBoth (read_from F.held F.faults F.misses F.blamed files.old files.new) both)
+        (wrote_to S.written S.faults S.sure out.old out.new) result }
+    ensures not_usage { result ≢ Status.Usage }
+    ensures complete { CanRead (F.held files.old) (sources series.now queries.now options.now)
+        → IsAnswered (F.faults files.old) (F.faults files.new) (S.faults out.old) (S.faults out.new) result }
+    ensures kept { F.held files.new ≡ F.held files.old }
+    ensures reliable { F.reliable files.old → (w : Which) → result ≢ Status.ReadFault w }
+{
+    let both = match read_both(crew.alloc, files, series, queries, options) {
+        Ok(both) => both,
+        Err(status) => return status,
+    };
+    let rows = &both.series.rows;
+    let settings = Settings {
+        layout: layout_of(rows.length(), options.segments, options.table),
+        leaf_size: options.leaf,
+    };
+    let index = match build(
+        crew.rt,
+        crew.alloc,
+        rows,
+        &settings,
+        options.workers,
+        crew.gate,
+    ) {
+        Ok(index) => index,
+        Err(_) => return Status::Memory,
+    };
+    let near = Finder::Near {
+        rows,
+        index: &index,
+        layout: &settings.layout,
+        radius,
+        workers: options.workers,
+    };
+    match write_answers(crew, &near, &both.series.labels, &both.queries.rows, out) {
+        Ok(()) => Status::Done,
+        Err(Stop::WriteFault) => Status::WriteFault,
+        Err(Stop::NoMemory) => Status::Memory,
+    }
+}
