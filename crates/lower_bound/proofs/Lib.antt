@@ -3,3 +3,4 @@ pub mod Gaps
 pub mod Distances
 pub mod Views
 pub mod Bounds
+pub mod HalfBounds

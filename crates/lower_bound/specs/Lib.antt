@@ -1,6 +1,7 @@
 -- The definitions of this crate, and those of the crates below that its public clauses cite.
 pub mod Gap
 pub mod Bound
+pub mod Halves
 pub use Rattle.breakpoints.specs.Breakpoint
 pub use Rattle.segment_sums.specs.Division
 pub use Rattle.segment_sums.specs.Sum

@@ -1,7 +1,8 @@
 //! The cost of a symbol for a query's segment: how far the query's sum lies outside the symbol's sums.
 ghost use Rattle.std.specs.Prelude.{◌≡◌, ◌+◌, ◌*◌, ◌<◌, ◌≤◌, pos, neg_ℤ, ◌-ℤ◌, ◌*ℤ◌, ◌≤ℤ◌};
 ghost use Rattle.breakpoints.specs.Breakpoint.{breakpoint};
-ghost use Rattle.lower_bound.specs.Gap.{excess, gap, gap_below, gap_above, symbol_cost, HoldsCosts};
+ghost use Rattle.isax_word.specs.declared.word.Part.{Part};
+ghost use Rattle.lower_bound.specs.Gap.{excess, gap, gap_below, gap_above, cost_of_gap, symbol_cost, part_cost, HoldsCosts};
 
 use breakpoints::Table;
 
@@ -66,6 +67,15 @@ fn gap_of_symbol(table: Table, length: u32, sum: i32, symbol: u32) -> u64
     below(table, length, sum, symbol) + above(table, length, sum, symbol + 1)
 }
 
+/// The square of a gap by the length of the segment, rounded up.
+fn cost_over(length: u32, gap: u64) -> u64
+    requires some_values { 1 ≤ length }
+    requires within_reach { gap ≤ 4278190080 }
+    ensures { result ≡ cost_of_gap length gap }
+{
+    (gap * gap + u64::from(length - 1)) / u64::from(length)
+}
+
 /// The cost of one symbol for a segment of this length and sum: the square of the gap by the length, rounded up.
 fn cost_of_symbol(table: Table, length: u32, sum: i32, symbol: u32) -> u64
     requires some_values { 1 ≤ length }
@@ -76,7 +86,33 @@ fn cost_of_symbol(table: Table, length: u32, sum: i32, symbol: u32) -> u64
     ensures { result ≡ symbol_cost table length sum symbol }
 {
     let gap = gap_of_symbol(table, length, sum, symbol);
-    (gap * gap + u64::from(length - 1)) / u64::from(length)
+    cost_over(length, gap)
+}
+
+/// How far a sum lies outside the sums of the symbols that begin with one bit.
+fn gap_of_bit(table: Table, length: u32, sum: i32, bit: u32) -> u64
+    requires some_values { 1 ≤ length }
+    requires few_values { length ≤ 65536 }
+    requires not_low { neg_ℤ (pos (32768 * length)) ≤ℤ sum }
+    requires not_high { sum ≤ℤ pos (32767 * length) }
+    requires one_bit { bit < 2 }
+    ensures value { result ≡ gap table length sum (bit * 128) ((bit + 1) * 128) }
+    ensures bound { result ≤ 4278190080 }
+{
+    below(table, length, sum, bit * 128) + above(table, length, sum, (bit + 1) * 128)
+}
+
+/// The cost of one bit as a part, for a segment of this length and sum.
+pub(crate) fn cost_of_bit(table: Table, length: u32, sum: i32, bit: u32) -> u64
+    requires some_values { 1 ≤ length }
+    requires few_values { length ≤ 65536 }
+    requires not_low { neg_ℤ (pos (32768 * length)) ≤ℤ sum }
+    requires not_high { sum ≤ℤ pos (32767 * length) }
+    requires one_bit { bit < 2 }
+    ensures { result ≡ part_cost table length sum (record { prefix = bit; bits = 1 }) }
+{
+    let gap = gap_of_bit(table, length, sum, bit);
+    cost_over(length, gap)
 }
 
 /// The costs of all 256 symbols for a segment of this length and sum.

@@ -4,6 +4,7 @@
 
 mod cost;
 mod laws;
+mod roots;
 #[cfg(test)]
 mod tests;
 mod view;

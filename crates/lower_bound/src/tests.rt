@@ -162,3 +162,70 @@ fn a_full_word_costs_its_symbols(rt: HostRuntime) -> Result<(), Fail> {
     }
     Ok(())
 }
+
+#[test]
+fn bounds_of_root_rows(rt: HostRuntime) -> Result<(), Fail> {
+    let rows: [(&[i16], u32, u32, u64); 5] = [
+        (&[1, 1, 1, 1], 2, 0, 10),
+        (&[1, 1, 1, 1], 2, 3, 0),
+        (&[0], 1, 0, 1),
+        (&[-1, 0, 0, 0, -1], 2, 3, 2),
+        (&[-1, 0, 0, 0, -1], 2, 0, 0),
+    ];
+    for (query, segments, root, bound) in rows {
+        assert!(rt;
+            1 <= segments
+                && segments <= 16
+                && segments as usize <= query.len()
+                && query.len() <= 65536
+                && root < 1 << segments,
+            "{root} is no root number of {segments} segments of {query:?}"
+        );
+        let layout = Layout {
+            cuts: Cuts::new(query.len() as u32, segments),
+            table: Table::Flat,
+        };
+        assert_eq!(rt;
+            QueryView::new(&layout, query).bound_root(root),
+            bound,
+            "root {root} of {segments} segments for {query:?}"
+        );
+    }
+    Ok(())
+}
+
+/// Compares the bounds of 512 root numbers of so many segments with those of their words.
+fn compare_roots(rt: &impl Abort, table: Table, segments: u32) {
+    assert!(rt; 1 <= segments && segments <= 16, "{segments} segments");
+    let query: [i16; 18] = [
+        -32768, 32767, -1, 0, 1, 24256, -24257, 100, -7, 3, 9000, -9000, 1, 1, -1, -1, 12345, -54,
+    ];
+    let layout = Layout {
+        cuts: Cuts::new(18, segments),
+        table,
+    };
+    let view = QueryView::new(&layout, &query);
+    for step in 0..512u32 {
+        let root = (step * 129) % (1 << segments);
+        let word = Word::of_root(root, segments);
+        assert!(rt;
+            word.segments() == view.segments(),
+            "root {root} has a word of {} segments",
+            word.segments()
+        );
+        assert_eq!(rt;
+            view.bound_root(root),
+            view.bound_word(&word),
+            "root {root} of {segments} segments in {table:?}"
+        );
+    }
+}
+
+#[test]
+fn a_root_number_costs_its_word(rt: HostRuntime) -> Result<(), Fail> {
+    for segments in [1, 7, 8, 9, 16] {
+        compare_roots(&rt, Table::Flat, segments);
+        compare_roots(&rt, Table::Bent, segments);
+    }
+    Ok(())
+}

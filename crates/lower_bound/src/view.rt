@@ -2,15 +2,16 @@
 //! look-up and one addition a segment. The cost of a prefix is that of its symbol nearest to the query's.
 ghost use Rattle.std.specs.Prelude.{◌≡◌, ◌+◌, ◌*◌, ◌<◌, ◌≤◌, ◌^◌, length};
 ghost use Rattle.isax_word.specs.declared.word.Part.{Part};
-ghost use Rattle.isax_word.specs.Word.{IsPart};
+ghost use Rattle.isax_word.specs.Word.{IsPart, one_bit_word};
 ghost use Rattle.lower_bound.specs.Gap.{nearest_symbol};
 ghost use Rattle.lower_bound.specs.Bound.{IsView, view_of, word_bound, eight_bit_word};
 
 use crate::cost::costs_of_symbols;
+use crate::roots::bounds_of_bits;
 use isax_word::{Full, Layout, Word};
 use std::marker::Model;
 
-/// A query under a layout, seen as the layout and the sums of the query's segments. It takes 32 KiB in
+/// A query under a layout, seen as the layout and the sums of the query's segments. It takes 36 KiB in
 /// place: pass it by reference.
 #[derive(Drop)]
 pub struct QueryView {
@@ -18,18 +19,22 @@ pub struct QueryView {
     sums: [i32; 16],
     full: Full,
     costs: [[u64; 256]; 16],
+    high: [u64; 256],
+    low: [u64; 256],
 }
 
 impl Model for QueryView {
     ghost use Rattle.std.specs.Prelude.{take, ◌≡◌};
     ghost use Rattle.lower_bound.specs.Bound.{View, IsView, HoldsView};
+    ghost use Rattle.lower_bound.specs.Halves.{view_with, HoldsHalves};
 
     ghost Value = { View };
 
     ghost view = { λ v. record { layout = v.layout; sums = take v.layout.cuts.segments v.sums } };
 
     ghost invariant = { λ v. IsView (record { layout = v.layout; sums = take v.layout.cuts.segments v.sums })
-        × HoldsView (record { layout = v.layout; sums = take v.layout.cuts.segments v.sums }) v.full v.costs };
+        × HoldsView (record { layout = v.layout; sums = take v.layout.cuts.segments v.sums }) v.full v.costs
+        × HoldsHalves (view_with v.layout v.sums) v.high v.low };
 }
 
 impl QueryView {
@@ -47,11 +52,17 @@ impl QueryView {
             costs[j as usize] = costs_of_symbols(layout.table, to - from, sums[j as usize]);
         }
         let full = Full::of(layout, query);
+        let segments = layout.cuts.segments();
+        let high_segments = segments.saturating_sub(8);
+        let high = bounds_of_bits(layout, &sums, 0, high_segments);
+        let low = bounds_of_bits(layout, &sums, high_segments, segments - high_segments);
         QueryView {
             layout: *layout,
             sums,
             full,
             costs,
+            high,
+            low,
         }
     }
 
@@ -80,6 +91,19 @@ impl QueryView {
             bound += self.costs[j as usize][full.symbol(j) as usize];
         }
         bound
+    }
+
+    /// The lower bound of the word of one bit in each segment, the bits of `root`, segment 0 the most significant.
+    pub fn bound_root(&self, root: u32) -> u64
+        requires { root < 2 ^ self.now.layout.cuts.segments }
+        ensures value { result ≡ word_bound self.now (one_bit_word root self.now.layout.cuts.segments) }
+        ensures small { result < 2 ^ 49 }
+    {
+        let segments = self.layout.cuts.segments();
+        let low_segments = segments - segments.saturating_sub(8);
+        let high = self.high[(root >> low_segments) as usize];
+        let low = self.low[(root % (1 << low_segments)) as usize];
+        high + low
     }
 
     /// The number of segments, from 1 to 16.

@@ -1,5 +1,5 @@
 //! The index: root children by root number, the nodes below them, and the leaves in order.
-ghost use Rattle.std.specs.Prelude.{◌≡◌, ◌<◌, length, map, Some, slice_get, slice_index};
+ghost use Rattle.std.specs.Prelude.{◌≡◌, ◌<◌, ◌^◌, length, map, Some, slice_get, slice_index};
 ghost use Rattle.subtree_build.specs.Division.{roots_of, tree, tree_leaves};
 ghost use Rattle.subtree_build.specs.Fits.{Fits, IsTreeOf};
 ghost use Rattle.subtree_build.specs.Index.{IsIndex, leaf_at, root_word_at};
@@ -94,6 +94,15 @@ impl Index {
         ensures { slice_get self.now.nodes i ≡ Some result.now }
     {
         &self.nodes[i as usize]
+    }
+
+    /// The root number of root child number `i`, of one bit for each segment.
+    pub(crate) fn root_number(&self, i: u32) -> u32
+        requires { i < length self.now.roots }
+        ensures value { result ≡ slice_index self.now.roots i }
+        ensures bits { result < 2 ^ self.now.segments }
+    {
+        self.roots[i as usize]
     }
 
     /// The word of root child number `i`, which has one bit in each segment.

@@ -26,12 +26,12 @@ impl Index {
     }
 
     /// The bound of root child number `i`.
-    fn root_bound(&self, view: &QueryView, i: u32) -> u64
+    pub fn root_bound(&self, view: &QueryView, i: u32) -> u64
         requires segments { self.now.segments ≡ view.now.layout.cuts.segments }
         requires root { i < length self.now.roots }
         ensures { result ≡ root_bound view.now self.now i }
     {
-        view.bound_word(&self.root_word(i))
+        view.bound_root(self.root_number(i))
     }
 
     /// The root child of least bound, of two as near the one of smaller root number.

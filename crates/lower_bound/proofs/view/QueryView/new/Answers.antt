@@ -1,16 +1,17 @@
 -- The costs of each segment are those of its length and sum.
-use Rattle.std.proofs.Common.{rules, ◌≡◌, ◌≢◌, pos, ◌-◌, ◌<◌, [], arith, ap, sym, ◌∙◌, subst, get_or, take, length, below_more, get_or-set_other, get_or-set_same}
+use Rattle.std.proofs.Common.{rules, ◌≡◌, ◌≢◌, pos, ◌-◌, ◌<◌, [], arith, ap, sym, ◌∙◌, subst, get_or, length, below_more, get_or-set_other, get_or-set_same}
 use Rattle.std.specs.Prelude.{FitsSigned}
 use Rattle.std.specs.Int.{w32}
 use Rattle.std.proofs.lemmas.Int.{ints, to_z-of_z}
-use Rattle.std.proofs.lemmas.List.{length-set, take_at}
-use Rattle.std.proofs.lemmas.List.FromFn.{length-map-range_with_len}
+use Rattle.std.proofs.lemmas.List.{length-set}
 use Rattle.segment_sums.specs.Division.{cut_place, segment_length}
-use Rattle.segment_sums.specs.Sum.{segment_sum, segment_sums}
+use Rattle.segment_sums.specs.Sum.{segment_sum}
 use Rattle.segment_sums.proofs.Sums.{segment_sums_at}
 use Rattle.lower_bound.specs.Gap.{HoldsCosts}
 use Rattle.lower_bound.specs.Bound.{IsView, HoldsView, view_of}
-use Rattle.lower_bound.proofs.Views.{IsView-view_of, HoldsView-view_of}
+use Rattle.lower_bound.specs.Halves.{view_with, high_segments, HoldsBounds}
+use Rattle.lower_bound.proofs.Views.{HoldsView-view_of}
+use Rattle.lower_bound.proofs.HalfBounds.{view_of_sums, IsView-of_sums}
 use Rattle.lower_bound.proofs.view.QueryView.new.Goals as goal
 
 pub costs_of_symbols-requires-clause-not_low : goal.costs_of_symbols-requires-clause-not_low
@@ -73,27 +74,43 @@ loop-j-preserved c =
           (sym (get_or-set_same costs j made [] inside)) here);
     }
 
+pub bounds_of_bits-high-requires-clause-is_view : goal.bounds_of_bits-high-requires-clause-is_view
+bounds_of_bits-high-requires-clause-is_view c =
+    IsView-of_sums c.args.layout.now c.args.query.now c.sums.new.into _ c.segments-j-end.ensures.divides
+    c.sums.ensures.sums c.sums.ensures.not_low c.sums.ensures.not_high
+
+pub bounds_of_bits-low-requires-clause-is_view : goal.bounds_of_bits-low-requires-clause-is_view
+bounds_of_bits-low-requires-clause-is_view c =
+    IsView-of_sums c.args.layout.now c.args.query.now c.sums.new.into _ c.segments-j-end.ensures.divides
+    c.sums.ensures.sums c.sums.ensures.not_low c.sums.ensures.not_high
+
 pub invariant_of-result : goal.invariant_of-result
 invariant_of-result c =
     let layout = c.args.layout.now in
     let query = c.args.query.now in
-    let segments = layout.cuts.segments in
+    let w = layout.cuts.segments in
     let costs = c.loop-j.costs in
-    let sums : take segments c.sums.new.into ≡ segment_sums layout.cuts query
-    = ap (λ l. take segments l) c.sums.ensures.sums
-    ∙ take_at (segment_sums layout.cuts query) _ segments
-    (length-map-range_with_len _ 0 segments) in
-    let same : record {
-      layout = layout;
-      sums = take segments c.sums.new.into;
-    } ≡ view_of layout query
-    = ap (λ s. record { layout = layout; sums = s }) sums in
-    let is : IsView (view_of layout query)
-    = IsView-view_of layout query c.segments-j-end.ensures.divides c.sums.ensures.not_low c.sums.ensures.not_high in
+    let same : view_with layout c.sums.new.into ≡ view_of layout query
+    = view_of_sums layout query c.sums.new.into _ c.sums.ensures.sums in
+    let is : IsView (view_with layout c.sums.new.into)
+    = IsView-of_sums layout query c.sums.new.into _ c.segments-j-end.ensures.divides
+    c.sums.ensures.sums c.sums.ensures.not_low c.sums.ensures.not_high in
     let holds = HoldsView-view_of layout query costs
     (λ k used. c.loop-j.invariant.each k
-    (omega (arith, used, c.segments-j-end.ensures.value, c.loop-j-test.false))) in (
-      subst IsView (sym same) is,
+    (omega (arith, used, c.segments-j-end.ensures.value, c.loop-j-test.false))) in
+    let high : c.saturating_sub-high_segments.result ≡ w - 8
+    = omega (arith, c.segments-segments.ensures.value, c.saturating_sub-high_segments.ensures) in
+    let low : c.segments-segments.result - c.saturating_sub-high_segments.result ≡ w - (w - 8)
+    = omega (arith, c.segments-segments.ensures.value, c.saturating_sub-high_segments.ensures) in
+    let view = view_with layout c.sums.new.into in (
+      is,
       subst (λ v. HoldsView v c.of-full.result costs) (sym same)
           (subst (λ f. HoldsView (view_of layout query) f costs) (sym c.of-full.ensures) holds),
+      record {
+        in_high = subst (λ n. HoldsBounds view 0 n c.bounds_of_bits-high.result) high
+            c.bounds_of_bits-high.ensures;
+        in_low = subst (λ n. HoldsBounds view (high_segments w) n c.bounds_of_bits-low.result) low
+            (subst (λ k. HoldsBounds view k (c.segments-segments.result - c.saturating_sub-high_segments.result)
+            c.bounds_of_bits-low.result) high c.bounds_of_bits-low.ensures);
+      },
     )
