@@ -6,7 +6,9 @@ use Rattle.query_core.specs.declared.phase.Phase.TheVariants.{Aim, Claim, Give, 
 use Rattle.query_core.specs.Ground.{Fits, Ground}
 use Rattle.query_core.specs.Machine.{Worker, after_claim, idle, leader, start_list}
 use Rattle.query_core.specs.OwnRecord.{Floored, Member, OwnRecord, nothing_yet, with_claim}
-use Rattle.query_core.specs.Replies.{Claimed, Offered, PopTold, PutTold, Reply, ReplyFits, Seen, after, after_reply, leaves_below}
+use Rattle.query_core.specs.Replies.{ReplyFits, after, after_reply, leaves_below}
+use Rattle.query_core.specs.declared.calls.Reply.{Reply}
+use Rattle.query_core.specs.declared.calls.Reply.TheVariants.{Claimed, Offered, PopTold, PutTold, Seen}
 use Rattle.query_core.specs.Stands.{Stands}
 use Rattle.query_core.proofs.Counts.{counts_or_not, same_counts}
 use Rattle.query_core.proofs.Opening.{start_only}

@@ -64,7 +64,7 @@ scan_next g v s ss ps =
     ∙ sym (cond-false (leb (g.distance s) v) more before no))
 
 -- past the end of a list there is no limit
-past_end : (n : ℕ) (ps : List Pair) → length ps ≤ n → distance_at n ps ≡ NONE
+pub past_end : (n : ℕ) (ps : List Pair) → length ps ≤ n → distance_at n ps ≡ NONE
 past_end n [] size = refl
 past_end zero (p ∷ ps) size = absurd (omega arith)
 past_end (suc n) (p ∷ ps) size = past_end n ps (omega arith)

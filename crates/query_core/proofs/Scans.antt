@@ -186,7 +186,7 @@ list_none g P = record {
 }
 
 -- a start leaf's k smallest pairs are what a scan of it with no limit gives
-opening_scan : (g : Ground) → Fits g → (l : ℕ) → l < g.leaves
+pub opening_scan : (g : Ground) → Fits g → (l : ℕ) → l < g.leaves
     → scan g NONE (g.members l) [] ≡ opening_of g (Some l)
 opening_scan g fits l real =
     ap (smallest g.k)

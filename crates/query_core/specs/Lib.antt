@@ -10,6 +10,15 @@ pub mod Straight
 pub mod OwnRecord
 pub mod Stands
 pub mod Replies
+pub mod Calls
+pub mod Questions
+pub mod Walks
+pub mod Working
+pub mod Turning
+pub mod OneThread
+pub mod Replays
+pub mod Teams
+pub mod Fates
 pub mod Closes
 pub mod Schedules
 pub mod Examples
@@ -20,3 +29,7 @@ pub use Rattle.series_core.specs.Pairs
 pub use Rattle.series_core.specs.Order
 pub use Rattle.series_core.specs.Answer
 pub use Rattle.leaf_queues.specs.PlainQueue
+pub use Rattle.lower_bound.specs.Bound
+pub use Rattle.subtree_build.specs.Fits
+pub use Rattle.subtree_build.specs.Index
+pub use Rattle.subtree_build.specs.Start

@@ -1,20 +1,12 @@
 -- What a worker and its own record become by a reply, whatever it is that answers.
 use Rattle.std.specs.Prelude.{ℕ, ◌<◌, List, Option, None, Some, length, slice_get}
-use Rattle.series_core.specs.declared.queue_words.PutReply.{PutReply}
-use Rattle.series_core.specs.declared.queue_words.PopReply.{PopReply}
+use Rattle.query_core.specs.declared.calls.Reply.{Reply}
+use Rattle.query_core.specs.declared.calls.Reply.TheVariants.{Claimed, Seen, Offered, PutTold, PopTold}
 use Rattle.query_core.specs.declared.phase.Phase.{Phase}
 use Rattle.query_core.specs.declared.phase.Phase.TheVariants.{Claim, Look, Give, Late, Aim, Pop, Offer}
 use Rattle.query_core.specs.Ground.{Ground, worst}
 use Rattle.query_core.specs.Machine.{Worker, queue_of, round_queue, entry_of, in_phase, after_claim, after_look, after_put, after_late, after_pop, onward}
 use Rattle.query_core.specs.OwnRecord.{OwnRecord, Member, with_claim, with_read, with_offer, with_put, with_pop}
-
--- a reply: to a claim, to a read, to an offer, to a put, to a pop
-pub data Reply : Type 0 where
-  Claimed : (number : Option ℕ) → Reply
-  Seen : (limit : ℕ) → Reply
-  Offered : (limit : ℕ) → Reply
-  PutTold : (reply : PutReply) → Reply
-  PopTold : (reply : PopReply) → Reply
 
 -- a reply that a hand may give: a number that a claim gives is that of a root child
 abbrev pub ReplyFits : Ground → Reply → Type 0

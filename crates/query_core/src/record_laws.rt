@@ -10,7 +10,8 @@ ghost use Rattle.query_core.specs.Outcome.{outcome};
 ghost use Rattle.query_core.specs.Legal.{Legal};
 ghost use Rattle.query_core.specs.OwnRecord.{Member, nothing_yet};
 ghost use Rattle.query_core.specs.Stands.{Stands, StandsFor};
-ghost use Rattle.query_core.specs.Replies.{Reply, ReplyFits, after};
+ghost use Rattle.query_core.specs.declared.calls.Reply.{Reply};
+ghost use Rattle.query_core.specs.Replies.{ReplyFits, after};
 ghost use Rattle.query_core.specs.Closes.{Closes, final};
 
 /// As they open, worker 0 and the other workers stand for the empty record.

@@ -1,0 +1,146 @@
+-- Turns of a code's worker, one lemma a phase: from what the hand did to what the machine's worker becomes (`turned`).
+use Rattle.std.proofs.Common.{◌≡◌, ℕ, ◌<◌, ◌≤◌, List, [], ◌∷◌, Bool, true, false, cond, not, length, map, refl, sym, ap, ◌∙◌, subst}
+use Rattle.std.specs.Prelude.{Option, None, Some, nat_lt, ◌&&◌, slice_get, slice_index_or}
+use Rattle.std.proofs.Math.Bool.{and-false}
+use Rattle.std.proofs.lemmas.Bool.{cond-true, cond-false, le-leb, lt-ltb}
+use Rattle.std.proofs.lemmas.List.{length-map, get_or-map}
+use Rattle.std.proofs.lemmas.Option.{slice_get-get_or}
+use Rattle.subtree_build.specs.declared.node.Node.{Node, Leaf}
+use Rattle.subtree_build.specs.Outline.{leaf_numbers}
+use Rattle.subtree_build.specs.Start.{start_leaf_of}
+use Rattle.query_core.specs.declared.calls.Call.{Call}
+use Rattle.query_core.specs.declared.calls.Reply.{Reply}
+use Rattle.query_core.specs.declared.phase.Phase.{Phase}
+use Rattle.query_core.specs.declared.phase.Phase.TheVariants.{Claim, Give, Look}
+use Rattle.query_core.specs.declared.phase.Onward.{Onward}
+use Rattle.query_core.specs.declared.phase.Onward.TheVariants.{Look as ToLook}
+use Rattle.query_core.specs.Calls.{call_in}
+use Rattle.query_core.specs.Ground.{Ground}
+use Rattle.query_core.specs.Machine.{Worker, after_claim, after_late, after_look, in_phase, is_new, onward, scanned_by, skip, stopped, without}
+use Rattle.query_core.specs.OwnRecord.{OwnRecord}
+use Rattle.query_core.specs.Questions.{last_of, view_in}
+use Rattle.query_core.specs.Replies.{ReplyFits, after_reply, leaves_below}
+use Rattle.query_core.specs.Turning.{ReplyNotLow, TurnsBy, search_of, taken_by}
+use Rattle.query_core.specs.Walks.{Advances}
+use Rattle.query_core.specs.Working.{Working, Shows, is_marked}
+
+-- a turn of a worker in this phase
+pub turned_here : {H : Type 0} (did : H → Call → Reply → H → Type 0) (before after_it : H) (w v : Working)
+    (reply : Reply) (phase : Phase) → w.phase ≡ phase
+    → ((workers : ℕ) (m : Worker) → Shows w m
+    → did before (call_in (search_of w workers) w.number m phase) reply after_it)
+    → ((workers : ℕ) → ReplyFits (search_of w workers) reply) → ReplyNotLow (last_of w.question) reply
+    → ((workers : ℕ) (m : Worker) (r : OwnRecord) → Shows w m
+    → Shows v (after_reply (search_of w workers) w.number m r phase reply).worker)
+    → TurnsBy did before after_it w v reply
+turned_here did before after_it w v reply phase is called fits not_low next = record {
+  called = λ workers x shows.
+      subst (λ p. did before (call_in (search_of w workers) w.number x.worker p) reply after_it)
+      (sym (shows.phase ∙ is)) (called workers x.worker shows);
+  fits = fits;
+  not_low = not_low;
+  next = λ workers x shows.
+      subst (λ p. Shows v (after_reply (search_of w workers) w.number x.worker x.own p reply).worker)
+      (sym (shows.phase ∙ is)) (next workers x.worker x.own shows);
+}
+
+-- the same of a worker that is seen as another one
+pub turned : {H : Type 0} (did : H → Call → Reply → H → Type 0) (before after_it : H) (w old v : Working)
+    (reply : Reply) (phase : Phase) → w ≡ old → old.phase ≡ phase
+    → ((workers : ℕ) (m : Worker) → Shows w m
+    → did before (call_in (search_of w workers) w.number m phase) reply after_it)
+    → ((workers : ℕ) → ReplyFits (search_of w workers) reply) → ReplyNotLow (last_of w.question) reply
+    → ((workers : ℕ) (m : Worker) (r : OwnRecord) → Shows w m
+    → Shows v (after_reply (search_of w workers) w.number m r phase reply).worker)
+    → TurnsBy did before after_it old v reply
+turned did before after_it w old v reply phase same is called fits not_low next =
+    subst (λ (o : Working). TurnsBy did before after_it o v reply) same
+    (turned_here did before after_it w v reply phase (ap (λ (o : Working). o.phase) same ∙ is) called fits
+    not_low next)
+
+-- the leaves below a root child that there is
+pub root_there : (nodes : List Node) (root : ℕ) → root < length nodes
+    → slice_get (map leaf_numbers nodes) root ≡ Some (leaf_numbers (slice_index_or nodes root (Leaf 0)))
+root_there nodes root real =
+    slice_get-get_or (map leaf_numbers nodes) root []
+    (subst (λ (n : ℕ). root < n) (sym (length-map nodes leaf_numbers)) real)
+    ∙ ap (λ (ls : List ℕ). Some ls) (get_or-map leaf_numbers nodes root (Leaf 0) [] real)
+
+-- after a claim the rest is what the walk below the root child has to come to
+pub claim_shows : (workers : ℕ) (w : Working) (m : Worker) (root : ℕ) (ls : List ℕ) (start : Option ℕ)
+    → Shows w m → slice_get (map leaf_numbers w.index.nodes) root ≡ Some ls
+    → start ≡ start_leaf_of (view_in w.question) w.index
+    → Shows (record w { phase = Look; rest = without start ls })
+    (after_claim (search_of w workers) m (leaves_below (search_of w workers) (Some root)))
+claim_shows workers w m root ls start shows there is =
+    subst (λ (o : Option (List ℕ)). Shows (record w { phase = Look; rest = without start ls })
+    (after_claim (search_of w workers) m o)) (sym there)
+    (record {
+      phase = refl;
+      rest = ap (λ (s : Option ℕ). without s ls) (sym is);
+      list = shows.list;
+      marks = shows.marks;
+    })
+
+-- nothing is left without the start leaf where nothing is left
+pub none_without : (start : Option ℕ) → without start [] ≡ []
+none_without None = refl
+none_without (Some l) = refl
+
+-- after a look that came to a leaf the leaf is given, and the rest is what the walk left
+pub look_gives : (g : Ground) (w : Working) (m : Worker) (start : Option ℕ) (v : ℕ) (before left : List ℕ) (n : ℕ)
+    → Shows w m → w.rest ≡ without start before → Advances g start v before left (Some n)
+    → Shows (record w { phase = Give n; rest = without start left }) (after_look g m v)
+look_gives g w m start v before left n shows rest moved =
+    let some : skip g v m.rest ≡ n ∷ without start left = ap (skip g v) (shows.rest ∙ rest) ∙ moved in
+    record {
+      phase = ap (λ (ls : List ℕ). (stopped m ls).phase) some;
+      rest = ap (λ (ls : List ℕ). (stopped m ls).rest) some;
+      list = ap (λ (ls : List ℕ). (stopped m ls).list) some ∙ shows.list;
+      marks = λ l inside. ap (λ (ls : List ℕ). is_new l (stopped m ls)) some ∙ shows.marks l inside;
+    }
+
+-- after a look that came to no leaf nothing is left, and the worker claims
+pub look_ends : (g : Ground) (w : Working) (m : Worker) (start : Option ℕ) (v : ℕ) (before left : List ℕ)
+    → Shows w m → w.rest ≡ without start before → Advances g start v before left None
+    → Shows (record w { phase = Claim; rest = without start left }) (after_look g m v)
+look_ends g w m start v before left shows rest moved =
+    let none : skip g v m.rest ≡ [] = ap (skip g v) (shows.rest ∙ rest) ∙ moved.0 in
+    let nothing : without start left ≡ [] = ap (without start) moved.1 ∙ none_without start in
+    record {
+      phase = ap (λ (ls : List ℕ). (stopped m ls).phase) none;
+      rest = ap (λ (ls : List ℕ). (stopped m ls).rest) none ∙ sym nothing;
+      list = ap (λ (ls : List ℕ). (stopped m ls).list) none ∙ shows.list;
+      marks = λ l inside. ap (λ (ls : List ℕ). is_new l (stopped m ls)) none ∙ shows.marks l inside;
+    }
+
+-- a leaf without a mark is taken by a scan
+pub taken_new : (g : Ground) (w : Working) (m : Worker) (l v : ℕ) (next : Onward) → Shows w m
+    → l < length w.marks → nat_lt l g.leaves ≡ true → is_marked w.marks l ≡ false
+    → taken_by g m l v next ≡ scanned_by g m l v next
+taken_new g w m l v next shows inside real unmarked =
+    let new : is_new l m ≡ true = shows.marks l inside ∙ ap not unmarked in
+    ap (λ (b : Bool). cond (b && nat_lt l g.leaves) (scanned_by g m l v next) (in_phase (onward next) m)) new
+    ∙ cond-true _ _ _ real
+
+-- a leaf with a mark is passed over
+pub taken_old : (g : Ground) (w : Working) (m : Worker) (l v : ℕ) (next : Onward) → Shows w m
+    → l < length w.marks → is_marked w.marks l ≡ true
+    → taken_by g m l v next ≡ in_phase (onward next) m
+taken_old g w m l v next shows inside marked =
+    let old : is_new l m ≡ false = shows.marks l inside ∙ ap not marked in
+    ap (λ (b : Bool). cond (b && nat_lt l g.leaves) (scanned_by g m l v next) (in_phase (onward next) m)) old
+
+-- a number that is no leaf is passed over
+pub taken_none : (g : Ground) (m : Worker) (l v : ℕ) (next : Onward) → nat_lt l g.leaves ≡ false
+    → taken_by g m l v next ≡ in_phase (onward next) m
+taken_none g m l v next none =
+    ap (λ (b : Bool). cond (is_new l m && b) (scanned_by g m l v next) (in_phase (onward next) m)) none
+    ∙ cond-false _ _ _ (and-false (is_new l m))
+
+-- a late leaf whose bound is not above the limit is taken
+pub late_taken : (g : Ground) (m : Worker) (l v : ℕ) → l < g.leaves → g.bound l ≤ v
+    → after_late g m l v ≡ taken_by g m l v ToLook
+late_taken g m l v real near =
+    ap (λ (b : Bool). cond (is_new l m && b) (scanned_by g m l v ToLook) (in_phase Look m))
+    (le-leb (g.bound l) v near ∙ sym (lt-ltb l g.leaves real))

@@ -1,0 +1,42 @@
+use Rattle.std.proofs.Common.{arith, refl, ◌∙◌, ◌≡◌}
+use Rattle.std.specs.Prelude.{replicate}
+use Rattle.series_core.specs.Answer.{answer as collection_answer}
+use Rattle.query_core.specs.declared.outcome.Outcome.{Outcome}
+use Rattle.query_core.specs.Legal.{IsStraight, Legal}
+use Rattle.query_core.specs.Machine.{played}
+use Rattle.query_core.specs.Outcome.{outcome}
+use Rattle.query_core.specs.Questions.{search_over}
+use Rattle.query_core.specs.Teams.{searched}
+use Rattle.query_core.proofs.TeamPlays.{alone_legal, alone_straight, if_ok}
+use Rattle.query_core.proofs.alone.one_worker.Goals as goal
+
+pub returns-clause-legal : goal.returns-clause-legal
+returns-clause-legal g c =
+    let team = c.in_ok-team.team in
+    let ends = c.in_ok-team.ensures.ends in
+    let end = played (searched team) (replicate ends.turns 0) in
+    if_ok (λ (o : Outcome). o ≡ outcome (searched team) end)
+    (λ (o : Outcome). Legal (search_over c.args.task.now c.args.index.now 1 c.args.queues) o) c.ended.result
+    (alone_legal (search_over c.args.task.now c.args.index.now 1 c.args.queues)
+    (c.search_law.ensures.fits 1 c.args.queues (omega arith) c.requires.queues.0) team c.in_ok-team.ensures.searches ends)
+    (c.ended.ensures end ends.stands)
+
+pub returns-clause-straight : goal.returns-clause-straight
+returns-clause-straight g c =
+    let team = c.in_ok-team.team in
+    let ends = c.in_ok-team.ensures.ends in
+    let end = played (searched team) (replicate ends.turns 0) in
+    if_ok (λ (o : Outcome). o ≡ outcome (searched team) end) IsStraight c.ended.result
+    (alone_straight (search_over c.args.task.now c.args.index.now 1 c.args.queues)
+    (c.search_law.ensures.fits 1 c.args.queues (omega arith) c.requires.queues.0) team c.in_ok-team.ensures.searches ends
+    refl)
+    (c.ended.ensures end ends.stands)
+
+pub returns-clause-answer : goal.returns-clause-answer
+returns-clause-answer g c =
+    if_ok (λ (o : Outcome). Legal (search_over c.args.task.now c.args.index.now 1 c.args.queues) o)
+    (λ (o : Outcome). o.pairs ≡ collection_answer c.args.task.now.collection c.args.task.now.query c.args.task.now.k)
+    c.ended.result
+    (λ (o : Outcome) (legal : Legal (search_over c.args.task.now c.args.index.now 1 c.args.queues) o).
+    legal.pairs ∙ c.search_law.ensures.answer 1 c.args.queues)
+    (returns-clause-legal g c)

@@ -1,0 +1,74 @@
+use Rattle.std.proofs.Common.{subst, sym, ◌∙◌, ◌≡◌}
+use Rattle.query_core.specs.Ground.{Fits, Ground}
+use Rattle.query_core.specs.Legal.{Legal}
+use Rattle.query_core.specs.Machine.{played}
+use Rattle.query_core.specs.Outcome.{outcome}
+use Rattle.query_core.specs.Questions.{search_over}
+use Rattle.query_core.specs.Replays.{FirstUnfinished, NoStranger}
+use Rattle.query_core.specs.Teams.{StandsAt, searched}
+use Rattle.query_core.proofs.Ending.{ending_legal}
+use Rattle.query_core.proofs.Schedules.{enough_done, played_sound}
+use Rattle.query_core.proofs.TeamPlays.{all_done, first_unfinished}
+use Rattle.query_core.proofs.playing.replay.Goals as goal
+
+pub play-requires-clause-fits : goal.play-requires-clause-fits
+play-requires-clause-fits g c =
+    subst Fits (sym c.in-Ok.ensures.searches)
+    (c.search_law.ensures.fits c.args.workers c.args.queues c.requires.workers.0 c.requires.queues.0)
+
+pub returns-in-Some-first_busy-clause-refused : goal.returns-in-Some-first_busy-clause-refused
+returns-in-Some-first_busy-clause-refused g c = (
+  subst (λ (h : Ground). NoStranger h c.args.schedule.now) c.in-Ok.ensures.searches c.in_default-play.ensures.none,
+  first_unfinished (search_over c.args.task.now c.args.index.now c.args.workers c.args.queues) c.args.schedule.now
+      c.play.new.team
+      (subst (λ (h : Ground). StandsAt c.play.new.team (played h c.args.schedule.now)) c.in-Ok.ensures.searches
+      c.in_default-play.ensures.played) c.in-Some-first_busy.i c.in-Some-first_busy.ensures,
+)
+
+pub returns-in-Some-first_busy-clause-enough : goal.returns-in-Some-first_busy-clause-enough
+returns-in-Some-first_busy-clause-enough g c = λ names i e.
+    let s : Ground = search_over c.args.task.now c.args.index.now c.args.workers c.args.queues in
+    let fits : Fits (search_over c.args.task.now c.args.index.now c.args.workers c.args.queues) =
+    c.search_law.ensures.fits c.args.workers c.args.queues c.requires.workers.0 c.requires.queues.0 in
+    let busy : FirstUnfinished (search_over c.args.task.now c.args.index.now c.args.workers c.args.queues)
+    c.args.schedule.now c.in-Some-first_busy.i =
+    first_unfinished (search_over c.args.task.now c.args.index.now c.args.workers c.args.queues)
+    c.args.schedule.now c.play.new.team
+    (subst (λ (h : Ground). StandsAt c.play.new.team (played h c.args.schedule.now)) c.in-Ok.ensures.searches
+    c.in_default-play.ensures.played) c.in-Some-first_busy.i c.in-Some-first_busy.ensures in
+    busy.not_done (enough_done (search_over c.args.task.now c.args.index.now c.args.workers c.args.queues) fits
+    c.args.schedule.now names c.in-Some-first_busy.i busy.worker busy.there)
+
+pub returns-in-Ok-ended-clause-played : goal.returns-in-Ok-ended-clause-played
+returns-in-Ok-ended-clause-played g c = record {
+  no_stranger = subst (λ (h : Ground). NoStranger h c.args.schedule.now) c.in-Ok.ensures.searches
+      c.in_default-play.ensures.none;
+  all_done = all_done c.play.new.team
+      (played (search_over c.args.task.now c.args.index.now c.args.workers c.args.queues) c.args.schedule.now)
+      (subst (λ (h : Ground). StandsAt c.play.new.team (played h c.args.schedule.now)) c.in-Ok.ensures.searches
+      c.in_default-play.ensures.played) c.in_default-first_busy.ensures;
+}
+
+pub returns-in-Ok-ended-clause-legal : goal.returns-in-Ok-ended-clause-legal
+returns-in-Ok-ended-clause-legal g c =
+    let fits : Fits (search_over c.args.task.now c.args.index.now c.args.workers c.args.queues) =
+    c.search_law.ensures.fits c.args.workers c.args.queues c.requires.workers.0 c.requires.queues.0 in
+    let stands : StandsAt c.play.new.team
+    (played (search_over c.args.task.now c.args.index.now c.args.workers c.args.queues) c.args.schedule.now) =
+    subst (λ (h : Ground). StandsAt c.play.new.team (played h c.args.schedule.now)) c.in-Ok.ensures.searches
+    c.in_default-play.ensures.played in
+    let over : searched c.play.new.team ≡ search_over c.args.task.now c.args.index.now c.args.workers c.args.queues =
+    c.play.ensures.same ∙ c.in-Ok.ensures.searches in
+    let is : c.in-Ok-ended.outcome ≡ outcome (search_over c.args.task.now c.args.index.now c.args.workers c.args.queues)
+    (played (search_over c.args.task.now c.args.index.now c.args.workers c.args.queues) c.args.schedule.now) =
+    subst (λ (h : Ground). c.in-Ok-ended.outcome ≡ outcome h
+    (played (search_over c.args.task.now c.args.index.now c.args.workers c.args.queues) c.args.schedule.now)) over
+    (c.in-Ok-ended.ensures
+    (played (search_over c.args.task.now c.args.index.now c.args.workers c.args.queues) c.args.schedule.now) stands) in
+    subst (Legal (search_over c.args.task.now c.args.index.now c.args.workers c.args.queues)) (sym is)
+    (ending_legal (search_over c.args.task.now c.args.index.now c.args.workers c.args.queues) fits
+    (played (search_over c.args.task.now c.args.index.now c.args.workers c.args.queues) c.args.schedule.now)
+    (played_sound (search_over c.args.task.now c.args.index.now c.args.workers c.args.queues) fits c.args.schedule.now)
+    (all_done c.play.new.team
+    (played (search_over c.args.task.now c.args.index.now c.args.workers c.args.queues) c.args.schedule.now)
+    stands c.in_default-first_busy.ensures))

@@ -1,0 +1,13 @@
+use Rattle.std.proofs.Common.{◌≡◌, ◌<◌, ◌^◌, ℕ, Some, length}
+use Rattle.std.specs.Prelude.{slice_get}
+use Rattle.query_core.specs.Machine.{Worker}
+use Rattle.query_core.specs.Sound.{scans}
+use Rattle.query_core.specs.Working.{Shows, Working}
+use Rattle.query_core.proofs.team.Team.first_to_scan.Given as goal
+
+abbrev pub invariant-loop-i : goal.invariant-loop-i
+invariant-loop-i g l = record {
+  few : length l.worker-items < 2 ^ 32;
+  none : (j : ℕ) (w : Working) (m : Worker) → j < l.i → slice_get l.worker-items j ≡ Some w
+      → Shows w m → scans l.leaf m ≡ 0;
+}

@@ -1,0 +1,42 @@
+use Rattle.std.proofs.Common.{◌≡◌, ◌<◌, false, length, refl, sym, subst, arith}
+use Rattle.std.specs.Prelude.{nat_lt}
+use Rattle.query_core.specs.Working.{OnwardInRange, is_marked}
+use Rattle.query_core.proofs.Homes.{leaf_is_members}
+use Rattle.query_core.proofs.Keeping.{scan_keeps}
+use Rattle.query_core.proofs.Showing.{scan_shown_as}
+use Rattle.query_core.proofs.worker.Worker.scan.Goals as goal
+
+pub scan-requires-clause-members : goal.scan-requires-clause-members
+scan-requires-clause-members g c =
+    let inside = c.self.inside in
+    let kept = c.self.invariant in
+    let leaf : c.args.leaf < length inside.index.now.leaves =
+    subst (λ w. c.args.leaf < length w.index.leaves) (sym c.self.view_is) c.requires.leaf in
+    rw c.leaf_members.ensures
+    (leaf_is_members inside.task.now inside.index.now c.args.leaf kept.searched leaf)
+
+pub invariant_of-self : goal.invariant_of-self
+invariant_of-self g c =
+    let inside = c.self.inside in
+    let back = sym c.self.view_is in
+    let pairs = c.scan.ensures.pairs inside.index.now 1 inside.queues in
+    scan_keeps inside.start inside.walk inside.list c.scan.new.list inside.bound _ c.args.leaf c.args.limit c.args.next
+    (nat_lt c.distance_of_worst.result c.args.limit) c.phase_after_scan-self-inside.result c.self.invariant refl
+    (subst (λ w. c.args.leaf < length w.index.leaves) back c.requires.leaf)
+    (subst (λ w. is_marked w.marks c.args.leaf ≡ false) back c.requires.new)
+    (subst (λ w. OnwardInRange w.queues c.args.next) back c.requires.next)
+    c.scan.ensures.k (rw (← c.leaf_members.ensures) pairs) c.phase_after_scan-self-inside.ensures
+
+pub returns-clause-scanned : goal.returns-clause-scanned
+returns-clause-scanned g c workers m shows =
+    let inside = c.self.inside in
+    let back = sym c.self.view_is in
+    let kept = c.self.invariant in
+    let pairs = c.scan.ensures.pairs inside.index.now workers inside.queues in
+    let leaf : c.args.leaf < length inside.index.now.leaves =
+    subst (λ w. c.args.leaf < length w.index.leaves) back c.requires.leaf in
+    scan_shown_as _ c.args.self.now workers m c.args.leaf c.args.limit c.args.next c.scan.new.list.pairs
+    c.phase_after_scan-self-inside.result c.scan.new.list.k c.distance_of_worst.result c.self.view_is shows
+    (subst (λ n. c.args.leaf < n) (sym kept.marks) leaf) (omega (arith, c.ranges.limit))
+    (rw (← c.leaf_members.ensures) pairs) c.scan.ensures.k c.distance_of_worst.ensures
+    c.phase_after_scan-self-inside.ensures

@@ -1,0 +1,88 @@
+//! A search by one worker in one thread.
+ghost use Rattle.std.specs.Prelude.{◌≡◌, ◌≤◌, IfOk, length};
+ghost use Rattle.series_core.specs.Answer.{answer};
+ghost use Rattle.subtree_build.specs.Fits.{Fits as IndexFits};
+ghost use Rattle.query_core.specs.Ground.{Fits, enough_turns};
+ghost use Rattle.query_core.specs.Machine.{opened};
+ghost use Rattle.query_core.specs.Teams.{EndsAlone, StandsAt, searched};
+ghost use Rattle.query_core.specs.Legal.{Legal, IsStraight};
+ghost use Rattle.query_core.specs.Questions.{search_over};
+
+use crate::outcome::Outcome;
+use crate::task::Task;
+use crate::team::{Team, search_law};
+use outside::NoMemory;
+use series_core::{PairList, Rows};
+use std::alloc::Global;
+use subtree_build::Index;
+
+/// The search for the answer by one worker over 1 to 64 queues, to its end. Its outcome is legal and straight, and its pairs
+/// are the answer: the k nearest rows.
+pub fn one_worker<R: Rows>(
+    alloc: Global,
+    task: &Task<'_, R>,
+    index: &Index,
+    queues: u32,
+) -> Result<Outcome, NoMemory>
+    requires fits { IndexFits task.now.collection task.now.layout index.now }
+    requires queues { (1 ≤ queues) × (queues ≤ 64) }
+    ensures legal { IfOk result (λ o. Legal (search_over task.now index.now 1 queues) o) }
+    ensures straight { IfOk result IsStraight }
+    ensures answer { IfOk result (λ o. o.pairs ≡ answer task.now.collection task.now.query task.now.k) }
+{
+    search_law(task, index);
+    let team = finished(alloc, task, index, queues)?;
+    team.ended(alloc)
+}
+
+/// The answer alone, by the same search: the k nearest rows, without what an outcome has for a certificate.
+pub fn one_worker_answer<R: Rows>(
+    alloc: Global,
+    task: &Task<'_, R>,
+    index: &Index,
+    queues: u32,
+) -> Result<PairList, NoMemory>
+    requires fits { IndexFits task.now.collection task.now.layout index.now }
+    requires queues { (1 ≤ queues) × (queues ≤ 64) }
+    ensures { IfOk result (λ ps. ps ≡ answer task.now.collection task.now.query task.now.k) }
+{
+    search_law(task, index);
+    let team = finished(alloc, task, index, queues)?;
+    team.merged(alloc)
+}
+
+// The team of one worker that has come to its end.
+fn finished<'a, R: Rows>(
+    alloc: Global,
+    task: &'a Task<'a, R>,
+    index: &'a Index,
+    queues: u32,
+) -> Result<Team<'a, R>, NoMemory>
+    requires fits { IndexFits task.now.collection task.now.layout index.now }
+    requires queues { (1 ≤ queues) × (queues ≤ 64) }
+    ensures searches { IfOk result (λ t. searched t ≡ search_over task.now index.now 1 queues) }
+    ensures ends { IfOk result EndsAlone }
+{
+    search_law(task, index);
+    let mut team = Team::open(alloc, task, index, 1, queues)?;
+    let most = 8 * u64::from(index.leaf_count()) + 1 + 2 * u64::from(queues);
+    finish(&mut team, most);
+    Ok(team)
+}
+
+// Gives the one worker turns until it is done, at most so many.
+fn finish<R: Rows>(team: &mut Team<'_, R>, most: u64)
+    requires alone { length team.old.workers ≡ 1 }
+    requires fits { Fits (searched team.old) }
+    requires enough { enough_turns (searched team.old) ≤ most }
+    requires opens { StandsAt team.old (opened (searched team.old)) }
+    ensures same { searched team.new ≡ searched team.old }
+    ensures ends { EndsAlone team.new }
+{
+    for _turns in 0..most {
+        let Some(i) = team.first_busy() else {
+            return;
+        };
+        team.turn(i);
+    }
+}

@@ -1,0 +1,163 @@
+//! What the workers share, held by one thread in plain fields. Each call is what the machine's turn makes of the state.
+ghost use Rattle.std.specs.Prelude.{◌≡◌, ◌≤◌, EachIndex, IfOk, length, slice_index, vec_len};
+ghost use Rattle.query_core.specs.Ground.{Ground};
+ghost use Rattle.query_core.specs.Machine.{capacity_of, empty_queues};
+ghost use Rattle.query_core.specs.OneThread.{opening_hand};
+ghost use Rattle.query_core.specs.Questions.{last_of, search_over};
+
+use crate::shared::Shared;
+use crate::task::Task;
+use leaf_queues::{Call as QueueCall, Queue, Reply as QueueReply};
+use outside::NoMemory;
+use series_core::{Entry, PopReply, PutReply, Rows};
+use std::alloc::Global;
+use std::marker::Model;
+use subtree_build::Index;
+use turn_lock::Object;
+
+/// What the workers of one task share, where all of them take their turns in one thread.
+#[derive(Drop)]
+pub struct OneThread<'a, R: Rows> {
+    task: &'a Task<'a, R>,
+    roots: u64,
+    claimed: u64,
+    word: u64,
+    queues: Vec<Queue>,
+}
+
+impl<'a, R: Rows> Model for OneThread<'a, R> {
+    ghost use Rattle.query_core.specs.OneThread.{Held, IsHeld};
+    ghost use Rattle.query_core.specs.Questions.{last_of};
+
+    ghost Value = { Held };
+
+    ghost view = { λ h. record {
+      floor = last_of h.task.now;
+      roots = h.roots;
+      claimed = h.claimed;
+      word = h.word;
+      queues = h.queues.items;
+    } };
+
+    ghost invariant = { λ h. IsHeld (record {
+      floor = last_of h.task.now;
+      roots = h.roots;
+      claimed = h.claimed;
+      word = h.word;
+      queues = h.queues.items;
+    }) };
+}
+
+impl<'a, R: Rows> OneThread<'a, R> {
+    /// No root child is claimed, each of the 1 to 64 queues is empty with room for all leaves that belong to it, and the bound
+    /// word is the limit.
+    pub fn new(
+        alloc: Global,
+        task: &'a Task<'a, R>,
+        index: &Index,
+        queues: u32,
+        limit: u64,
+    ) -> Result<OneThread<'a, R>, NoMemory>
+        requires queues { (1 ≤ queues) × (queues ≤ 64) }
+        requires limit { last_of task.now ≤ limit }
+        ensures { let g = search_over task.now index.now 1 queues in
+            IfOk result (λ h. h ≡ opening_hand g (last_of task.now) (length index.now.roots) limit) }
+    {
+        Ok(OneThread {
+            task,
+            roots: u64::from(index.root_count()),
+            claimed: 0,
+            word: limit,
+            queues: empty_queues(alloc, index.leaf_count(), queues)?,
+        })
+    }
+
+    /// Lends the queues, no more than 64.
+    pub(crate) fn queues(&self) -> &[Queue]
+        ensures queues { result.now ≡ self.now.queues }
+        ensures few { length self.now.queues ≤ 64 }
+    {
+        &self.queues
+    }
+}
+
+// Empty queues, each with room for all leaves that belong to it.
+fn empty_queues(alloc: Global, leaves: u32, queues: u32) -> Result<Vec<Queue>, NoMemory>
+    requires queues { 1 ≤ queues }
+    ensures len { IfOk result (λ qs. vec_len qs ≡ queues) }
+    ensures queues { (g : Ground) → g.queues ≡ queues → g.leaves ≡ leaves
+        → IfOk result (λ qs. qs.items ≡ empty_queues g 0 queues) }
+{
+    let rooms = leaves_of_each(alloc, leaves, queues)?;
+    let mut made = Vec::with_capacity(alloc, rooms.len())?;
+    for room in &rooms {
+        made.push_reserved(Queue::new(alloc, *room)?);
+    }
+    Ok(made)
+}
+
+// How many leaves belong to each queue.
+fn leaves_of_each(alloc: Global, leaves: u32, queues: u32) -> Result<Vec<u32>, NoMemory>
+    requires queues { 1 ≤ queues }
+    ensures len { IfOk result (λ counts. vec_len counts ≡ queues) }
+    ensures counts { (g : Ground) → g.queues ≡ queues
+        → IfOk result (λ counts. EachIndex counts.items (λ m. slice_index counts.items m ≡ capacity_of g m leaves)) }
+{
+    let mut counts = vec![in alloc; 0; queues as usize]?;
+    for leaf in 0..leaves {
+        counts[(leaf % queues) as usize] += 1;
+    }
+    Ok(counts)
+}
+
+impl<'a, R: Rows> Shared for OneThread<'a, R> {
+    ghost use Rattle.query_core.specs.OneThread.{Did};
+
+    ghost floor = { λ h. h.floor };
+
+    ghost roots = { λ h. h.roots };
+
+    ghost did = { Did };
+
+    fn claim(&mut self) -> Option<u64> {
+        if self.claimed < self.roots {
+            let next = self.claimed;
+            self.claimed += 1;
+            Some(next)
+        } else {
+            None
+        }
+    }
+
+    fn read(&mut self) -> u64 {
+        self.word
+    }
+
+    fn offer(&mut self, v: u64) -> u64 {
+        let before = self.word;
+        self.word = before.min(v);
+        before
+    }
+
+    /// A put that names no queue changes nothing, and is answered Filled(0).
+    fn put(&mut self, queue: u32, entry: Entry) -> PutReply {
+        match self.queues.get_mut(queue as usize) {
+            Some(queue) => match queue.apply(0, QueueCall::Put(entry)) {
+                QueueReply::Put(reply) => reply,
+                QueueReply::Pop(_) => unreachable!(),
+            },
+            None => PutReply::Filled(0),
+        }
+    }
+
+    /// A pop that names no queue changes nothing, and is answered Closed with the limit.
+    fn pop(&mut self, queue: u32, limit: u64) -> PopReply {
+        match self.queues.get_mut(queue as usize) {
+            Some(queue) => match queue.apply(0, QueueCall::Pop(limit)) {
+                QueueReply::Pop(reply) => reply,
+                QueueReply::Put(_) => unreachable!(),
+            },
+            None => PopReply::Closed(limit),
+        }
+    }
+}

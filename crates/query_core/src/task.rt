@@ -1,0 +1,87 @@
+//! The task of a search: which rows are searched, for what query, and how many pairs are wanted.
+ghost use Rattle.std.specs.Prelude.{◌≡◌, ◌<◌, ◌≤◌, length};
+ghost use Rattle.query_core.specs.Questions.{IsQuestion, view_in, last_of};
+
+use best_word::Floor;
+use isax_word::Layout;
+use lower_bound::QueryView;
+use series_core::{MAX_BEST, Rows, values_fit};
+use std::marker::Model;
+
+/// A query over rows: the k nearest of them are wanted. It is seen as the question that it asks.
+#[derive(Drop)]
+pub struct Task<'a, R: Rows> {
+    pub(crate) rows: &'a R,
+    pub(crate) query: &'a [i16],
+    k: u32,
+    view: QueryView,
+}
+
+impl<'a, R: Rows> Model for Task<'a, R> {
+    ghost use Rattle.std.specs.Prelude.{◌≡◌};
+    ghost use Rattle.query_core.specs.Questions.{Question, IsQuestion};
+    ghost use Rattle.lower_bound.specs.Bound.{view_of};
+
+    ghost Value = { Question };
+
+    ghost view = { λ t. record {
+      collection = R.collection t.rows.now;
+      query = t.query.now;
+      k = t.k;
+      layout = t.view.layout;
+    } };
+
+    ghost invariant = { λ t. IsQuestion (record {
+      collection = R.collection t.rows.now;
+      query = t.query.now;
+      k = t.k;
+      layout = t.view.layout;
+    }) × (t.view ≡ view_of t.view.layout t.query.now) };
+}
+
+/// The distance of the last pair of the answer, or `NONE` where there are fewer than k series: no limit falls below it.
+impl<'a, R: Rows> Floor for Task<'a, R> {
+    ghost floor = { last_of };
+}
+
+impl<'a, R: Rows> Task<'a, R> {
+    /// The task of finding the `k` nearest rows to a query, from 1 to 1024, by words of this layout.
+    pub fn new(rows: &'a R, query: &'a [i16], k: u32, layout: &Layout) -> Task<'a, R>
+        requires some { 0 < k }
+        requires limit { k ≤ MAX_BEST }
+        requires rows { (R.collection rows.now).points ≡ layout.now.cuts.row_length }
+        requires query { length query.now ≡ layout.now.cuts.row_length }
+        ensures { result ≡ record {
+          collection = R.collection rows.now;
+          query = query.now;
+          k = k;
+          layout = layout.now;
+        } }
+    {
+        let _count = rows.count();
+        let _segments = layout.cuts.segments();
+        values_fit(query);
+        Task {
+            rows,
+            query,
+            k,
+            view: QueryView::new(layout, query),
+        }
+    }
+
+    /// How many pairs are wanted.
+    pub fn k(&self) -> u32
+        ensures k { result ≡ self.now.k }
+        ensures question { IsQuestion self.now }
+    {
+        self.k
+    }
+
+    /// The query as bounds see it.
+    pub fn view(&self) -> &QueryView
+        ensures view { result.now ≡ view_in self.now }
+        ensures question { IsQuestion self.now }
+    {
+        &self.view
+    }
+}

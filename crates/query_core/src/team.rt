@@ -1,0 +1,181 @@
+//! A team: all workers of a search over one hand in one thread. A turn of its worker is a turn of the machine.
+ghost use Rattle.std.specs.Prelude.{◌≡◌, ℕ, ◌<◌, ◌≤◌, ◌↔◌, IfOk, IsTrue, MatchOption, length};
+ghost use Rattle.subtree_build.specs.Fits.{Fits as IndexFits};
+ghost use Rattle.query_core.specs.Ground.{Fits, answer, last, opening};
+ghost use Rattle.series_core.specs.Answer.{answer as collection_answer};
+ghost use Rattle.query_core.specs.Machine.{State, opened, turn};
+ghost use Rattle.query_core.specs.Outcome.{start_of};
+ghost use Rattle.query_core.specs.Questions.{CanBeSearched, last_of, search_over};
+ghost use Rattle.query_core.specs.Sound.{Sound};
+ghost use Rattle.query_core.specs.Teams.{StandsAt, AreHired, IsFirstBusy, AreDone, limit_of, searched};
+
+use crate::answer_laws::answer_law;
+use crate::index_laws::index_law;
+use crate::one_thread::OneThread;
+use crate::outcome::Start;
+use crate::task::Task;
+use crate::worker::Worker;
+use outside::NoMemory;
+use series_core::{KBest, NONE, Rows};
+use std::alloc::Global;
+use std::marker::Model;
+use subtree_build::Index;
+
+/// The workers of a search with what they share. It is seen as its question and index, the number of queues, the start, what
+/// is shared, and the workers.
+#[derive(Drop)]
+pub(crate) struct Team<'a, R: Rows> {
+    pub(crate) task: &'a Task<'a, R>,
+    pub(crate) index: &'a Index,
+    pub(crate) queues: u32,
+    pub(crate) start: Option<Start>,
+    pub(crate) hand: OneThread<'a, R>,
+    pub(crate) workers: Vec<Worker<'a, R>>,
+}
+
+impl<'a, R: Rows> Model for Team<'a, R> {
+    ghost use Rattle.std.specs.Coded.{codes};
+    ghost use Rattle.subtree_build.specs.contracts.node.Node as node;
+    ghost use Rattle.query_core.specs.Teams.{TeamParts, IsTeam};
+
+    ghost Value = { TeamParts };
+
+    ghost coded = { Prim.hlevel (codes, node.the_row.coded) };
+
+    ghost view = { λ t. record {
+      question = t.task.now;
+      index = t.index.now;
+      queues = t.queues;
+      start = t.start;
+      hand = t.hand;
+      workers = t.workers.items;
+    } };
+
+    ghost invariant = { λ t. IsTeam (record {
+      question = t.task.now;
+      index = t.index.now;
+      queues = t.queues;
+      start = t.start;
+      hand = t.hand;
+      workers = t.workers.items;
+    }) };
+}
+
+impl<'a, R: Rows> Team<'a, R> {
+    /// The team of 1 to 64 workers over 1 to 64 queues at the opening of the search.
+    pub(crate) fn open(
+        alloc: Global,
+        task: &'a Task<'a, R>,
+        index: &'a Index,
+        workers: u32,
+        queues: u32,
+    ) -> Result<Team<'a, R>, NoMemory>
+        requires fits { IndexFits task.now.collection task.now.layout index.now }
+        requires workers { (1 ≤ workers) × (workers ≤ 64) }
+        requires queues { (1 ≤ queues) × (queues ≤ 64) }
+        ensures searches { IfOk result (λ t. searched t ≡ search_over task.now index.now workers queues) }
+        ensures opens { IfOk result (λ t. StandsAt t (opened (search_over task.now index.now workers queues))) }
+    {
+        search_law(task, index);
+        let (start, list) = task.opening(alloc, index)?;
+        let limit = limit_of(start);
+        let hand = OneThread::new(alloc, task, index, queues, limit)?;
+        let workers = hire(alloc, task, index, workers, queues, start, list)?;
+        Ok(Team {
+            task,
+            index,
+            queues,
+            start,
+            hand,
+            workers,
+        })
+    }
+
+    /// Whether there is a worker `i`.
+    pub(crate) fn has(&self, i: u32) -> bool
+        ensures { IsTrue result ↔ (i < length self.now.workers) }
+    {
+        (i as usize) < self.workers.len()
+    }
+
+    /// One turn of worker `i`; nothing where it is done.
+    pub(crate) fn turn(&mut self, i: u32)
+        requires place { i < length self.old.workers }
+        ensures same { searched self.new ≡ searched self.old }
+        ensures turns { (s : State) → Sound (searched self.old) s → StandsAt self.old s
+            → StandsAt self.new (turn (searched self.old) i s) }
+    {
+        if self.workers[i as usize].is_done() {
+            return;
+        }
+        self.workers[i as usize].turn(&mut self.hand);
+    }
+
+    /// The first worker that is not done. None where all are.
+    pub(crate) fn first_busy(&self) -> Option<u32>
+        ensures { MatchOption result (AreDone self.now.workers) (IsFirstBusy self.now.workers) }
+    {
+        for (i, worker) in self.workers.iter().enumerate() {
+            if !worker.is_done() {
+                return Some(i as u32);
+            }
+        }
+        None
+    }
+}
+
+/// The law that an index that fits is all that a search for the answer to the task stands on.
+pub(crate) fn search_law<R: Rows>(task: &Task<'_, R>, index: &Index)
+    requires fits { IndexFits task.now.collection task.now.layout index.now }
+    ensures searches { CanBeSearched task.now index.now }
+    ensures fits { (workers queues : ℕ) → 0 < workers → 0 < queues
+        → Fits (search_over task.now index.now workers queues) }
+    ensures last { (workers queues : ℕ) → last (search_over task.now index.now workers queues) ≡ last_of task.now }
+    ensures answer { (workers queues : ℕ) → answer (search_over task.now index.now workers queues)
+        ≡ collection_answer task.now.collection task.now.query task.now.k }
+{
+    let _k = task.k();
+    let _leaves = index.leaf_count();
+    index_law();
+    answer_law();
+}
+
+// The limit that a start gives: `NONE` where there is none.
+fn limit_of(start: Option<Start>) -> u64
+    ensures { result ≡ limit_of start }
+{
+    match start {
+        Some(start) => start.limit,
+        None => NONE,
+    }
+}
+
+// Workers with the numbers below `workers`: worker 0 has the list, and the others have empty ones.
+fn hire<'a, R: Rows>(
+    alloc: Global,
+    task: &'a Task<'a, R>,
+    index: &'a Index,
+    workers: u32,
+    queues: u32,
+    start: Option<Start>,
+    list: KBest,
+) -> Result<Vec<Worker<'a, R>>, NoMemory>
+    requires fits { IndexFits task.now.collection task.now.layout index.now }
+    requires workers { (1 ≤ workers) × (workers ≤ 64) }
+    requires queues { (1 ≤ queues) × (queues ≤ 64) }
+    requires start { start ≡ start_of (search_over task.now index.now 1 queues) }
+    requires list { list ≡ record {
+      k = task.now.k;
+      pairs = opening (search_over task.now index.now 1 queues);
+    } }
+    ensures len { IfOk result (λ hired. length hired.items ≡ workers) }
+    ensures hired { IfOk result (λ hired. AreHired task.now index.now queues hired.items) }
+{
+    let mut hired = Vec::with_capacity(alloc, workers as usize)?;
+    hired.push_reserved(Worker::new(alloc, task, index, 0, queues, start, list)?);
+    for number in 1..workers {
+        let list = KBest::new(alloc, task.k())?;
+        hired.push_reserved(Worker::new(alloc, task, index, number, queues, start, list)?);
+    }
+    Ok(hired)
+}

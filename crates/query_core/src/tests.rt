@@ -1,0 +1,4 @@
+//! Searches as worked by hand, and random small ones against a plain sort.
+mod drawn;
+mod turn_by_turn;
+mod worked;

@@ -1,0 +1,64 @@
+//! One search turn by turn: the phase, the list and the end of its worker after each turn, as worked by hand.
+use crate::Task;
+use crate::phase::Phase;
+use crate::team::Team;
+use breakpoints::Table;
+use isax_word::Layout;
+use outside::NoGate;
+use segment_sums::Cuts;
+use series_core::{Flat, Pair};
+use std::test::*;
+use subtree_build::{Settings, build};
+
+// The phase after each of eleven turns, and the number of the nearest series that is known then.
+const PHASES: [(Phase, u32); 12] = [
+    (Phase::Claim, 1),
+    (Phase::Look, 1),
+    (Phase::Give(0), 1),
+    (Phase::Look, 1),
+    (Phase::Claim, 1),
+    (Phase::Look, 1),
+    (Phase::Claim, 1),
+    (Phase::Aim(0), 1),
+    (Phase::Pop(0, 1), 1),
+    (Phase::Aim(0), 0),
+    (Phase::Pop(0, 1), 0),
+    (Phase::Done, 0),
+];
+
+#[test]
+fn eleven_turns_of_one_worker(rt: HostRuntime) -> Result<(), Fail> {
+    let alloc = rt.alloc();
+    let rows = Flat::from_values(1, [-1, 1].to_vec(alloc)?);
+    let layout = Layout {
+        cuts: Cuts::new(1, 1),
+        table: Table::Flat,
+    };
+    let settings = Settings {
+        layout,
+        leaf_size: 1000,
+    };
+    let index = build(&rt, alloc, &rows, &settings, 1, &NoGate)?;
+    let task = Task::new(&rows, &[0], 1, &layout);
+    let mut team = Team::open(alloc, &task, &index, 1, 1)?;
+    for (turn, (phase, nearest)) in PHASES.iter().enumerate() {
+        for worker in &team.workers {
+            assert_eq!(rt; worker.phase, *phase, "after {turn} turns");
+            assert_eq!(rt; worker.filled(), turn >= 7, "after {turn} turns");
+            let pair = Pair {
+                distance: 1,
+                number: *nearest,
+            };
+            assert_eq!(rt; worker.list().worst(), Some(pair), "after {turn} turns");
+        }
+        assert_eq!(rt;
+            team.first_busy().is_none(),
+            turn == 11,
+            "after {turn} turns"
+        );
+        if team.has(0) {
+            team.turn(0);
+        }
+    }
+    Ok(())
+}

@@ -1,0 +1,267 @@
+//! A worker's turn: one call on what is shared, and what the worker makes of the reply. One function a phase.
+ghost use Rattle.std.specs.Prelude.{◌≡◌, ◌≢◌, ℕ, suc, ◌<◌, ◌≤◌, ◌↔◌, false, cond, nat_lt, length};
+ghost use Rattle.query_core.specs.Ground.{worst};
+ghost use Rattle.query_core.specs.Machine.{Worker as Shown, onward, scanned_by};
+ghost use Rattle.query_core.specs.Questions.{last_of};
+ghost use Rattle.query_core.specs.Turning.{Turns, TurnsBy, search_of, taken_by};
+ghost use Rattle.query_core.specs.Working.{IsOf, OnwardInRange, Shows, is_marked};
+
+use crate::calls::Reply;
+use crate::phase::{Onward, Phase};
+use crate::scan::distance_of_worst;
+use crate::shared::Shared;
+use crate::worker::Worker;
+use series_core::{Entry, PopReply, PutReply, Rows, far};
+
+/// Whether a worker has more turns.
+#[derive(Clone, Copy, PartialEq, Eq, Debug)]
+pub enum Turn {
+    /// It has.
+    More,
+    /// It is done.
+    Done,
+}
+
+impl<'a, R: Rows> Worker<'a, R> {
+    /// One turn: exactly one call on the hand, by the worker's phase; the worker becomes what the machine's worker becomes by
+    /// the reply. It takes no memory of its own. Done exactly where the worker is done now.
+    pub fn turn<S: Shared>(&mut self, hand: &mut S) -> Turn
+        requires running { self.old.phase ≢ Phase.Done }
+        requires floor { S.floor hand.old ≡ last_of self.old.question }
+        requires roots { S.roots hand.old ≡ length self.old.index.roots }
+        ensures turns { Turns S.did hand.old hand.new self.old self.new }
+        ensures done { (result ≡ Turn.Done) ↔ (self.new.phase ≡ Phase.Done) }
+        ensures place { IsOf self.old.question self.old.index self.old.queues self.old.number self.new }
+        ensures hand { (S.floor hand.new ≡ S.floor hand.old) × (S.roots hand.new ≡ S.roots hand.old) }
+    {
+        let _reply = self.act(hand);
+        if self.phase == Phase::Done {
+            Turn::Done
+        } else {
+            Turn::More
+        }
+    }
+
+    // The turn, with the reply to its call.
+    fn act<S: Shared>(&mut self, hand: &mut S) -> Reply
+        requires running { self.old.phase ≢ Phase.Done }
+        requires floor { S.floor hand.old ≡ last_of self.old.question }
+        requires roots { S.roots hand.old ≡ length self.old.index.roots }
+        ensures turns { TurnsBy S.did hand.old hand.new self.old self.new result }
+        ensures place { IsOf self.old.question self.old.index self.old.queues self.old.number self.new }
+        ensures hand { (S.floor hand.new ≡ S.floor hand.old) × (S.roots hand.new ≡ S.roots hand.old) }
+    {
+        match self.phase {
+            Phase::Claim => self.claim(hand),
+            Phase::Look => self.look(hand),
+            Phase::Give(leaf) => self.give(hand, leaf),
+            Phase::Late(leaf) => self.scan_late(hand, leaf),
+            Phase::Aim(place) => self.aim(hand, place),
+            Phase::Pop(place, limit) => self.pop(hand, place, limit),
+            Phase::Offer(next) => self.offer(hand, next),
+            Phase::Done => unreachable!(),
+        }
+    }
+
+    // Claims a root child and begins to walk below it; with none left, aims at the first queue of its round.
+    fn claim<S: Shared>(&mut self, hand: &mut S) -> Reply
+        requires phase { self.old.phase ≡ Phase.Claim }
+        requires roots { S.roots hand.old ≡ length self.old.index.roots }
+        ensures turns { TurnsBy S.did hand.old hand.new self.old self.new result }
+        ensures place { IsOf self.old.question self.old.index self.old.queues self.old.number self.new }
+        ensures hand { (S.floor hand.new ≡ S.floor hand.old) × (S.roots hand.new ≡ S.roots hand.old) }
+    {
+        match hand.claim() {
+            Some(root) => {
+                self.walk.begin(root as u32);
+                self.phase = Phase::Look;
+                Reply::Claimed(Some(root))
+            }
+            None => {
+                self.phase = Phase::Aim(0);
+                Reply::Claimed(None)
+            }
+        }
+    }
+
+    // Looks for the next leaf below its root child; with none left, claims again.
+    fn look<S: Shared>(&mut self, hand: &mut S) -> Reply
+        requires phase { self.old.phase ≡ Phase.Look }
+        requires floor { S.floor hand.old ≡ last_of self.old.question }
+        ensures turns { TurnsBy S.did hand.old hand.new self.old self.new result }
+        ensures place { IsOf self.old.question self.old.index self.old.queues self.old.number self.new }
+        ensures hand { (S.floor hand.new ≡ S.floor hand.old) × (S.roots hand.new ≡ S.roots hand.old) }
+    {
+        let limit = hand.read();
+        match self.walk.next(self.task.view(), far(limit), self.start) {
+            Some(entry) => {
+                self.bound = entry.bound;
+                self.phase = Phase::Give(entry.leaf);
+                Reply::Seen(limit)
+            }
+            None => {
+                self.phase = Phase::Claim;
+                Reply::Seen(limit)
+            }
+        }
+    }
+
+    // Puts a leaf into its queue; where that is refused, keeps it in hand.
+    fn give<S: Shared>(&mut self, hand: &mut S, leaf: u32) -> Reply
+        requires phase { self.old.phase ≡ Phase.Give leaf }
+        ensures turns { TurnsBy S.did hand.old hand.new self.old self.new result }
+        ensures place { IsOf self.old.question self.old.index self.old.queues self.old.number self.new }
+        ensures hand { (S.floor hand.new ≡ S.floor hand.old) × (S.roots hand.new ≡ S.roots hand.old) }
+    {
+        let bound = self.bound;
+        let told = hand.put(leaf % self.queues, Entry { bound, leaf });
+        self.phase = match told {
+            PutReply::Placed => Phase::Look,
+            PutReply::Shut(_) | PutReply::Filled(_) => Phase::Late(leaf),
+        };
+        Reply::PutTold(told)
+    }
+
+    // Scans the leaf in its hand, whose put was refused, or cuts it where its bound is above the limit.
+    fn scan_late<S: Shared>(&mut self, hand: &mut S, leaf: u32) -> Reply
+        requires phase { self.old.phase ≡ Phase.Late leaf }
+        requires floor { S.floor hand.old ≡ last_of self.old.question }
+        ensures turns { TurnsBy S.did hand.old hand.new self.old self.new result }
+        ensures place { IsOf self.old.question self.old.index self.old.queues self.old.number self.new }
+        ensures hand { (S.floor hand.new ≡ S.floor hand.old) × (S.roots hand.new ≡ S.roots hand.old) }
+    {
+        let limit = hand.read();
+        if self.bound_of(leaf) <= far(limit) {
+            self.take(leaf, limit, Onward::Look);
+            Reply::Seen(limit)
+        } else {
+            self.phase = Phase::Look;
+            Reply::Seen(limit)
+        }
+    }
+
+    // Reads the limit of the next pop.
+    fn aim<S: Shared>(&mut self, hand: &mut S, place: u32) -> Reply
+        requires phase { self.old.phase ≡ Phase.Aim place }
+        requires floor { S.floor hand.old ≡ last_of self.old.question }
+        ensures turns { TurnsBy S.did hand.old hand.new self.old self.new result }
+        ensures place { IsOf self.old.question self.old.index self.old.queues self.old.number self.new }
+        ensures hand { (S.floor hand.new ≡ S.floor hand.old) × (S.roots hand.new ≡ S.roots hand.old) }
+    {
+        let limit = hand.read();
+        self.phase = Phase::Pop(place, limit);
+        Reply::Seen(limit)
+    }
+
+    // Pops from the queue at this place of its round, and scans what it gives; where the queue is closed, goes on to the next,
+    // and is done after the last.
+    fn pop<S: Shared>(&mut self, hand: &mut S, place: u32, limit: u64) -> Reply
+        requires phase { self.old.phase ≡ Phase.Pop place limit }
+        ensures turns { TurnsBy S.did hand.old hand.new self.old self.new result }
+        ensures place { IsOf self.old.question self.old.index self.old.queues self.old.number self.new }
+        ensures hand { (S.floor hand.new ≡ S.floor hand.old) × (S.roots hand.new ≡ S.roots hand.old) }
+    {
+        match hand.pop((self.number + place) % self.queues, limit) {
+            PopReply::Leaf(entry) => {
+                self.take(entry.leaf, limit, Onward::Aim(place));
+                Reply::PopTold(PopReply::Leaf(entry))
+            }
+            PopReply::Closed(kept) => {
+                self.phase = phase_after_close(place, self.queues);
+                Reply::PopTold(PopReply::Closed(kept))
+            }
+        }
+    }
+
+    // Offers the distance of its k-th pair.
+    fn offer<S: Shared>(&mut self, hand: &mut S, next: Onward) -> Reply
+        requires phase { self.old.phase ≡ Phase.Offer next }
+        requires floor { S.floor hand.old ≡ last_of self.old.question }
+        ensures turns { TurnsBy S.did hand.old hand.new self.old self.new result }
+        ensures place { IsOf self.old.question self.old.index self.old.queues self.old.number self.new }
+        ensures hand { (S.floor hand.new ≡ S.floor hand.old) × (S.roots hand.new ≡ S.roots hand.old) }
+    {
+        let offered = hand.offer(self.worst());
+        self.phase = next.phase();
+        Reply::Offered(offered)
+    }
+
+    /// Whether it scanned the leaf.
+    pub(crate) fn has_scanned(&self, leaf: u32) -> bool
+        requires { leaf < length self.now.index.leaves }
+        ensures mark { result ≡ is_marked self.now.marks leaf }
+        ensures within { leaf < length self.now.marks }
+    {
+        self.marks[leaf as usize]
+    }
+
+    // The lower bound of a leaf.
+    fn bound_of(&self, leaf: u32) -> u64
+        requires { leaf < length self.now.index.leaves }
+        ensures { result ≡ (search_of self.now 1).bound leaf }
+    {
+        self.task.view().bound_word(self.index.leaf_word(leaf))
+    }
+
+    // The distance of its k-th pair, or `NONE` where it holds fewer.
+    fn worst(&self) -> u64
+        ensures worst { result ≡ worst (search_of self.now 1) self.now.list }
+        ensures low { last_of self.now.question ≤ result }
+    {
+        distance_of_worst(&self.list)
+    }
+
+    // Scans a leaf that it has not scanned with this limit; a number that is no leaf, and a leaf that it has scanned, are
+    // passed over.
+    fn take(&mut self, leaf: u32, limit: u64, next: Onward)
+        requires { OnwardInRange self.old.queues next }
+        ensures place { IsOf self.old.question self.old.index self.old.queues self.old.number self.new }
+        ensures taken { (workers : ℕ) (m : Shown) → Shows self.old m
+            → Shows self.new (taken_by (search_of self.old workers) m leaf limit next) }
+    {
+        if leaf < self.index.leaf_count() && !self.has_scanned(leaf) {
+            self.scan(leaf, limit, next);
+        } else {
+            self.phase = next.phase();
+        }
+    }
+
+    // Scans a leaf with this limit; offers where its list improves on the limit, and else goes on.
+    fn scan(&mut self, leaf: u32, limit: u64, next: Onward)
+        requires leaf { leaf < length self.old.index.leaves }
+        requires new { is_marked self.old.marks leaf ≡ false }
+        requires next { OnwardInRange self.old.queues next }
+        ensures place { IsOf self.old.question self.old.index self.old.queues self.old.number self.new }
+        ensures scanned { (workers : ℕ) (m : Shown) → Shows self.old m
+            → Shows self.new (scanned_by (search_of self.old workers) m leaf limit next) }
+    {
+        self.task
+            .scan(self.index.leaf_members(leaf), limit, &mut self.list);
+        self.marks[leaf as usize] = true;
+        self.phase = phase_after_scan(distance_of_worst(&self.list), limit, next);
+    }
+}
+
+// After a queue that is closed comes the next of the round, and after the last nothing.
+fn phase_after_close(place: u32, queues: u32) -> Phase
+    requires few { queues ≤ 64 }
+    requires place { place < queues }
+    ensures { result ≡ cond (nat_lt (suc place) queues) (Phase.Aim (suc place)) Phase.Done }
+{
+    if place + 1 < queues {
+        Phase::Aim(place + 1)
+    } else {
+        Phase::Done
+    }
+}
+
+// An offer where the k-th pair is nearer than the limit, and else onward.
+fn phase_after_scan(worst: u64, limit: u64, next: Onward) -> Phase
+    ensures { result ≡ cond (nat_lt worst limit) (Phase.Offer next) (onward next) }
+{
+    if worst < limit {
+        Phase::Offer(next)
+    } else {
+        next.phase()
+    }
+}

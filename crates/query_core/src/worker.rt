@@ -1,0 +1,165 @@
+//! The worker: its phase, its walk, its list, and one mark a leaf that it scanned.
+ghost use Rattle.std.specs.Prelude.{◌≡◌, ◌<◌, ◌≤◌, ◌↔◌, IsTrue, not, IfOk, IfSome};
+ghost use Rattle.std.specs.Option.{option_map};
+ghost use Rattle.subtree_build.specs.Fits.{Fits as IndexFits};
+ghost use Rattle.query_core.specs.Outcome.{start_of};
+ghost use Rattle.query_core.specs.Straight.{fills};
+ghost use Rattle.query_core.specs.Questions.{search_over};
+ghost use Rattle.query_core.specs.Working.{AreOpeningMarks, IsOf, Shows, opened_list, opens_as};
+
+use crate::outcome::Start;
+use crate::phase::{Onward, Phase};
+use crate::task::Task;
+use crate::walk::Walk;
+use outside::NoMemory;
+use series_core::{KBest, Rows};
+use std::alloc::Global;
+use std::marker::Model;
+use subtree_build::Index;
+
+/// A worker of a search (the MESSI paper, Peng, Fatourou, Palpanas, ICDE 2020). It is seen as its question and index, its
+/// number, the number of queues, its phase, the leaves that it has still to look at, its list, and its marks.
+#[derive(Drop)]
+pub struct Worker<'a, R: Rows> {
+    pub(crate) task: &'a Task<'a, R>,
+    pub(crate) index: &'a Index,
+    pub(crate) number: u32,
+    pub(crate) queues: u32,
+    pub(crate) start: Option<u32>,
+    pub(crate) phase: Phase,
+    // in Give the lower bound of its leaf
+    pub(crate) bound: u64,
+    pub(crate) walk: Walk<'a>,
+    pub(crate) list: KBest,
+    pub(crate) marks: Vec<bool>,
+}
+
+impl<'a, R: Rows> Model for Worker<'a, R> {
+    ghost use Rattle.std.specs.Coded.{codes};
+    ghost use Rattle.subtree_build.specs.contracts.node.Node as node;
+    ghost use Rattle.query_core.specs.Machine.{without};
+    ghost use Rattle.query_core.specs.Working.{Working, IsWorking};
+
+    ghost Value = { Working };
+
+    ghost coded = { Prim.hlevel (codes, node.the_row.coded) };
+
+    ghost view = { λ w. record {
+      question = w.task.now;
+      index = w.index.now;
+      number = w.number;
+      queues = w.queues;
+      phase = w.phase;
+      rest = without w.start w.walk.leaves;
+      list = w.list.pairs;
+      marks = w.marks.items;
+    } };
+
+    ghost invariant = { λ w. IsWorking w.start w.walk w.list w.bound (record {
+      question = w.task.now;
+      index = w.index.now;
+      number = w.number;
+      queues = w.queues;
+      phase = w.phase;
+      rest = without w.start w.walk.leaves;
+      list = w.list.pairs;
+      marks = w.marks.items;
+    }) };
+}
+
+impl<'a, R: Rows> Worker<'a, R> {
+    /// Worker `number`, below 64, over so many queues, with the start and the list of the opening: for worker 0 what
+    /// `Task::opening` gives, and for the others the same start and an empty list. It takes all the room that it will
+    /// ever need.
+    pub fn new(
+        alloc: Global,
+        task: &'a Task<'a, R>,
+        index: &'a Index,
+        number: u32,
+        queues: u32,
+        start: Option<Start>,
+        list: KBest,
+    ) -> Result<Worker<'a, R>, NoMemory>
+        requires fits { IndexFits task.now.collection task.now.layout index.now }
+        requires number { number < 64 }
+        requires queues { (1 ≤ queues) × (queues ≤ 64) }
+        requires start { start ≡ start_of (search_over task.now index.now 1 queues) }
+        requires list { list ≡ record {
+          k = task.now.k;
+          pairs = opened_list (search_over task.now index.now 1 queues) number;
+        } }
+        ensures place { IfOk result (λ w. IsOf task.now index.now queues number w) }
+        ensures opens { IfOk result (λ w. Shows w (opens_as (search_over task.now index.now 1 queues) number)) }
+    {
+        let _k = task.k();
+        let start = leaf_of(start);
+        let marks = opened_marks(alloc, index.leaf_count() as usize, number, start)?;
+        let walk = Walk::new(alloc, index)?;
+        Ok(Worker {
+            task,
+            index,
+            number,
+            queues,
+            start,
+            phase: Phase::Claim,
+            bound: 0,
+            walk,
+            list,
+            marks,
+        })
+    }
+
+    /// Whether its fill part has ended: a claim of its own was answered None.
+    pub fn filled(&self) -> bool
+        ensures { result ≡ not (fills self.now.phase) }
+    {
+        match self.phase {
+            Phase::Claim | Phase::Look | Phase::Give(_) | Phase::Late(_) => false,
+            Phase::Offer(Onward::Look) => false,
+            Phase::Aim(_) | Phase::Pop(_, _) | Phase::Offer(Onward::Aim(_)) | Phase::Done => true,
+        }
+    }
+
+    /// Whether it is done.
+    pub(crate) fn is_done(&self) -> bool
+        ensures { IsTrue result ↔ (self.now.phase ≡ Phase.Done) }
+    {
+        self.phase == Phase::Done
+    }
+
+    /// Lends its list.
+    pub fn list(&self) -> &KBest
+        ensures { result.now ≡ record { k = self.now.question.k; pairs = self.now.list } }
+    {
+        &self.list
+    }
+}
+
+// The leaf of a start.
+fn leaf_of(start: Option<Start>) -> Option<u32>
+    ensures { result ≡ option_map (λ s. s.leaf) start }
+{
+    match start {
+        Some(start) => Some(start.leaf),
+        None => None,
+    }
+}
+
+// The marks of so many leaves with which a worker opens: worker 0 has scanned the start leaf.
+fn opened_marks(
+    alloc: Global,
+    leaves: usize,
+    number: u32,
+    start: Option<u32>,
+) -> Result<Vec<bool>, NoMemory>
+    requires { IfSome start (λ l. l < leaves) }
+    ensures { IfOk result (λ marks. AreOpeningMarks number start leaves marks.items) }
+{
+    let mut marks = vec![in alloc; false; leaves]?;
+    if let Some(leaf) = start
+        && number == 0
+    {
+        marks[leaf as usize] = true;
+    }
+    Ok(marks)
+}
