@@ -18,7 +18,7 @@ use Rattle.search_run.specs.Ends.{IsAnswered}
 use Rattle.search_run.specs.declared.status.Status.{Status}
 use Rattle.search_run.specs.declared.status.Which.{Which}
 use Rattle.search_run.specs.declared.status.Which.TheVariants.{Series, Queries}
-use Rattle.search_run.specs.declared.status.Status.TheVariants.{Done, Usage, Missing, ReadFault, Format, Mismatch, Settings, WriteFault, Memory}
+use Rattle.search_run.specs.declared.status.Status.TheVariants.{Done, Usage, Missing, ReadFault, Format, Mismatch, Settings, WriteFault, Memory, Invalid}
 
 -- a file that is held is not absent
 held_is_not_absent : (held : Option Held) (h : Held) (name : List ℕ) (form : Form) (file : Loaded) → held ≡ Some h
@@ -63,6 +63,7 @@ too_many_is (Some w) n (Format x e) many = absurd many
 too_many_is (Some w) n (Mismatch a b) many = absurd many
 too_many_is (Some w) n WriteFault many = absurd many
 too_many_is (Some w) n Memory many = absurd many
+too_many_is (Some w) n (Invalid e) many = absurd many
 
 -- where the segments fit, nothing is refused for them
 pub not_too_many : (segments : Option ℕ) (n : ℕ) (status : Status) → HasSegments segments n
@@ -118,6 +119,7 @@ refused_by_reading reading lost more s status can refused =
     named which name file holds (Mismatch a b) x = absurd x
     named which name file holds (Settings w n) x = absurd x
     named which name file holds WriteFault x = absurd x
+    named which name file holds (Invalid e) x = absurd x
 
     lengths : (status : Status) → RefusesLengths reading s status → Result status
     lengths (Mismatch a b) x = absurd (lengths_fit reading s a b can x)
@@ -129,3 +131,4 @@ refused_by_reading reading lost more s status can refused =
     lengths (Format w e) x = absurd x.3
     lengths (Settings w n) x = absurd x.3
     lengths WriteFault x = absurd x.3
+    lengths (Invalid e) x = absurd x.3

@@ -1,8 +1,10 @@
 pub mod StatusLines
 pub mod Lines
 pub mod Loading
-pub mod Walking
+pub mod Short
 pub mod Summing
 pub mod Writing
 pub mod Completing
 pub mod Concluding
+pub mod Checking
+pub mod OneFault

@@ -1,14 +1,12 @@
 -- Sums over a list item by item, and the summary of the answers to one more query.
-use Rattle.std.proofs.Common.{◌≡◌, ℕ, suc, ◌+◌, ◌*◌, ◌≤◌, ◌<◌, List, [], ◌∷◌, length, take, map, get_or, sym, ap, ◌∙◌, arith}
+use Rattle.std.proofs.Common.{◌≡◌, ℕ, suc, ◌+◌, ◌*◌, ◌≤◌, ◌<◌, List, length, map, take, get_or, sym, ap, ◌∙◌, arith}
 use Rattle.std.specs.Prelude.{ℤ}
 use Rattle.std.proofs.lemmas.List.{take_more}
 use Rattle.std.proofs.Math.Nat.{suc-mul}
 use Rattle.list_totals.specs.Totals.{total}
 use Rattle.list_totals.proofs.Totals.{total_push, total_map}
-use Rattle.series_core.specs.Answer.{answer}
-use Rattle.series_core.specs.Collection.{Collection}
 use Rattle.series_core.specs.declared.pair.Pair.{Pair}
-use Rattle.search_run.specs.Trials.{answers_of, summed}
+use Rattle.search_run.specs.Trials.{summed}
 use Rattle.search_run.specs.declared.summary.Summary.{Summary}
 
 -- one more item adds its part
@@ -31,11 +29,10 @@ sum_within i m first before part next here small grown =
     suc_is : (n : ℕ) → suc n ≡ n + 1
     suc_is n = omega arith
 
--- a total over the answers to one more query
-total_answers : (f : List Pair → ℕ) (c : Collection) (k i : ℕ) (qs : List (List ℤ)) (d : List ℤ) → i < length qs
-    → total f (answers_of c k (take (i + 1) qs)) ≡ total f (answers_of c k (take i qs)) + f (answer c (get_or qs i d) k)
-total_answers f c k i qs d h =
-    let ask : List ℤ → List Pair = λ q. answer c q k in
+-- a total over what was found for one more query
+total_found : (f : List Pair → ℕ) (ask : List ℤ → List Pair) (i : ℕ) (qs : List (List ℤ)) (d : List ℤ) → i < length qs
+    → total f (map ask (take (i + 1) qs)) ≡ total f (map ask (take i qs)) + f (ask (get_or qs i d))
+total_found f ask i qs d h =
     total_map f ask (take (i + 1) qs)
     ∙ total_more (λ q. f (ask q)) qs i d h
     ∙ ap (λ n. n + f (ask (get_or qs i d))) (sym (total_map f ask (take i qs)))
@@ -47,19 +44,18 @@ same_summary s t answers distances numbers =
     ∙ ap (λ n. record { answers = t.answers; distances = n; numbers = s.numbers }) distances
     ∙ ap (λ n. record { answers = t.answers; distances = t.distances; numbers = n }) numbers
 
--- the summary after the answers to one more query
-pub summed_next : (c : Collection) (k i : ℕ) (qs : List (List ℤ)) (d : List ℤ) (before next : Summary) (pairs : List Pair)
-    → i < length qs → pairs ≡ answer c (get_or qs i d) k → before ≡ summed (answers_of c k (take i qs))
+-- the summary after what was found for one more query
+pub summed_next : (ask : List ℤ → List Pair) (i : ℕ) (qs : List (List ℤ)) (d : List ℤ) (before next : Summary)
+    (pairs : List Pair) → i < length qs → pairs ≡ ask (get_or qs i d) → before ≡ summed (map ask (take i qs))
     → next.answers ≡ before.answers + length pairs
     → next.distances ≡ before.distances + total (λ p. p.distance) pairs
     → next.numbers ≡ before.numbers + total (λ p. p.number) pairs
-    → next ≡ summed (answers_of c k (take (i + 1) qs))
-summed_next c k i qs d before next pairs h found here answers distances numbers =
-    let now : List Pair = answer c (get_or qs i d) k in
-    let grow : (f : List Pair → ℕ) (old new : ℕ) → old ≡ total f (answers_of c k (take i qs)) → new ≡ old + f pairs
-    → new ≡ total f (answers_of c k (take (i + 1) qs)) =
-    λ f old new was is. omega (arith, was, is, ap f found, total_answers f c k i qs d h) in
-    same_summary next (summed (answers_of c k (take (i + 1) qs)))
+    → next ≡ summed (map ask (take (i + 1) qs))
+summed_next ask i qs d before next pairs h found here answers distances numbers =
+    let grow : (f : List Pair → ℕ) (old new : ℕ) → old ≡ total f (map ask (take i qs)) → new ≡ old + f pairs
+    → new ≡ total f (map ask (take (i + 1) qs)) =
+    λ f old new was is. omega (arith, was, is, ap f found, total_found f ask i qs d h) in
+    same_summary next (summed (map ask (take (i + 1) qs)))
     (grow (λ ps. length ps) before.answers next.answers (ap (λ (s : Summary). s.answers) here) answers)
     (grow (total (λ p. p.distance)) before.distances next.distances (ap (λ (s : Summary). s.distances) here) distances)
     (grow (total (λ p. p.number)) before.numbers next.numbers (ap (λ (s : Summary). s.numbers) here) numbers)

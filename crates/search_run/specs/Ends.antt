@@ -6,10 +6,12 @@ use Rattle.outside.specs.Files.{Held}
 use Rattle.outside.specs.Sink.{AppendsPrefix}
 use Rattle.command_words.specs.Settings.{HasSettings}
 use Rattle.command_words.specs.declared.command.Command.{Command}
+use Rattle.command_words.specs.declared.command.Command.TheVariants.{Verify}
 use Rattle.search_run.specs.Traffic.{Reading, Writing}
 use Rattle.search_run.specs.Commands.{IsServed, IsText, Refuses, CanAnswer}
+use Rattle.search_run.specs.declared.status.CertFault.{CertFault}
 use Rattle.search_run.specs.declared.status.Status.{Status}
-use Rattle.search_run.specs.declared.status.Status.TheVariants.{Done, Usage, ReadFault, WriteFault, Memory}
+use Rattle.search_run.specs.declared.status.Status.TheVariants.{Done, Usage, ReadFault, WriteFault, Memory, Invalid}
 
 -- Nothing was written.
 abbrev pub WroteNothing : Writing → Type 0
@@ -42,9 +44,9 @@ Ends words reading writing Memory = WroteNothing writing
     ⊎ ((command : Command) × Asks words command × Answers reading writing command Memory)
 Ends words reading writing status = (command : Command) × Asks words command × Answers reading writing command status
 
--- the words ask for a command that nothing keeps from its work
-abbrev pub CanSearch : List (List ℕ) → Option Held → Type 0
-CanSearch words held = (command : Command) × Asks words command × CanAnswer held command
+-- the words ask for this command, and nothing keeps it from its work
+abbrev pub CanSearch : List (List ℕ) → Option Held → Command → Type 0
+CanSearch words held command = Asks words command × CanAnswer held command
 
 -- All of the text was written, or memory ran out, or reading or writing failed and was counted. The counts of
 -- faults are those of reading before and after, and those of writing before and after.
@@ -54,3 +56,20 @@ IsAnswered faults later lost more Memory = Unit {0}
 IsAnswered faults later lost more (ReadFault which) = Rose faults later
 IsAnswered faults later lost more WriteFault = Rose lost more
 IsAnswered faults later lost more _ = ⊥
+
+-- the same where a certificate was checked, or it was found not to hold
+abbrev pub IsChecked : ℕ → ℕ → ℕ → ℕ → Status → Type 0
+IsChecked faults later lost more (Invalid fault) = Unit {0}
+IsChecked faults later lost more status = IsAnswered faults later lost more status
+
+-- how a command ends that nothing keeps from its work: only one that checks a certificate may find that it does not hold
+abbrev pub Finishes : Command → ℕ → ℕ → ℕ → ℕ → Status → Type 0
+Finishes (Verify series queries certificate o) faults later lost more status = IsChecked faults later lost more status
+Finishes command faults later lost more status = IsAnswered faults later lost more status
+
+-- this fault of a certificate is told, or memory ran out, or reading failed and was counted
+abbrev pub TellsFault : ℕ → ℕ → CertFault → Status → Type 0
+TellsFault faults later fault (Invalid told) = told ≡ fault
+TellsFault faults later fault Memory = Unit {0}
+TellsFault faults later fault (ReadFault which) = Rose faults later
+TellsFault faults later fault _ = ⊥

@@ -6,6 +6,9 @@ pub mod Trials
 pub mod Traffic
 pub mod Loads
 pub mod Sources
+pub mod Layouts
+pub mod Certificates
+pub mod Verifying
 pub mod Finding
 pub mod Commands
 pub mod Ends
@@ -17,3 +20,5 @@ pub use Rattle.command_words.specs.Settings
 pub use Rattle.series_file.specs.Format
 pub use Rattle.series_file.specs.Faults
 pub use Rattle.random_walks.specs.Walks
+pub use Rattle.certificate.specs.Grammar
+pub use Rattle.certificate.specs.Verdict

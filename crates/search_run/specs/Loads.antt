@@ -1,5 +1,5 @@
 -- A named series file: what is known where it was loaded, and why it was not.
-use Rattle.std.specs.Prelude.{◌≡◌, ℕ, ⊤, List, Option, None, Some, IfSome}
+use Rattle.std.specs.Prelude.{◌≡◌, ℕ, ⊤, List, length, Option, None, Some, IfSome}
 use Rattle.outside.specs.Count.{Rose}
 use Rattle.outside.specs.Files.{Held}
 use Rattle.series_file.specs.Format.{IsFile}
@@ -16,6 +16,10 @@ use Rattle.search_run.specs.declared.status.Status.TheVariants.{Missing, ReadFau
 abbrev pub HoldsFile : Option Held → List ℕ → Form → Loaded → Type 0
 HoldsFile held name form loaded =
     IfSome held (λ h. (bytes : List ℕ) × (h name ≡ Some bytes) × IsFile form bytes loaded.rows loaded.labels)
+
+-- where there are labels, each series has one
+abbrev pub HasLabels : Loaded → Type 0
+HasLabels loaded = IfSome loaded.labels (λ labels. length labels ≡ length loaded.rows.series)
 
 -- where told, the name is held, and this is the first test that its bytes fail
 abbrev pub HoldsFault : Option Held → List ℕ → Form → FileError → Type 0

@@ -6,7 +6,7 @@ use Rattle.series_file.specs.declared.error.Form.{Form}
 use Rattle.series_file.specs.declared.error.Form.TheVariants.{Headed, Raw}
 use Rattle.series_file.specs.declared.error.Loaded.{Loaded}
 use Rattle.search_run.specs.Traffic.{Reading}
-use Rattle.search_run.specs.Loads.{HoldsFile, RefusesFile}
+use Rattle.search_run.specs.Loads.{HasLabels, HoldsFile, RefusesFile}
 use Rattle.search_run.specs.declared.status.Status.{Status}
 use Rattle.search_run.specs.declared.status.Status.TheVariants.{Mismatch, Settings}
 use Rattle.search_run.specs.declared.status.Which.{Which}
@@ -42,6 +42,12 @@ pub record Ready (held : Option Held) (s : Sources) (series queries : Loaded) : 
   pub holds : HoldsBoth held s series queries
   pub lengths : queries.rows.points ≡ series.rows.points
   pub segments : HasSegments s.segments series.rows.points
+
+-- series and queries have one length with so many segments, if any were asked for, and each series has its label
+pub record Fit (w : Option ℕ) (series queries : Loaded) : Type 0 where
+  pub lengths : queries.rows.points ≡ series.rows.points
+  pub segments : HasSegments w series.rows.points
+  pub labels : HasLabels series
 
 -- the file of this role and name was refused with this status
 abbrev pub RefusesNamed : Reading → Sources → Which → List ℕ → Status → Type 0

@@ -1,11 +1,16 @@
 -- The number of each status, and the line that tells it.
 use Rattle.std.specs.Prelude.{ℕ, List, [], ◌∷◌, ◌++◌, codes, decimal}
+use Rattle.certificate.specs.Spelling.{limit_text}
+use Rattle.certificate.specs.declared.error.Reject.{Reject}
+use Rattle.certificate.specs.declared.error.Reject.TheVariants as reject
 use Rattle.series_file.specs.declared.error.FileError.{FileError}
 use Rattle.series_file.specs.declared.error.FileError.TheVariants.{ShortHeader, Magic, Version, Length, Count, Reserved, TooLarge, Truncated, Trailing, Uneven, ReadFault as FileReadFault, NoMemory}
 use Rattle.search_run.specs.declared.status.Which.{Which}
 use Rattle.search_run.specs.declared.status.Which.TheVariants.{Series, Queries, Certificate}
+use Rattle.search_run.specs.declared.status.CertFault.{CertFault}
+use Rattle.search_run.specs.declared.status.CertFault.TheVariants.{Line, TooLong, Rejected}
 use Rattle.search_run.specs.declared.status.Status.{Status}
-use Rattle.search_run.specs.declared.status.Status.TheVariants.{Done, Usage, Missing, ReadFault, Format, Mismatch, Settings, WriteFault, Memory}
+use Rattle.search_run.specs.declared.status.Status.TheVariants.{Done, Usage, Missing, ReadFault, Format, Mismatch, Settings, WriteFault, Memory, Invalid}
 
 -- the number that the program exits with
 abbrev pub code_of : Status → ℕ
@@ -18,6 +23,7 @@ code_of (Mismatch a b) = 6
 code_of (Settings w n) = 7
 code_of WriteFault = 8
 code_of Memory = 9
+code_of (Invalid fault) = 10
 
 -- what a file is called in a line
 abbrev pub file_word : Which → List ℕ
@@ -40,6 +46,29 @@ file_cause (Uneven b) = decimal b ++ codes " bytes are no whole number of series
 file_cause FileReadFault = codes "read failed"
 file_cause NoMemory = codes "out of memory"
 
+-- a query and a number of it, each behind its word
+abbrev pub query_part : ℕ → List ℕ → ℕ → List ℕ
+query_part b word n = codes "query " ++ decimal b ++ word ++ decimal n
+
+-- the bound that is said of a leaf
+abbrev pub bound_part : ℕ → ℕ → ℕ → List ℕ
+bound_part b l bound = query_part b (codes " leaf ") l ++ codes " bound " ++ decimal bound
+
+-- which test a certificate fails; a last distance that stands for no last answer is told by a word
+abbrev pub reject_cause : Reject → List ℕ
+reject_cause (reject.Blocks have want) = decimal have ++ codes " blocks for " ++ decimal want ++ codes " queries"
+reject_cause (reject.Answers b r) = query_part b (codes " answer ") r
+reject_cause (reject.Bound b l said real) = bound_part b l said ++ codes " is " ++ decimal real
+reject_cause (reject.Low b l bound last) = bound_part b l bound ++ codes " is not above " ++ limit_text last
+reject_cause (reject.Missed b number) = query_part b (codes " misses ") number
+reject_cause reject.NoMemory = codes "out of memory"
+
+-- why a certificate does not hold
+abbrev pub certificate_cause : CertFault → List ℕ
+certificate_cause (Line at) = codes "line " ++ decimal at
+certificate_cause TooLong = codes "longer than 1073741824 bytes"
+certificate_cause (Rejected why) = reject_cause why
+
 -- why the run ended so
 abbrev pub cause_of : Status → List ℕ
 cause_of Done = []
@@ -51,6 +80,7 @@ cause_of (Mismatch a b) = codes "lengths differ: " ++ decimal a ++ codes " and "
 cause_of (Settings w n) = decimal w ++ codes " segments are more than length " ++ decimal n
 cause_of WriteFault = codes "write failed"
 cause_of Memory = codes "out of memory"
+cause_of (Invalid fault) = codes "certificate: " ++ certificate_cause fault
 
 -- the line that tells a status: nothing where the whole text was written
 abbrev pub fault_line : Status → List ℕ

@@ -7,7 +7,6 @@ ghost use Rattle.search_run.specs.Texts.{query_text, search_text};
 ghost use Rattle.search_run.specs.Stops.{Stops};
 ghost use Rattle.search_run.specs.Finding.{IsReady, found_by, points_of};
 
-use crate::answer::row_of;
 use crate::crew::Crew;
 use crate::finder::Finder;
 use crate::stop::Stop;
@@ -65,4 +64,15 @@ fn text_of<T: Threads + Sync, G: Gate + Sync>(
     push_query(&mut text, i)?;
     push_answers(&mut text, labels, &pairs.items)?;
     Ok(text)
+}
+
+/// Series i, which is as long as the collection says.
+pub fn row_of(rows: &Flat, i: u32) -> &[i16]
+    requires below { i < length rows.now.series }
+    ensures row { result.now ≡ get_or rows.now.series i [] }
+    ensures length { length result.now ≡ rows.now.points }
+    ensures limit { length result.now ≤ 65536 }
+{
+    let _ = rows.length();
+    rows.row(i)
 }

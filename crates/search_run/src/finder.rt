@@ -1,36 +1,36 @@
-//! What finds the answers to a query: a walk over all series for the k nearest, or a search of the tree for all
-//! within a radius.
+//! What finds the answers to a query: a search of the tree for the k nearest, or for all within a radius.
 
 ghost use Rattle.std.specs.Prelude.{◌≡◌, length, IfOk};
 ghost use Rattle.search_run.specs.Finding.{IsReady, found_by, points_of};
 
-use crate::answer::answer;
 use crate::crew::Crew;
-use isax_word::Layout;
+use crate::tree::Tree;
 use outside::{Gate, NoMemory};
+use query_core::{Task, one_worker_answer};
 use range_query::within;
 use series_core::{Flat, PairList};
 use std::thread::Threads;
-use subtree_build::Index;
 
 /// What finds the answers to a query.
 #[derive(Drop)]
 pub enum Finder<'a> {
-    /// A walk over all series for the k nearest.
-    Scan {
+    /// A search of the tree for the k nearest.
+    Nearest {
         /// The series.
         rows: &'a Flat,
+        /// Their tree.
+        tree: &'a Tree,
         /// How many of the nearest, from 1 to 1024.
         k: u32,
+        /// How many queues the leaves wait in, from 1 to 64.
+        queues: u32,
     },
     /// A search of the tree for all series within a radius.
     Near {
         /// The series.
         rows: &'a Flat,
         /// Their tree.
-        index: &'a Index,
-        /// How they became words.
-        layout: &'a Layout,
+        tree: &'a Tree,
         /// The greatest distance.
         radius: u64,
         /// How many workers search, from 1 to 64.
@@ -50,20 +50,31 @@ impl Finder<'_> {
         ensures { IfOk result (λ pairs. pairs ≡ found_by self.now query.now) }
     {
         match self {
-            Finder::Scan { rows, k } => {
-                let best = answer(crew.alloc, rows, query, *k)?;
-                let items = best.pairs().to_vec(crew.alloc)?;
-                Ok(PairList { items })
+            Finder::Nearest {
+                rows,
+                tree,
+                k,
+                queues,
+            } => {
+                let task = Task::new(*rows, query, *k, &tree.layout);
+                one_worker_answer(crew.alloc, &task, &tree.index, *queues)
             }
             Finder::Near {
                 rows,
-                index,
-                layout,
+                tree,
                 radius,
                 workers,
             } => {
                 let items = within(
-                    crew.rt, crew.alloc, *rows, index, layout, query, *radius, *workers, crew.gate,
+                    crew.rt,
+                    crew.alloc,
+                    *rows,
+                    &tree.index,
+                    &tree.layout,
+                    query,
+                    *radius,
+                    *workers,
+                    crew.gate,
                 )?;
                 Ok(PairList { items })
             }

@@ -3,6 +3,7 @@
 ghost use Rattle.std.specs.Prelude.{◌≡◌, ◌≤◌, IfSome};
 ghost use Rattle.command_words.specs.Limits.{IsWithin};
 ghost use Rattle.search_run.specs.Sources.{HasSegments};
+ghost use Rattle.search_run.specs.Layouts.{layout_of};
 
 use breakpoints::Table;
 use isax_word::Layout;
@@ -14,7 +15,8 @@ pub fn layout_of(length: u32, segments: Option<u32>, table: Table) -> Layout
     requires length_limit { length ≤ 65536 }
     requires within { IfSome segments (IsWithin 1 16) }
     requires fits { HasSegments segments length }
-    ensures { result.cuts.row_length ≡ length }
+    ensures layout { result ≡ layout_of length segments table }
+    ensures length { result.cuts.row_length ≡ length }
 {
     let count = match segments {
         Some(segments) => segments,

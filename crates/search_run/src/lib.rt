@@ -2,7 +2,6 @@
 //! One module a stage; each stage has one contract, and `run` puts them in order.
 #![tactic(auto)]
 
-mod answer;
 mod answering;
 mod crew;
 mod finder;
@@ -19,15 +18,21 @@ mod stop;
 mod summary;
 mod tell;
 mod text;
+mod tree;
 mod trial;
+mod verify;
 
 pub use random_walks::walks;
 pub use stages::run;
-pub use status::{Status, Which};
+pub use status::{CertFault, Status, Which};
 
+#[cfg(test)]
+mod nearests;
 #[cfg(test)]
 mod ranges;
 #[cfg(test)]
 mod tests;
 #[cfg(test)]
 mod trials;
+#[cfg(test)]
+mod verifying;

@@ -2,7 +2,7 @@
 
 ghost use Rattle.std.specs.Prelude.{◌≡◌, ◌≢◌, ◌≤◌, IfOk, IfErr, IsErrOf};
 ghost use Rattle.series_file.specs.Stages.{IsForm};
-ghost use Rattle.search_run.specs.Loads.{HoldsFile, RefusesFile, refusal_of};
+ghost use Rattle.search_run.specs.Loads.{HasLabels, HoldsFile, RefusesFile, refusal_of};
 ghost use Rattle.search_run.specs.declared.status.Status.{Status};
 ghost use Rattle.search_run.specs.declared.status.Which.{Which};
 
@@ -21,6 +21,7 @@ pub fn load<F: Files>(
 ) -> Result<Loaded, Status>
     requires { IsForm form }
     ensures found { IfOk result (HoldsFile (F.held files.old) name.now form) }
+    ensures labels { IfOk result HasLabels }
     ensures refused { IfErr result (RefusesFile which (F.held files.old) name.now form
         (F.faults files.old) (F.faults files.new) (F.misses files.old) (F.misses files.new) (F.blamed files.new)) }
     ensures kept { F.held files.new ≡ F.held files.old }

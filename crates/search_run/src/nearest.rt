@@ -1,4 +1,4 @@
-//! The command `nearest`: for each query its k nearest, by a walk over all series.
+//! The command `nearest`: for each query its k nearest, by a search of the tree.
 
 ghost use Rattle.std.specs.Prelude.{◌≡◌, ◌≢◌};
 ghost use Rattle.command_words.specs.Limits.{OptionsKeepLimits};
@@ -15,11 +15,12 @@ use crate::finder::Finder;
 use crate::sources::read_both;
 use crate::status::Status;
 use crate::stop::Stop;
+use crate::tree::tree_of;
 use command_words::{Options, Text};
 use outside::{Files, Gate, Sink};
 use std::thread::Threads;
 
-/// Answers `nearest`: reads both files and writes the text of their k nearest.
+/// Answers `nearest`: reads both files, builds the tree, and writes for each query its k nearest.
 pub fn answer_nearest<T: Threads + Sync, F: Files, S: Sink, G: Gate + Sync>(
     crew: &Crew<'_, T, G>,
     series: &Text,
@@ -43,11 +44,18 @@ pub fn answer_nearest<T: Threads + Sync, F: Files, S: Sink, G: Gate + Sync>(
         Ok(both) => both,
         Err(status) => return status,
     };
-    let scan = Finder::Scan {
-        rows: &both.series.rows,
-        k: options.k,
+    let rows = &both.series.rows;
+    let tree = match tree_of(crew, rows, options) {
+        Ok(tree) => tree,
+        Err(_) => return Status::Memory,
     };
-    match write_answers(crew, &scan, &both.series.labels, &both.queries.rows, out) {
+    let nearest = Finder::Nearest {
+        rows,
+        tree: &tree,
+        k: options.k,
+        queues: options.queues,
+    };
+    match write_answers(crew, &nearest, &both.series.labels, &both.queries.rows, out) {
         Ok(()) => Status::Done,
         Err(Stop::WriteFault) => Status::WriteFault,
         Err(Stop::NoMemory) => Status::Memory,

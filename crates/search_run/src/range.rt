@@ -12,15 +12,13 @@ ghost use Rattle.search_run.specs.declared.status.Which.{Which};
 use crate::answering::write_answers;
 use crate::crew::Crew;
 use crate::finder::Finder;
-use crate::layout::layout_of;
 use crate::sources::read_both;
 use crate::status::Status;
 use crate::stop::Stop;
+use crate::tree::tree_of;
 use command_words::{Options, Text};
 use outside::{Files, Gate, Sink};
-use series_core::Rows;
 use std::thread::Threads;
-use subtree_build::{Settings, build};
 
 /// Answers `range`: reads both files, builds the tree, and writes for each query all series within the radius.
 pub fn answer_range<T: Threads + Sync, F: Files, S: Sink, G: Gate + Sync>(
@@ -48,25 +46,13 @@ pub fn answer_range<T: Threads + Sync, F: Files, S: Sink, G: Gate + Sync>(
         Err(status) => return status,
     };
     let rows = &both.series.rows;
-    let settings = Settings {
-        layout: layout_of(rows.length(), options.segments, options.table),
-        leaf_size: options.leaf,
-    };
-    let index = match build(
-        crew.rt,
-        crew.alloc,
-        rows,
-        &settings,
-        options.workers,
-        crew.gate,
-    ) {
-        Ok(index) => index,
+    let tree = match tree_of(crew, rows, options) {
+        Ok(tree) => tree,
         Err(_) => return Status::Memory,
     };
     let near = Finder::Near {
         rows,
-        index: &index,
-        layout: &settings.layout,
+        tree: &tree,
         radius,
         workers: options.workers,
     };

@@ -64,9 +64,17 @@ fn ranges_end_as_they_should(rt: HostRuntime) -> Result<(), Fail> {
 
 /// How often each of two workers came to its first turn, and how often one waited there in vain for the other.
 #[derive(Drop)]
-struct Meeting {
-    came: [AtomicU64; 2],
-    alone: AtomicU64,
+pub struct Meeting {
+    pub came: [AtomicU64; 2],
+    pub alone: AtomicU64,
+}
+
+/// A meeting to which nobody came yet.
+pub fn nobody_came() -> Meeting {
+    Meeting {
+        came: [AtomicU64::new(0), AtomicU64::new(0)],
+        alone: AtomicU64::new(0),
+    }
 }
 
 impl Gate for Meeting {
@@ -93,10 +101,7 @@ impl Gate for Meeting {
 #[test]
 fn two_workers_meet_as_they_build_and_as_they_search(rt: HostRuntime) -> Result<(), Fail> {
     let alloc = rt.alloc();
-    let gate = Meeting {
-        came: [AtomicU64::new(0), AtomicU64::new(0)],
-        alone: AtomicU64::new(0),
-    };
+    let gate = nobody_came();
     let mut files = MemFiles::new(alloc, 16, Vec::new(alloc), Vec::new(alloc));
     hold_files(alloc, &mut files)?;
     let words = words_of(alloc, "range A Q 164 --workers 2")?;

@@ -3,7 +3,6 @@
 ghost use Rattle.std.specs.Prelude.{◌≡◌, true, false};
 ghost use Rattle.search_run.specs.Commands.{IsServed, IsPlain};
 
-use breakpoints::Table;
 use command_words::{Command, Options};
 
 /// Whether the command is one that is answered, with its options.
@@ -13,7 +12,7 @@ pub fn is_served(command: &Command) -> bool
 {
     match command {
         Command::Nearest { options, .. } => is_plain(options),
-        Command::Range { .. } => true,
+        Command::Range { .. } | Command::Verify { .. } => true,
         Command::Trial { options, .. } => !options.sealed,
         _ => false,
     }
@@ -24,12 +23,5 @@ fn is_plain(options: &Options) -> bool
     ensures yes { result ≡ true → IsPlain options.now }
     ensures no { result ≡ false → IsPlain options.now → ⊥ }
 {
-    options.segments.is_none()
-        && options.leaf == 1000
-        && options.workers == 4
-        && options.queues == 2
-        && matches!(options.table, Table::Flat)
-        && !options.certificate
-        && !options.sealed
-        && options.index.is_none()
+    !options.certificate && !options.sealed && options.index.is_none()
 }

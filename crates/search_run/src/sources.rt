@@ -2,8 +2,9 @@
 
 ghost use Rattle.std.specs.Prelude.{◌≡◌, ◌≢◌, ◌≤◌, IfOk, IfErr};
 ghost use Rattle.series_file.specs.Stages.{IsForm};
+ghost use Rattle.search_run.specs.Loads.{HasLabels};
 ghost use Rattle.search_run.specs.Traffic.{read_from};
-ghost use Rattle.search_run.specs.Sources.{HasSegments, HoldsBoth, Ready, RefusesBoth, RefusesFiles, TooMany, form_of, sources};
+ghost use Rattle.search_run.specs.Sources.{Fit, HasSegments, HoldsBoth, Ready, RefusesBoth, RefusesFiles, TooMany, form_of, sources};
 ghost use Rattle.search_run.specs.declared.status.Status.{Status};
 ghost use Rattle.search_run.specs.declared.status.Which.{Which};
 
@@ -36,11 +37,13 @@ pub fn read_both<F: Files>(
     requires { IsForm (form_of options.now.raw) }
     ensures found { IfOk result (λ both. Ready (F.held files.old)
         (sources series.now queries.now options.now) both.series both.queries) }
+    ensures fit { IfOk result (λ both. Fit options.now.segments both.series both.queries) }
     ensures refused { IfErr result (RefusesBoth
         (read_from F.held F.faults F.misses F.blamed files.old files.new)
         (sources series.now queries.now options.now)) }
     ensures kept { F.held files.new ≡ F.held files.old }
-    ensures reliable { F.reliable files.old → (w : Which) → result ≢ Err (Status.ReadFault w) }
+    ensures counts { (F.faults files.old ≤ F.faults files.new) × (F.misses files.old ≤ F.misses files.new) }
+    ensures reliable { F.reliable files.old → ((w : Which) → result ≢ Err (Status.ReadFault w)) × F.reliable files.new }
 {
     let both = match load_both(alloc, files, series, queries, options) {
         Ok(both) => both,
@@ -67,11 +70,13 @@ fn load_both<F: Files>(
     requires { IsForm (form_of options.now.raw) }
     ensures found { IfOk result (λ both. HoldsBoth (F.held files.old)
         (sources series.now queries.now options.now) both.series both.queries) }
+    ensures labels { IfOk result (λ both. HasLabels both.series) }
     ensures refused { IfErr result (RefusesFiles
         (read_from F.held F.faults F.misses F.blamed files.old files.new)
         (sources series.now queries.now options.now)) }
     ensures kept { F.held files.new ≡ F.held files.old }
-    ensures reliable { F.reliable files.old → (w : Which) → result ≢ Err (Status.ReadFault w) }
+    ensures counts { (F.faults files.old ≤ F.faults files.new) × (F.misses files.old ≤ F.misses files.new) }
+    ensures reliable { F.reliable files.old → ((w : Which) → result ≢ Err (Status.ReadFault w)) × F.reliable files.new }
 {
     let form = form_of(options.raw);
     let series = match load(alloc, files, series.text.as_str(), Which::Series, form) {

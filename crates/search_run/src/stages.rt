@@ -3,11 +3,13 @@
 
 ghost use Rattle.std.specs.Prelude.{◌≡◌, ◌≢◌, ◌≤◌, IfOk, IfErr, map, string_bytes};
 ghost use Rattle.command_words.specs.Limits.{KeepsLimits};
+ghost use Rattle.command_words.specs.declared.command.Command.{Command};
 ghost use Rattle.search_run.specs.Traffic.{read_from, wrote_to};
-ghost use Rattle.search_run.specs.Commands.{IsServed, CanAnswer};
-ghost use Rattle.search_run.specs.Ends.{Ends, Answers, CanSearch, IsAnswered};
+ghost use Rattle.search_run.specs.Commands.{IsServed, CanAnswer, HasFault};
+ghost use Rattle.search_run.specs.Ends.{Ends, Answers, CanSearch, Finishes, TellsFault};
 ghost use Rattle.search_run.specs.Status.{fault_line};
 ghost use Rattle.search_run.specs.Told.{Tells};
+ghost use Rattle.search_run.specs.declared.status.CertFault.{CertFault};
 ghost use Rattle.search_run.specs.declared.status.Status.{Status};
 ghost use Rattle.search_run.specs.declared.status.Which.{Which};
 
@@ -18,6 +20,7 @@ use crate::serving::is_served;
 use crate::status::{Status, Which};
 use crate::tell::tell;
 use crate::trial::answer_trial;
+use crate::verify::answer_verify;
 use command_words::{Command, WordsError, parse_words};
 use outside::{Files, Gate, Sink};
 use std::alloc::Global;
@@ -38,8 +41,11 @@ pub fn run<T: Threads + Sync, F: Files, S: Sink, E: Sink, G: Gate + Sync>(
     ensures ends { Ends (map string_bytes words.now)
         (read_from F.held F.faults F.misses F.blamed files.old files.new)
         (wrote_to S.written S.faults S.sure out.old out.new) result }
-    ensures complete { CanSearch (map string_bytes words.now) (F.held files.old)
-        → IsAnswered (F.faults files.old) (F.faults files.new) (S.faults out.old) (S.faults out.new) result }
+    ensures complete { (command : Command) → CanSearch (map string_bytes words.now) (F.held files.old) command
+        → Finishes command (F.faults files.old) (F.faults files.new) (S.faults out.old) (S.faults out.new) result }
+    ensures exact { (command : Command) → CanSearch (map string_bytes words.now) (F.held files.old) command
+        → (fault : CertFault) → HasFault (F.held files.old) command fault
+        → TellsFault (F.faults files.old) (F.faults files.new) fault result }
     ensures told { Tells (fault_line result) (E.written err.old) (E.written err.new) (E.faults err.old) (E.faults err.new) }
     ensures kept { F.held files.new ≡ F.held files.old }
     ensures reliable { F.reliable files.old → (w : Which) → result ≢ Status.ReadFault w }
@@ -60,8 +66,11 @@ fn search<T: Threads + Sync, F: Files, S: Sink, G: Gate + Sync>(
     ensures ends { Ends (map string_bytes words.now)
         (read_from F.held F.faults F.misses F.blamed files.old files.new)
         (wrote_to S.written S.faults S.sure out.old out.new) result }
-    ensures complete { CanSearch (map string_bytes words.now) (F.held files.old)
-        → IsAnswered (F.faults files.old) (F.faults files.new) (S.faults out.old) (S.faults out.new) result }
+    ensures complete { (command : Command) → CanSearch (map string_bytes words.now) (F.held files.old) command
+        → Finishes command (F.faults files.old) (F.faults files.new) (S.faults out.old) (S.faults out.new) result }
+    ensures exact { (command : Command) → CanSearch (map string_bytes words.now) (F.held files.old) command
+        → (fault : CertFault) → HasFault (F.held files.old) command fault
+        → TellsFault (F.faults files.old) (F.faults files.new) fault result }
     ensures kept { F.held files.new ≡ F.held files.old }
     ensures reliable { F.reliable files.old → (w : Which) → result ≢ Status.ReadFault w }
 {
@@ -92,7 +101,7 @@ fn answer_command<T: Threads + Sync, F: Files, S: Sink, G: Gate + Sync>(
         (wrote_to S.written S.faults S.sure out.old out.new) command.now result }
     ensures not_usage { result ≢ Status.Usage }
     ensures complete { CanAnswer (F.held files.old) command.now
-        → IsAnswered (F.faults files.old) (F.faults files.new) (S.faults out.old) (S.faults out.new) result }
+        → Finishes command.now (F.faults files.old) (F.faults files.new) (S.faults out.old) (S.faults out.new) result }
     ensures kept { F.held files.new ≡ F.held files.old }
     ensures reliable { F.reliable files.old → (w : Which) → result ≢ Status.ReadFault w }
 {
@@ -108,13 +117,27 @@ fn answer_command<T: Threads + Sync, F: Files, S: Sink, G: Gate + Sync>(
             radius,
             options,
         } => answer_range(crew, series, queries, *radius, options, files, out),
+        Command::Verify {
+            series,
+            queries,
+            certificate,
+            options,
+        } => answer_verify(
+            crew.alloc,
+            series,
+            queries,
+            certificate,
+            options,
+            files,
+            out,
+        ),
         Command::Trial {
             seed,
             count,
             length,
             queries,
             options,
-        } => answer_trial(crew.alloc, *seed, *count, *length, *queries, options, out),
+        } => answer_trial(crew, *seed, *count, *length, *queries, options, out),
         _ => Status::Usage,
     }
 }

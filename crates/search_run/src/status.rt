@@ -1,5 +1,6 @@
 //! How a run ends: one status, with the values that show its cause.
 
+use certificate::Reject;
 use series_file::FileError;
 
 /// Which of the named files a status speaks of.
@@ -11,6 +12,17 @@ pub enum Which {
     Queries,
     /// The file of a certificate.
     Certificate,
+}
+
+/// Why a certificate does not hold.
+#[derive(Clone, Copy, Debug, PartialEq, Eq)]
+pub enum CertFault {
+    /// The lines up to this one, counted from 1, begin no certificate; one past the last where a block is not finished.
+    Line(u64),
+    /// It is longer than a certificate may be.
+    TooLong,
+    /// The first test of what it says that fails.
+    Rejected(Reject),
 }
 
 /// How a run ended.
@@ -34,6 +46,8 @@ pub enum Status {
     WriteFault,
     /// Memory ran out.
     Memory,
+    /// The certificate does not hold.
+    Invalid(CertFault),
 }
 
 impl Status {
@@ -54,6 +68,7 @@ impl Status {
             Status::Settings(_, _) => 7,
             Status::WriteFault => 8,
             Status::Memory => 9,
+            Status::Invalid(_) => 10,
         }
     }
 }

@@ -1,15 +1,19 @@
 //! What a trial found, in three numbers: how many answers, and the sums of their distances and of their numbers.
 
-ghost use Rattle.std.specs.Prelude.{◌≡◌, ◌+◌, ◌*◌, ◌^◌, ◌<◌, ◌≤◌, ◌++◌, length, IfOk, OnOk};
+ghost use Rattle.std.specs.Prelude.{◌≡◌, ℤ, ◌+◌, ◌*◌, ◌^◌, ◌≤◌, List, ◌++◌, length, map, IfOk, OnOk};
 ghost use Rattle.list_totals.specs.Totals.{total};
 ghost use Rattle.series_core.specs.declared.best.TheConstants.{MAX_BEST};
-ghost use Rattle.search_run.specs.Trials.{answers_of, counted, summary_lines, summed};
+ghost use Rattle.search_run.specs.Finding.{IsReady, found_by, points_of};
+ghost use Rattle.search_run.specs.Trials.{counted, summary_lines, summed};
 
-use crate::answer::{answer, row_of};
+use crate::answering::row_of;
+use crate::crew::Crew;
+use crate::finder::Finder;
 use itoa::Buffer;
-use outside::NoMemory;
-use series_core::{Flat, KBest, Rows};
+use outside::{Gate, NoMemory};
+use series_core::{Flat, Pair, Rows};
 use std::alloc::Global;
+use std::thread::Threads;
 
 /// How many answers there are, and the sums of their distances and of their numbers.
 #[derive(Clone, Copy, Debug, PartialEq, Eq)]
@@ -31,18 +35,18 @@ impl Summary {
     };
 
     // Adds the answers to one query.
-    fn add(&mut self, best: &KBest)
+    fn add(&mut self, pairs: &[Pair])
+        requires short { length pairs.now ≤ MAX_BEST }
         requires answers { self.old.answers ≤ 2 ^ 20 }
         requires distances { self.old.distances ≤ 2 ^ 84 }
         requires numbers { self.old.numbers ≤ 2 ^ 52 }
-        ensures answers { self.new.answers ≡ self.old.answers + length best.now.pairs }
-        ensures distances { self.new.distances ≡ self.old.distances + total (λ p. p.distance) best.now.pairs }
-        ensures numbers { self.new.numbers ≡ self.old.numbers + total (λ p. p.number) best.now.pairs }
+        ensures answers { self.new.answers ≡ self.old.answers + length pairs.now }
+        ensures distances { self.new.distances ≡ self.old.distances + total (λ p. p.distance) pairs.now }
+        ensures numbers { self.new.numbers ≡ self.old.numbers + total (λ p. p.number) pairs.now }
         ensures few { self.new.answers ≤ self.old.answers + 1024 }
         ensures near { self.new.distances ≤ self.old.distances + 1024 * 2 ^ 64 }
         ensures low { self.new.numbers ≤ self.old.numbers + 1024 * 2 ^ 32 }
     {
-        let pairs = best.pairs();
         self.answers += pairs.len() as u64;
         for pair in pairs {
             self.distances += u128::from(pair.distance);
@@ -51,18 +55,22 @@ impl Summary {
     }
 }
 
-/// The summary of the answers to at most 1000 queries, with 0 < k <= 1024.
-pub fn summary_of(alloc: Global, series: &Flat, queries: &Flat, k: u32) -> Result<Summary, NoMemory>
-    requires some { 0 < k }
-    requires limit { k ≤ MAX_BEST }
-    requires same_length { queries.now.points ≡ series.now.points }
+/// The summary of what is found for at most 1000 queries, of each at most 1024 pairs.
+pub fn summary_of<T: Threads + Sync, G: Gate + Sync>(
+    crew: &Crew<'_, T, G>,
+    finder: &Finder<'_>,
+    queries: &Flat,
+) -> Result<Summary, NoMemory>
+    requires ready { IsReady finder.now }
+    requires same_length { queries.now.points ≡ points_of finder.now }
+    requires short { (q : List ℤ) → length (found_by finder.now q) ≤ MAX_BEST }
     requires few { length queries.now.series ≤ 1000 }
-    ensures { IfOk result (λ summary. summary ≡ summed (answers_of series.now k queries.now.series)) }
+    ensures { IfOk result (λ summary. summary ≡ summed (map (found_by finder.now) queries.now.series)) }
 {
     let mut summary = Summary::NONE;
     for i in 0..queries.count() {
-        let best = answer(alloc, series, row_of(queries, i), k)?;
-        summary.add(&best);
+        let pairs = finder.find(crew, row_of(queries, i))?;
+        summary.add(&pairs.items);
     }
     Ok(summary)
 }

@@ -5,11 +5,15 @@ ghost use Rattle.std.specs.Io.KnownBytes.{append_known};
 ghost use Rattle.outside.specs.Count.{Rose};
 ghost use Rattle.outside.specs.Sink.{AppendsPrefix};
 ghost use Rattle.search_run.specs.Told.{Tells};
+ghost use Rattle.certificate.specs.Spelling.{limit_text};
 ghost use Rattle.search_run.specs.Status.{fault_line, cause_of, file_cause, file_word};
+ghost use Rattle.search_run.specs.Status.{bound_part, certificate_cause, query_part, reject_cause};
 
 use crate::line::Line;
-use crate::status::{Status, Which};
+use crate::status::{CertFault, Status, Which};
+use certificate::Reject;
 use outside::{Sink, write_whole};
+use series_core::NONE;
 use series_file::FileError;
 
 // Appends what the file is called.
@@ -63,6 +67,79 @@ fn push_counted(line: &mut Line, text: &str, n: u64)
     line.push_number(n);
 }
 
+// Appends a query and a number of it, each behind its word.
+fn push_query_part(line: &mut Line, query: u32, word: &str, n: u32)
+    requires { length line.old + length word.now ≤ 40 }
+    ensures text { line.new ≡ line.old ++ query_part query word.now n }
+    ensures limit { length line.new ≤ length line.old + length word.now + 46 }
+{
+    push_counted(line, "query ", u64::from(query));
+    push_counted(line, word, u64::from(n));
+}
+
+// Appends the bound that is said of a leaf.
+fn push_bound_part(line: &mut Line, query: u32, leaf: u32, bound: u64)
+    requires { length line.old ≤ 22 }
+    ensures text { line.new ≡ line.old ++ bound_part query leaf bound }
+    ensures limit { length line.new ≤ 110 }
+{
+    push_query_part(line, query, " leaf ", leaf);
+    push_counted(line, " bound ", bound);
+}
+
+// Appends a last distance, or that there is no last answer.
+fn push_last(line: &mut Line, last: u64)
+    requires { length line.old ≤ 170 }
+    ensures text { line.new ≡ line.old ++ limit_text last }
+    ensures limit { length line.new ≤ length line.old + 20 }
+{
+    if last == NONE {
+        line.push("none");
+    } else {
+        line.push_number(last);
+    }
+}
+
+// Appends which test a certificate fails.
+fn push_reject(line: &mut Line, reject: Reject)
+    requires { length line.old ≤ 22 }
+    ensures text { line.new ≡ line.old ++ reject_cause reject }
+    ensures limit { length line.new ≤ 160 }
+{
+    match reject {
+        Reject::Blocks(have, want) => {
+            line.push_number(have);
+            push_counted(line, " blocks for ", want);
+            line.push(" queries");
+        }
+        Reject::Answers(query, rank) => push_query_part(line, query, " answer ", rank),
+        Reject::Bound(query, leaf, said, real) => {
+            push_bound_part(line, query, leaf, said);
+            push_counted(line, " is ", real);
+        }
+        Reject::Low(query, leaf, bound, last) => {
+            push_bound_part(line, query, leaf, bound);
+            line.push(" is not above ");
+            push_last(line, last);
+        }
+        Reject::Missed(query, number) => push_query_part(line, query, " misses ", number),
+        Reject::NoMemory => line.push("out of memory"),
+    }
+}
+
+// Appends why a certificate does not hold.
+fn push_certificate_cause(line: &mut Line, fault: CertFault)
+    requires { length line.old ≤ 22 }
+    ensures text { line.new ≡ line.old ++ certificate_cause fault }
+    ensures limit { length line.new ≤ 160 }
+{
+    match fault {
+        CertFault::Line(at) => push_counted(line, "line ", at),
+        CertFault::TooLong => line.push("longer than 1073741824 bytes"),
+        CertFault::Rejected(reject) => push_reject(line, reject),
+    }
+}
+
 // Appends why the run ended so.
 fn push_cause(line: &mut Line, status: &Status)
     requires { length line.old ≤ 9 }
@@ -95,6 +172,10 @@ fn push_cause(line: &mut Line, status: &Status)
         }
         Status::WriteFault => line.push("write failed"),
         Status::Memory => line.push("out of memory"),
+        Status::Invalid(fault) => {
+            line.push("certificate: ");
+            push_certificate_cause(line, *fault);
+        }
     }
 }
 

@@ -125,7 +125,12 @@ const RUNS: [(&str, Status, &str, &str); 21] = [
 ];
 
 /// A file of version 1 with these values.
-fn spelled(alloc: Global, length: u16, count: u32, values: &[i16]) -> Result<Vec<u8>, NoMemory> {
+pub fn spelled(
+    alloc: Global,
+    length: u16,
+    count: u32,
+    values: &[i16],
+) -> Result<Vec<u8>, NoMemory> {
     let mut bytes = b"ISER\x01\0".to_vec(alloc)?;
     bytes.extend_from_slice(&length.to_le_bytes())?;
     bytes.extend_from_slice(&count.to_le_bytes())?;

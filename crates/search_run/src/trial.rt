@@ -1,8 +1,7 @@
 //! The command `trial`: a search over random walks that are all made from one number, and the lines that sum it up.
 //! Series and queries are drawn from one stream, the series first.
 
-ghost use Rattle.std.specs.Prelude.{◌≡◌, ◌≢◌, ℕ, ◌≤◌, ◌<◌, IfOk};
-ghost use Rattle.series_core.specs.declared.best.TheConstants.{MAX_BEST};
+ghost use Rattle.std.specs.Prelude.{◌≡◌, ◌≢◌, ℕ, IfOk};
 ghost use Rattle.command_words.specs.Limits.{OptionsKeepLimits};
 ghost use Rattle.search_run.specs.Traffic.{wrote_to};
 ghost use Rattle.search_run.specs.Sources.{HasSegments, TooMany};
@@ -11,17 +10,20 @@ ghost use Rattle.search_run.specs.Ends.{Concludes, IsAnswered};
 ghost use Rattle.search_run.specs.declared.status.Status.{Status};
 ghost use Rattle.search_run.specs.declared.status.Which.{Which};
 
+use crate::crew::Crew;
+use crate::finder::Finder;
 use crate::sources::check_segments;
 use crate::status::Status;
 use crate::summary::{summary_of, summary_text};
+use crate::tree::tree_of;
 use command_words::Options;
-use outside::{NoMemory, Sink, write_whole};
+use outside::{Gate, NoMemory, Sink, write_whole};
 use random_walks::{generator, walks};
-use std::alloc::Global;
+use std::thread::Threads;
 
 /// Answers `trial`: the four lines over the answers to `queries` walks among `count` walks of `length` values each.
-pub fn answer_trial<S: Sink>(
-    alloc: Global,
+pub fn answer_trial<T: Threads + Sync, S: Sink, G: Gate + Sync>(
+    crew: &Crew<'_, T, G>,
     seed: u64,
     count: u32,
     length: u32,
@@ -42,7 +44,7 @@ pub fn answer_trial<S: Sink>(
         Ok(()) => {}
         Err(status) => return status,
     }
-    let text = match text_of(alloc, seed, count, length, queries, options.k) {
+    let text = match text_of(crew, seed, count, length, queries, options) {
         Ok(text) => text,
         Err(_) => return Status::Memory,
     };
@@ -53,23 +55,30 @@ pub fn answer_trial<S: Sink>(
 }
 
 // The whole text of a trial.
-fn text_of(
-    alloc: Global,
+fn text_of<T: Threads + Sync, G: Gate + Sync>(
+    crew: &Crew<'_, T, G>,
     seed: u64,
     count: u32,
     length: u32,
     queries: u32,
-    k: u32,
+    options: &Options,
 ) -> Result<Vec<u8>, NoMemory>
     requires trial { KeepsTrialLimits count length queries }
-    requires some { 0 < k }
-    requires limit { k ≤ MAX_BEST }
-    ensures { IfOk result (λ text. text.items ≡ trial_text seed count length queries k) }
+    requires options { OptionsKeepLimits options.now }
+    requires segments { HasSegments options.now.segments length }
+    ensures { IfOk result (λ text. text.items ≡ trial_text seed count length queries options.now.k) }
 {
     let mut rng = generator(seed);
-    let series = walks(alloc, &mut rng, count, length)?;
-    let asked = walks(alloc, &mut rng, queries, length)?;
-    let summary = summary_of(alloc, &series, &asked, k)?;
-    let text = summary_text(alloc, count, length, queries, k, &summary)?;
+    let series = walks(crew.alloc, &mut rng, count, length)?;
+    let asked = walks(crew.alloc, &mut rng, queries, length)?;
+    let tree = tree_of(crew, &series, options)?;
+    let nearest = Finder::Nearest {
+        rows: &series,
+        tree: &tree,
+        k: options.k,
+        queues: options.queues,
+    };
+    let summary = summary_of(crew, &nearest, &asked)?;
+    let text = summary_text(crew.alloc, count, length, queries, options.k, &summary)?;
     Ok(text)
 }

@@ -26,3 +26,11 @@ returns-in-Range-clause-answers g c =
     let writing = wrote_to g.S.Sink.written g.S.Sink.faults g.S.Sink.sure c.args.out.now c.answer_range.new.out in
     subst (λ command. Answers reading writing command c.answer_range.result) (sym c.in-Range.is)
     c.answer_range.ensures.answers
+
+pub returns-in-Verify-clause-answers : goal.returns-in-Verify-clause-answers
+returns-in-Verify-clause-answers g c =
+    let reading = read_from g.F.Files.held g.F.Files.faults g.F.Files.misses g.F.Files.blamed c.args.files.now
+    c.answer_verify.new.files in
+    let writing = wrote_to g.S.Sink.written g.S.Sink.faults g.S.Sink.sure c.args.out.now c.answer_verify.new.out in
+    subst (λ command. Answers reading writing command c.answer_verify.result) (sym c.in-Verify.is)
+    c.answer_verify.ensures.answers

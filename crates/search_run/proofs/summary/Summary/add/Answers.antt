@@ -10,9 +10,9 @@ loop-pair-preserved c =
     let low : c.from-in-loop-pair.result ≤ 2 ^ 32 = search rules in
     record {
       answers = before.answers;
-      distances = sum_next (λ (p : Pair). p.distance) c.pairs-pairs.result.now c.loop-pair.pair-index c.args.self.now.distances
+      distances = sum_next (λ (p : Pair). p.distance) c.args.pairs.now c.loop-pair.pair-index c.args.self.now.distances
           c.loop-pair.self.distances c.from.result _ _ c.loop-pair-test.true before.distances c.from.ensures refl;
-      numbers = sum_next (λ (p : Pair). p.number) c.pairs-pairs.result.now c.loop-pair.pair-index c.args.self.now.numbers
+      numbers = sum_next (λ (p : Pair). p.number) c.args.pairs.now c.loop-pair.pair-index c.args.self.now.numbers
           c.loop-pair.self.numbers c.from-in-loop-pair.result _ _ c.loop-pair-test.true before.numbers c.from-in-loop-pair.ensures refl;
       near = sum_within c.loop-pair.pair-index (2 ^ 64) c.args.self.now.distances c.loop-pair.self.distances c.from.result _
           before.near near refl;
