@@ -1,58 +1,9 @@
 // Scans of all walks in plain C with the radius of each query as the limit: tested at each value, and once a block of
 // 64 values. The radius is the distance of the tenth nearest walk. Prints for each the microseconds over all queries,
 // and a checksum.
-#include <stdint.h>
-#include <stdio.h>
-#include <stdlib.h>
-#include <time.h>
-
 enum { ROWS = 100000, POINTS = 1024, QUERIES = 10, ROUNDS = 3, BLOCK = 64, RANK = 10 };
 
-static double now(void) {
-    struct timespec t;
-    clock_gettime(CLOCK_MONOTONIC, &t);
-    return t.tv_sec * 1e6 + t.tv_nsec / 1e3;
-}
-
-static void fill(int16_t *values) {
-    uint64_t x = 7;
-    for (size_t i = 0; i < ROWS + QUERIES; i++) {
-        int value = 0;
-        for (size_t k = 0; k < POINTS; k++) {
-            x = x * 6364136223846793005u + 1442695040888963407u;
-            value += (int)((x >> 33) % 201) - 100;
-            value = value > 30000 ? 30000 : value < -30000 ? -30000 : value;
-            values[i * POINTS + k] = (int16_t)value;
-        }
-    }
-}
-
-static inline uint32_t square(int16_t a, int16_t b) {
-    int32_t d = (int32_t)a - b;
-    return (uint32_t)d * (uint32_t)d;
-}
-
-__attribute__((noinline)) static int in_blocks(const int16_t *x, const int16_t *q, uint64_t limit, uint64_t *found) {
-    uint64_t sum = 0;
-    for (size_t i = 0; i < POINTS; i += BLOCK) {
-        uint64_t block = 0;
-        for (size_t k = 0; k < BLOCK; k++) block += square(x[i + k], q[i + k]);
-        sum += block;
-        if (sum > limit) return 0;
-    }
-    *found = sum;
-    return 1;
-}
-
-__attribute__((noinline)) static int at_each(const int16_t *x, const int16_t *q, uint64_t limit, uint64_t *found) {
-    uint64_t sum = 0;
-    for (size_t k = 0; k < POINTS; k++) {
-        sum += square(x[k], q[k]);
-        if (sum > limit) return 0;
-    }
-    *found = sum;
-    return 1;
-}
+#include "../scans.h"
 
 static uint64_t tenth(const int16_t *values, const int16_t *q) {
     uint64_t nearest[RANK];
@@ -66,8 +17,6 @@ static uint64_t tenth(const int16_t *values, const int16_t *q) {
     }
     return nearest[RANK - 1];
 }
-
-typedef int scan(const int16_t *, const int16_t *, uint64_t, uint64_t *);
 
 static void time_scan(const char *name, scan *within, const int16_t *values, const uint64_t *radius) {
     for (int round = 0; round < ROUNDS; round++) {

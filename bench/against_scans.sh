@@ -1,0 +1,31 @@
+#!/usr/bin/env bash
+# Times a Rattle program over some crates against the plain C scans beside it: against_scans.sh FOLDER CRATES DEPENDENCIES.
+# The program is proved and built in a scratch repository outside; both run in turn, three times, and of each line the
+# least time is printed.
+set -eu
+here="$1"
+crates="$2"
+dependencies="$3"
+top="$(cd "$(dirname "${BASH_SOURCE[0]}")/.." && pwd)"
+work="$(mktemp -d)"
+trap 'rm -rf "$work"' EXIT
+gcc -O3 -march=x86-64-v2 -o "$work/baseline" "$here/baseline.c"
+program="$work/repository/crates/timed"
+mkdir -p "$program/src"
+for crate in $crates; do
+    mkdir -p "$work/repository/crates/$crate"
+    cp -r "$top/crates/$crate/src" "$top/crates/$crate/specs" "$top/crates/$crate/proofs" "$work/repository/crates/$crate/"
+    grep "^$crate:" "$top/crates.txt" >> "$work/repository/crates.txt"
+done
+echo "timed: $dependencies" >> "$work/repository/crates.txt"
+cp "$top/HANDLES" "$work/repository/"
+cp "$here/main.rt.txt" "$program/src/main.rt"
+cd "$program"
+rt run >"$work/build.log" 2>&1 || { cat "$work/build.log"; exit 1; }
+for round in 1 2 3; do
+    "$work/baseline" >>"$work/times"
+    out/timed >>"$work/times"
+done
+# a line is 'name: microseconds (checksum)'
+awk -F'[:(]' '{ time = $2 + 0; if (!($1 in least) || time < least[$1]) least[$1] = time; checks[$1] = $3 }
+    END { for (line in least) print line ": " least[line] " (" checks[line] }' "$work/times" | sort
