@@ -2,19 +2,14 @@
 # Times a Rattle program over some crates against the plain C scans beside it: against_scans.sh FOLDER CRATES DEPENDENCIES.
 # The program is proved and built in a scratch repository outside; both run in turn, three times, and of each line the
 # least time is printed.
-set -eu
 here="$1"
 crates="$2"
 dependencies="$3"
-top="$(cd "$(dirname "${BASH_SOURCE[0]}")/.." && pwd)"
-work="$(mktemp -d)"
-trap 'rm -rf "$work"' EXIT
-gcc -O3 -march=x86-64-v2 -o "$work/baseline" "$here/baseline.c"
+source "$(dirname "${BASH_SOURCE[0]}")/scratch.sh"
 program="$work/repository/crates/timed"
 mkdir -p "$program/src"
+copy_crates $crates
 for crate in $crates; do
-    mkdir -p "$work/repository/crates/$crate"
-    cp -r "$top/crates/$crate/src" "$top/crates/$crate/specs" "$top/crates/$crate/proofs" "$work/repository/crates/$crate/"
     grep "^$crate:" "$top/crates.txt" >> "$work/repository/crates.txt"
 done
 echo "timed: $dependencies" >> "$work/repository/crates.txt"

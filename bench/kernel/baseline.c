@@ -1,31 +1,11 @@
 // The same kernel in plain C, a simpler one without near blocks, and a plain loop that tests the limit at each value.
 // Prints for each the microseconds of a pass over all rows, and a checksum.
 #include <stdint.h>
-#include <stdio.h>
-#include <stdlib.h>
-#include <time.h>
 
 enum { ROWS = 200000, POINTS = 256, ROUNDS = 5, BLOCK = 64 };
 static const uint64_t NONE = UINT64_MAX;
 
-static double now(void) {
-    struct timespec t;
-    clock_gettime(CLOCK_MONOTONIC, &t);
-    return t.tv_sec * 1e6 + t.tv_nsec / 1e3;
-}
-
-static void fill(int16_t *values) {
-    uint64_t x = 7;
-    for (size_t i = 0; i < ROWS; i++) {
-        int value = 0;
-        for (size_t k = 0; k < POINTS; k++) {
-            x = x * 6364136223846793005u + 1442695040888963407u;
-            value += (int)((x >> 33) % 201) - 100;
-            value = value > 30000 ? 30000 : value < -30000 ? -30000 : value;
-            values[i * POINTS + k] = (int16_t)value;
-        }
-    }
-}
+#include "../walks.h"
 
 static void scatter(int16_t *values) {
     uint64_t x = 7;
@@ -115,7 +95,7 @@ static void pass(const char *name, const char *kind, kernel *within, const int16
 int main(void) {
     int16_t *values = malloc(sizeof(int16_t) * ROWS * POINTS);
     if (!values) return 1;
-    fill(values);
+    fill(values, ROWS);
     uint64_t limits[] = {NONE, 100000000, 1000000};
     for (int l = 0; l < 3; l++)
         for (int round = 0; round < ROUNDS; round++)

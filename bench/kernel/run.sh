@@ -1,16 +1,9 @@
 #!/usr/bin/env bash
 # Times the distance within a limit, and the plain C loops beside it. Prints the least time of each line.
-set -eu
 here="$(cd "$(dirname "${BASH_SOURCE[0]}")" && pwd)"
-top="$(cd "$here/../.." && pwd)"
-work="$(mktemp -d)"
-trap 'rm -rf "$work"' EXIT
-gcc -O3 -march=x86-64-v2 -o "$work/baseline" "$here/baseline.c"
+source "$here/../scratch.sh"
 mkdir -p "$work/repository/crates/kernel_bench/src"
-for crate in outside series_core simd_distance; do
-    mkdir -p "$work/repository/crates/$crate"
-    cp -r "$top/crates/$crate/src" "$top/crates/$crate/specs" "$top/crates/$crate/proofs" "$work/repository/crates/$crate/"
-done
+copy_crates outside series_core simd_distance
 cp "$here/main.rt.txt" "$work/repository/crates/kernel_bench/src/main.rt"
 cat > "$work/repository/crates.txt" <<'LINES'
 outside: thiserror

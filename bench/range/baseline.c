@@ -36,7 +36,7 @@ static void time_scan(const char *name, scan *within, const int16_t *values, con
 int main(void) {
     int16_t *values = malloc(sizeof(int16_t) * (ROWS + QUERIES) * POINTS);
     if (!values) return 1;
-    fill(values);
+    fill(values, ROWS + QUERIES);
     uint64_t radius[QUERIES];
     for (size_t j = 0; j < QUERIES; j++) radius[j] = tenth(values, values + (ROWS + j) * POINTS);
     time_scan("scan, tested at each value", at_each, values, radius);

@@ -1,16 +1,9 @@
 #!/usr/bin/env bash
 # Times the reading of a series file of 200 MB by `read_series`, and by fread and a copy in C beside it.
-set -eu
 here="$(cd "$(dirname "${BASH_SOURCE[0]}")" && pwd)"
-top="$(cd "$here/../.." && pwd)"
-work="$(mktemp -d)"
-trap 'rm -rf "$work"' EXIT
-gcc -O3 -march=x86-64-v2 -o "$work/baseline" "$here/baseline.c"
+source "$here/../scratch.sh"
 "$work/baseline" make "$work/data.series"
-for crate in outside series_core series_file isearch; do
-    mkdir -p "$work/repository/crates/$crate"
-    cp -r "$top/crates/$crate/src" "$top/crates/$crate/specs" "$top/crates/$crate/proofs" "$work/repository/crates/$crate/"
-done
+copy_crates outside series_core series_file isearch
 # The program's own crate lends its files of the system; the rest of it is left out.
 program="$work/repository/crates/isearch"
 rm -rf "$program/src/words.rt" "$program/src/real_sink.rt" "$program/proofs/real_sink"

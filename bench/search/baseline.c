@@ -37,7 +37,7 @@ static void time_scan(const char *name, scan *within, const int16_t *values) {
 int main(void) {
     int16_t *values = malloc(sizeof(int16_t) * (ROWS + QUERIES) * POINTS);
     if (!values) return 1;
-    fill(values);
+    fill(values, ROWS + QUERIES);
     time_scan("C, tested at each value", at_each, values);
     time_scan("C, tested once a block", in_blocks, values);
     return 0;

@@ -1,16 +1,9 @@
 #!/usr/bin/env bash
 # Times the crates' full words and bounds, and the plain C loops beside them.
-set -eu
 here="$(cd "$(dirname "${BASH_SOURCE[0]}")" && pwd)"
-top="$(cd "$here/../.." && pwd)"
-work="$(mktemp -d)"
-trap 'rm -rf "$work"' EXIT
-gcc -O3 -march=x86-64-v2 -o "$work/baseline" "$here/baseline.c"
+source "$here/../scratch.sh"
 mkdir -p "$work/repository/crates/words_bench/src"
-for crate in outside series_core breakpoints segment_sums isax_word lower_bound; do
-    mkdir -p "$work/repository/crates/$crate"
-    cp -r "$top/crates/$crate/src" "$top/crates/$crate/specs" "$top/crates/$crate/proofs" "$work/repository/crates/$crate/"
-done
+copy_crates outside series_core breakpoints segment_sums isax_word lower_bound
 cp "$here/main.rt.txt" "$work/repository/crates/words_bench/src/main.rt"
 cat > "$work/repository/crates.txt" <<'LINES'
 outside: thiserror
