@@ -27,12 +27,4 @@ pub use stages::run;
 pub use status::{CertFault, Status, Which};
 
 #[cfg(test)]
-mod nearests;
-#[cfg(test)]
-mod ranges;
-#[cfg(test)]
 mod tests;
-#[cfg(test)]
-mod trials;
-#[cfg(test)]
-mod verifying;

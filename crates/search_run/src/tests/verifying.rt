@@ -1,10 +1,10 @@
 //! Certificates that are checked, as tables: words, the text of a certificate, and the status and the line of the run.
 //! What each change of a certificate gives was found by hand.
 
-use crate::tests::{hold_files, spelled, words_of};
-use crate::{CertFault, Status, Which, run};
+use super::fixture::{Ended, Outside, run_line};
+use crate::{CertFault, Status, Which};
 use certificate::Reject;
-use outside::{MemFiles, MemSink, NoGate, NoMemory};
+use outside::NoGate;
 use std::alloc::{AllocError, Global};
 use std::test::Fail;
 use std::thread::Threads;
@@ -17,7 +17,7 @@ const NEAREST: &str = "query 0\n1 0 4\nstart 1 4\nqueue 0\nqueue 1\n\
     leaf 0 word 0:1,0:1 bound 10\nleaf 1 word 1:1,1:1 scanned\n";
 
 // Words and certificates that hold.
-const HOLDING: [(&str, &str); 10] = [
+const HOLDING: [(&str, &str); 11] = [
     (PLAIN, NEAREST),
     (
         "verify A Q C --segments 2 --k 3",
@@ -30,15 +30,15 @@ const HOLDING: [(&str, &str); 10] = [
         leaf 0 word 0:1,0:1 scanned\nleaf 1 word 1:1,1:1 scanned\n",
     ),
     (
-        "verify zeros level C --segments 2 --k 2",
+        "verify zeros nought C --segments 2 --k 2",
         "query 0\n1 0 0\n2 1 0\nstart 0 0\nqueue 0\nqueue 1\nleaf 0 word 128:8,128:8 scanned\n",
     ),
     (
-        "verify uneven edge C --segments 2",
+        "verify five ends C --segments 2",
         "query 0\n1 1 0\nstart 0 0\nqueue 0\nqueue 1\nleaf 0 word 0:1,0:1 scanned\nleaf 1 word 1:1,1:1 bound 2\n",
     ),
     (
-        "verify far origin C --segments 2",
+        "verify apart corner C --segments 2",
         "query 0\n1 0 0\nstart 0 0\nqueue 0\nqueue 1\nleaf 0 word 128:8,32:6 scanned\n\
         leaf 1 word 129:8,32:6 bound 65536\nleaf 2 word 1:1,3:2 bound 268435456\n",
     ),
@@ -54,6 +54,7 @@ const HOLDING: [(&str, &str); 10] = [
         leaf 0 word 0:1,0:1,0:1,0:1 scanned\nleaf 1 word 1:1,1:1,1:1,1:1 scanned\n",
     ),
     ("verify A none C", ""),
+    ("verify none Q C", "query 0\nstart none\nqueue 0\nqueue 1\n"),
 ];
 
 // Words, a certificate that does not hold, why, and the line that tells it.
@@ -148,7 +149,7 @@ const FAULTY: [(&str, &str, CertFault, &str); 14] = [
 ];
 
 // Words over the certificate of the four series that end before it is read, the status, and the line.
-const UNREAD: [(&str, Status, &str); 5] = [
+const UNREAD: [(&str, Status, &str); 4] = [
     (
         "verify A Q nobody",
         Status::Missing(Which::Certificate),
@@ -169,58 +170,22 @@ const UNREAD: [(&str, Status, &str); 5] = [
         Status::Missing(Which::Queries),
         "isearch: queries: no such file\n",
     ),
-    (
-        "verify A Q C --leaf 5",
-        Status::Usage,
-        "isearch: the words are not a command\n",
-    ),
 ];
 
-/// Holds the files of the tables, three more collections with their queries, and this certificate.
-fn hold(alloc: Global, files: &mut MemFiles, certificate: &[u8]) -> Result<(), NoMemory> {
-    hold_files(alloc, files)?;
-    files.hold("zeros", &spelled(alloc, 4, 3, &[0; 12])?)?;
-    files.hold("level", &spelled(alloc, 4, 1, &[0; 4])?)?;
-    files.hold(
-        "uneven",
-        &spelled(alloc, 5, 2, &[0, 0, 0, 0, 0, -1, 0, 0, 0, -1])?,
-    )?;
-    files.hold("edge", &spelled(alloc, 5, 1, &[-1, 0, 0, 0, -1])?)?;
-    files.hold("far", &spelled(alloc, 2, 3, &[0, 0, 0, 20000, 300, 0])?)?;
-    files.hold("origin", &spelled(alloc, 2, 1, &[0, 0])?)?;
-    files.hold("C", certificate)
-}
-
-/// How a run of these words over this certificate ended, with what it wrote and the line that it told.
-#[derive(Drop)]
-struct Ended {
-    status: Status,
-    out: MemSink,
-    err: MemSink,
-}
-
-/// Runs the words over this certificate. Of the opens, the reads and the writes one fails each (0: none).
+// Runs the words over this certificate, in pieces of 16 bytes.
 fn run_over<T: Threads + Sync>(
     rt: &T,
     alloc: Global,
     line: &str,
     certificate: &[u8],
-    failing: [u64; 3],
 ) -> Result<Ended, Fail> {
-    let [open, read, write] = failing;
-    let mut files = MemFiles::new(alloc, 16, [open].to_vec(alloc)?, [read].to_vec(alloc)?);
-    hold(alloc, &mut files, certificate)?;
-    let words = words_of(alloc, line)?;
-    let mut out = MemSink::new(alloc, 1000, 4, [write].to_vec(alloc)?)?;
-    let mut err = MemSink::new(alloc, 1000, 1000, Vec::new(alloc))?;
-    let status = run(rt, alloc, &words, &mut files, &mut out, &mut err, &NoGate);
-    Ok(Ended { status, out, err })
+    run_line(rt, alloc, line, certificate, Outside::sound(16), &NoGate)
 }
 
 #[test]
 fn certificates_that_hold(rt: HostRuntime) -> Result<(), Fail> {
     for (line, text) in HOLDING {
-        let now = run_over(&rt, rt.alloc(), line, text.as_bytes(), [0; 3])?;
+        let now = run_over(&rt, rt.alloc(), line, text.as_bytes())?;
         assert_eq!(rt; now.status, Status::Done, "{line}: {text}");
         assert_eq!(rt; now.out.written(), b"valid\n".as_slice(), "{line}: {text}");
         assert!(rt; now.err.written().is_empty(), "{line}: {text}");
@@ -231,7 +196,7 @@ fn certificates_that_hold(rt: HostRuntime) -> Result<(), Fail> {
 #[test]
 fn certificates_that_do_not_hold(rt: HostRuntime) -> Result<(), Fail> {
     for (line, text, fault, told) in FAULTY {
-        let now = run_over(&rt, rt.alloc(), line, text.as_bytes(), [0; 3])?;
+        let now = run_over(&rt, rt.alloc(), line, text.as_bytes())?;
         assert_eq!(rt; now.status, Status::Invalid(fault), "{line}: {text}");
         assert_eq!(rt; now.status.code(), 10, "{line}: {text}");
         assert!(rt; now.out.written().is_empty(), "{line}: {text}");
@@ -243,37 +208,10 @@ fn certificates_that_do_not_hold(rt: HostRuntime) -> Result<(), Fail> {
 #[test]
 fn certificates_that_are_not_read(rt: HostRuntime) -> Result<(), Fail> {
     for (line, status, told) in UNREAD {
-        let now = run_over(&rt, rt.alloc(), line, NEAREST.as_bytes(), [0; 3])?;
+        let now = run_over(&rt, rt.alloc(), line, NEAREST.as_bytes())?;
         assert_eq!(rt; now.status, status, "{line}");
         assert!(rt; now.out.written().is_empty(), "{line}");
         assert_eq!(rt; now.err.written(), told.as_bytes(), "{line}");
-    }
-    Ok(())
-}
-
-#[test]
-fn each_open_read_and_write_may_fail(rt: HostRuntime) -> Result<(), Fail> {
-    // From this open, read or write on (0: none) the status is this, and this is written. In pieces of 16 bytes the
-    // series take four reads with their end, the query three, and the 97 bytes of the certificate eight.
-    let table = [
-        ([1, 0, 0], Status::ReadFault(Which::Series), ""),
-        ([2, 0, 0], Status::ReadFault(Which::Queries), ""),
-        ([3, 0, 0], Status::ReadFault(Which::Certificate), ""),
-        ([4, 0, 0], Status::Done, "valid\n"),
-        ([0, 4, 0], Status::ReadFault(Which::Series), ""),
-        ([0, 5, 0], Status::ReadFault(Which::Queries), ""),
-        ([0, 7, 0], Status::ReadFault(Which::Queries), ""),
-        ([0, 8, 0], Status::ReadFault(Which::Certificate), ""),
-        ([0, 15, 0], Status::ReadFault(Which::Certificate), ""),
-        ([0, 16, 0], Status::Done, "valid\n"),
-        ([0, 0, 1], Status::WriteFault, ""),
-        ([0, 0, 2], Status::WriteFault, "vali"),
-        ([0, 0, 3], Status::Done, "valid\n"),
-    ];
-    for (failing, status, text) in table {
-        let now = run_over(&rt, rt.alloc(), PLAIN, NEAREST.as_bytes(), failing)?;
-        assert_eq!(rt; now.status, status, "{failing:?}");
-        assert_eq!(rt; now.out.written(), text.as_bytes(), "{failing:?}");
     }
     Ok(())
 }
@@ -334,7 +272,7 @@ fn each_line_changed(rt: HostRuntime) -> Result<(), Fail> {
     for (change, wanted) in LINES {
         for (i, letter) in wanted.as_bytes().iter().enumerate() {
             let text = changed(rt.alloc(), change, i)?;
-            let now = run_over(&rt, rt.alloc(), PLAIN, &text, [0; 3])?;
+            let now = run_over(&rt, rt.alloc(), PLAIN, &text)?;
             assert_eq!(rt; letter_of(now.status), *letter, "line {i} {change}");
         }
     }
@@ -349,7 +287,7 @@ fn each_byte_changed(rt: HostRuntime) -> Result<(), Fail> {
         if let Some(place) = text.get_mut(i) {
             *place = b'7';
         }
-        let now = run_over(&rt, rt.alloc(), PLAIN, &text, [0; 3])?;
+        let now = run_over(&rt, rt.alloc(), PLAIN, &text)?;
         assert_eq!(rt; letter_of(now.status), *letter, "byte {i}");
     }
     Ok(())

@@ -1,0 +1,139 @@
+//! Runs whose outside fails at one place: each open, each read and each write in turn. What was written before is a
+//! beginning of the right text.
+
+use super::fixture::{Outside, run_line};
+use crate::{Status, Which};
+use outside::NoGate;
+use std::test::Fail;
+
+// Words of each command that reads files, how many reads its files take in pieces of 16 bytes with their ends, and its text.
+const COMMANDS: [(&str, [u64; 3], &str); 4] = [
+    ("nearest A Q", [4, 3, 0], "query 0\n1 0 4\n"),
+    (
+        "nearest A2 Q --k 2 --segments 2 --leaf 1",
+        [6, 3, 0],
+        "query 0\n1 0 4 100\n2 3 164 18446744073709551615\n",
+    ),
+    ("range A Q 164", [4, 3, 0], "query 0\n1 0 4\n2 3 164\n"),
+    ("verify A Q C --segments 2", [4, 3, 8], "valid\n"),
+];
+
+// A certificate of the nearest of the four series: 97 bytes.
+const CERTIFICATE: &[u8] = b"query 0\n1 0 4\nstart 1 4\nqueue 0\nqueue 1\n\
+    leaf 0 word 0:1,0:1 bound 10\nleaf 1 word 1:1,1:1 scanned\n";
+
+// The status where read number `read` fails, of files that take so many reads each.
+fn status_of(read: u64, reads: [u64; 3]) -> Status {
+    let [series, queries, certificate] = reads;
+    if read <= series {
+        Status::ReadFault(Which::Series)
+    } else if read <= series.saturating_add(queries) {
+        Status::ReadFault(Which::Queries)
+    } else if read <= series.saturating_add(queries).saturating_add(certificate) {
+        Status::ReadFault(Which::Certificate)
+    } else {
+        Status::Done
+    }
+}
+
+#[test]
+fn each_read_may_fail(rt: HostRuntime) -> Result<(), Fail> {
+    for (line, reads, text) in COMMANDS {
+        for read in 1..=20u64 {
+            let outside = Outside {
+                read,
+                ..Outside::sound(16)
+            };
+            let ended = run_line(&rt, rt.alloc(), line, CERTIFICATE, outside, &NoGate)?;
+            let wanted = status_of(read, reads);
+            assert_eq!(rt; ended.status, wanted, "{line}, read {read}");
+            let written = if wanted == Status::Done { text } else { "" };
+            assert_eq!(rt;
+                ended.out.written(),
+                written.as_bytes(),
+                "{line}, read {read}"
+            );
+        }
+    }
+    Ok(())
+}
+
+#[test]
+fn each_open_may_fail(rt: HostRuntime) -> Result<(), Fail> {
+    for (line, reads, text) in COMMANDS {
+        for open in 1..=4u64 {
+            let outside = Outside {
+                open,
+                ..Outside::sound(16)
+            };
+            let ended = run_line(&rt, rt.alloc(), line, CERTIFICATE, outside, &NoGate)?;
+            let [_, _, certificate] = reads;
+            let wanted = match open {
+                1 => Status::ReadFault(Which::Series),
+                2 => Status::ReadFault(Which::Queries),
+                3 if certificate > 0 => Status::ReadFault(Which::Certificate),
+                _ => Status::Done,
+            };
+            assert_eq!(rt; ended.status, wanted, "{line}, open {open}");
+            let written = if wanted == Status::Done { text } else { "" };
+            assert_eq!(rt;
+                ended.out.written(),
+                written.as_bytes(),
+                "{line}, open {open}"
+            );
+        }
+    }
+    Ok(())
+}
+
+#[test]
+fn each_write_may_fail(rt: HostRuntime) -> Result<(), Fail> {
+    for (line, _, text) in COMMANDS {
+        for piece in [1, 2, 7, 16] {
+            // One write more than the text takes.
+            for write in 1..=text.len().div_ceil(piece).saturating_add(1) {
+                let outside = Outside {
+                    write: write as u64,
+                    ..Outside::sound(piece)
+                };
+                let ended = run_line(&rt, rt.alloc(), line, CERTIFICATE, outside, &NoGate)?;
+                let before = write.saturating_sub(1).saturating_mul(piece);
+                let wanted = if before < text.len() {
+                    Status::WriteFault
+                } else {
+                    Status::Done
+                };
+                assert_eq!(rt; ended.status, wanted, "{line}, write {write} of {piece}");
+                let written = &text.as_bytes()[..before.min(text.len())];
+                assert_eq!(rt;
+                    ended.out.written(),
+                    written,
+                    "{line}, write {write} of {piece}"
+                );
+            }
+        }
+    }
+    Ok(())
+}
+
+#[test]
+fn a_line_that_is_not_told_changes_no_status(rt: HostRuntime) -> Result<(), Fail> {
+    let table = [
+        ("nearest A three", Status::Mismatch(4, 3)),
+        ("nearest A nothree", Status::Mismatch(4, 3)),
+        ("nearest A Q --segments 5", Status::Settings(5, 4)),
+        ("nearest A nobody", Status::Missing(Which::Queries)),
+        ("", Status::Usage),
+    ];
+    for (line, status) in table {
+        let outside = Outside {
+            tell: 1,
+            ..Outside::sound(1000)
+        };
+        let ended = run_line(&rt, rt.alloc(), line, CERTIFICATE, outside, &NoGate)?;
+        assert_eq!(rt; ended.status, status, "{line}");
+        assert!(rt; ended.out.written().is_empty(), "{line}");
+        assert!(rt; ended.err.written().is_empty(), "{line}");
+    }
+    Ok(())
+}

@@ -1,0 +1,263 @@
+//! What all tables share: the files that they name, runs over them, and two workers that meet at a gate.
+
+use crate::{Status, run};
+use outside::{Gate, MemFiles, MemSink, NoGate, NoMemory};
+use std::alloc::Global;
+use std::process::Abort;
+use std::sync::atomic::{AtomicU64, Ordering};
+use std::test::Fail;
+use std::thread::Threads;
+
+/// Words, and the status, the text and the line of their run.
+pub type Row = (&'static str, Status, &'static str, &'static str);
+
+/// The line of a run whose words are no command.
+pub const NO_COMMAND: &str = "isearch: the words are not a command\n";
+
+// Four series of four values each.
+const VALUES: [i16; 16] = [0, 0, 0, 0, 10, 10, 10, 10, -10, -10, -10, -10, 0, 0, 10, 10];
+
+// The same with the labels 100, 7, 7 and the greatest of 64 bits.
+const LABELLED: &[u8] = b"ISER\x02\0\0\0\x04\0\0\0\x04\0\0\0\
+    \x64\0\0\0\0\0\0\0\x07\0\0\0\0\0\0\0\x07\0\0\0\0\0\0\0\xff\xff\xff\xff\xff\xff\xff\xff\
+    \0\0\0\0\0\0\0\0\x0a\0\x0a\0\x0a\0\x0a\0\xf6\xff\xf6\xff\xf6\xff\xf6\xff\0\0\0\0\x0a\0\x0a\0";
+
+/// A file of version 1 with these values.
+fn spelled(alloc: Global, length: u16, count: u32, values: &[i16]) -> Result<Vec<u8>, NoMemory> {
+    let mut bytes = b"ISER\x01\0".to_vec(alloc)?;
+    bytes.extend_from_slice(&length.to_le_bytes())?;
+    bytes.extend_from_slice(&count.to_le_bytes())?;
+    bytes.extend_from_slice(&[0u8; 4])?;
+    for value in values {
+        bytes.extend_from_slice(&value.to_le_bytes())?;
+    }
+    Ok(bytes)
+}
+
+/// Holds the files of the tables: `A` and its query `Q`, `A2` with labels, other collections, and broken files.
+fn hold_files(alloc: Global, files: &mut MemFiles) -> Result<(), NoMemory> {
+    files.hold("A", &spelled(alloc, 4, 4, &VALUES)?)?;
+    files.hold("Q", &spelled(alloc, 4, 1, &[1, 1, 1, 1])?)?;
+    files.hold("A2", LABELLED)?;
+    hold_collections(alloc, files)?;
+    hold_raw(alloc, files)?;
+    hold_headers(alloc, files)?;
+    hold_changed(alloc, files)
+}
+
+/// Holds small collections: points, series of zeros, of three and of five values, three far apart, and none at all.
+fn hold_collections(alloc: Global, files: &mut MemFiles) -> Result<(), NoMemory> {
+    files.hold("none", &spelled(alloc, 4, 0, &[])?)?;
+    files.hold("nothree", &spelled(alloc, 3, 0, &[])?)?;
+    files.hold("points", &spelled(alloc, 1, 2, &[-1, 1])?)?;
+    files.hold("zero", &spelled(alloc, 1, 1, &[0])?)?;
+    files.hold("three", &spelled(alloc, 3, 1, &[1, 1, 1])?)?;
+    files.hold("zeros", &spelled(alloc, 4, 3, &[0; 12])?)?;
+    files.hold("nought", &spelled(alloc, 4, 1, &[0; 4])?)?;
+    let fives = [0, 0, 0, 0, 0, -1, 0, 0, 0, -1];
+    files.hold("five", &spelled(alloc, 5, 2, &fives)?)?;
+    files.hold("ends", &spelled(alloc, 5, 1, &[-1, 0, 0, 0, -1])?)?;
+    files.hold("apart", &spelled(alloc, 2, 3, &[0, 0, 0, 20000, 300, 0])?)?;
+    files.hold("corner", &spelled(alloc, 2, 1, &[0, 0])?)
+}
+
+/// Holds four files of one long series each, at the least and at the greatest value: `low` and `high` with 4096 values,
+/// and without a header `lowest` and `highest` with 65536.
+fn hold_long(alloc: Global, files: &mut MemFiles) -> Result<(), NoMemory> {
+    for (name, longest, value) in [("low", "lowest", i16::MIN), ("high", "highest", i16::MAX)] {
+        let mut bytes = b"ISER\x01\0\0\x10\x01\0\0\0\0\0\0\0".to_vec(alloc)?;
+        for _ in 0..4096 {
+            bytes.extend_from_slice(&value.to_le_bytes())?;
+        }
+        files.hold(name, &bytes)?;
+        bytes.clear();
+        for _ in 0..65536 {
+            bytes.extend_from_slice(&value.to_le_bytes())?;
+        }
+        files.hold(longest, &bytes)?;
+    }
+    Ok(())
+}
+
+/// Holds files without a header: a few values, and an odd number of bytes.
+fn hold_raw(alloc: Global, files: &mut MemFiles) -> Result<(), NoMemory> {
+    files.hold("raw", b"\x01\0\x01\0\x01\0\x01\0")?;
+    files.hold("seven", b"\x01\0\x01\0\x01\0\x01")?;
+    files.hold("empty", b"")
+}
+
+/// Holds headers that are refused before any value.
+fn hold_headers(alloc: Global, files: &mut MemFiles) -> Result<(), NoMemory> {
+    files.hold("huge", &spelled(alloc, 4096, 1048576, &[])?)?;
+    files.hold("nolength", &spelled(alloc, 0, 1048577, &[])?)?;
+    files.hold("many", b"ISER\x01\0\x04\0\x01\0\0\x01\x01\0\0\0")?;
+    files.hold("reserved", b"ISER\x01\0\x04\0\x04\0\0\0\x01\0\0\0")?;
+    files.hold("version3", b"ISER\x03\0\x04\0\x01\0\0\x01\x01\0\0\0")?;
+    files.hold("A2long", b"ISER\x02\0\0\0\x01\0\x01\0\x01\0\0\0")?;
+    files.hold("notseries", b"ISEX\x01\0\x04\0\x01\0\0\0\0\0\0\0")
+}
+
+/// Holds files with their last byte cut off, with one byte more, with a header that is cut or changed.
+fn hold_changed(alloc: Global, files: &mut MemFiles) -> Result<(), NoMemory> {
+    let mut bytes = spelled(alloc, 4, 4, &VALUES)?;
+    bytes.push(0)?;
+    files.hold("longer", &bytes)?;
+    bytes.truncate(47);
+    files.hold("shorter", &bytes)?;
+    bytes.truncate(15);
+    files.hold("first15", &bytes)?;
+    let mut labelled = LABELLED.to_vec(alloc)?;
+    labelled.push(0)?;
+    files.hold("A2longer", &labelled)?;
+    labelled.truncate(79);
+    files.hold("A2shorter", &labelled)?;
+    if let Some(reserved) = labelled.get_mut(6) {
+        *reserved = 1;
+    }
+    files.hold("A2reserved", &labelled)
+}
+
+/// The words of a line; an empty line has none.
+pub fn words_of(alloc: Global, line: &str) -> Result<Vec<String>, NoMemory> {
+    let mut words = Vec::new(alloc);
+    if line.is_empty() {
+        return Ok(words);
+    }
+    for word in line.split(' ') {
+        words.push(String::from_str(alloc, word)?)?;
+    }
+    Ok(words)
+}
+
+/// The outside of a run: how many bytes a read and a write move at most, and which open, read, write and write of the
+/// line fails (0: none).
+#[derive(Clone, Copy, Debug)]
+pub struct Outside {
+    pub piece: usize,
+    pub open: u64,
+    pub read: u64,
+    pub write: u64,
+    pub tell: u64,
+}
+
+impl Outside {
+    /// An outside that never fails, with pieces of so many bytes, at least 1.
+    pub fn sound(piece: usize) -> Outside {
+        Outside {
+            piece,
+            open: 0,
+            read: 0,
+            write: 0,
+            tell: 0,
+        }
+    }
+}
+
+/// How a run ended, with what it wrote and the line that it told.
+#[derive(Drop)]
+pub struct Ended {
+    pub status: Status,
+    pub out: MemSink,
+    pub err: MemSink,
+}
+
+/// Runs the words of a line over the files of the tables and a certificate `C`, with this outside and gate. The long series
+/// are held where the line names one.
+pub fn run_line<T: Threads + Sync, G: Gate + Sync>(
+    rt: &T,
+    alloc: Global,
+    line: &str,
+    certificate: &[u8],
+    outside: Outside,
+    gate: &G,
+) -> Result<Ended, Fail> {
+    let piece = outside.piece.max(1);
+    let mut files = MemFiles::new(
+        alloc,
+        piece,
+        [outside.open].to_vec(alloc)?,
+        [outside.read].to_vec(alloc)?,
+    );
+    hold_files(alloc, &mut files)?;
+    files.hold("C", certificate)?;
+    if line.contains("low") {
+        hold_long(alloc, &mut files)?;
+    }
+    let words = words_of(alloc, line)?;
+    let mut out = MemSink::new(alloc, 2000, piece, [outside.write].to_vec(alloc)?)?;
+    let mut err = MemSink::new(alloc, 2000, piece, [outside.tell].to_vec(alloc)?)?;
+    let status = run(rt, alloc, &words, &mut files, &mut out, &mut err, gate);
+    Ok(Ended { status, out, err })
+}
+
+/// Runs each row in pieces of so many bytes, and compares how it ends.
+pub fn end_as_they_should<H: Threads + Abort + Sync>(
+    rt: &H,
+    alloc: Global,
+    rows: &[Row],
+    piece: usize,
+) -> Result<(), Fail> {
+    for (line, status, text, told) in rows {
+        let ended = run_line(rt, alloc, line, b"", Outside::sound(piece), &NoGate)?;
+        assert_eq!(rt; ended.status, *status, "{line}, pieces of {piece}");
+        assert_eq!(rt;
+            ended.out.written(),
+            text.as_bytes(),
+            "{line}, pieces of {piece}"
+        );
+        assert_eq!(rt;
+            ended.err.written(),
+            told.as_bytes(),
+            "{line}, pieces of {piece}"
+        );
+    }
+    Ok(())
+}
+
+/// How often each of two workers came to its first turn, and how often one waited there in vain for the other.
+#[derive(Drop)]
+pub struct Meeting {
+    came: [AtomicU64; 2],
+    alone: AtomicU64,
+}
+
+impl Meeting {
+    /// A meeting to which nobody came yet.
+    pub fn new() -> Meeting {
+        Meeting {
+            came: [AtomicU64::new(0), AtomicU64::new(0)],
+            alone: AtomicU64::new(0),
+        }
+    }
+
+    /// How often the first and the second worker came, and how often one waited in vain.
+    pub fn counts(&self) -> (u64, u64, u64) {
+        let [first, second] = &self.came;
+        (
+            first.load(Ordering::SeqCst),
+            second.load(Ordering::SeqCst),
+            self.alone.load(Ordering::SeqCst),
+        )
+    }
+}
+
+impl Gate for Meeting {
+    fn pass(&self, worker: u32, turn: u64) {
+        if turn != 0 {
+            return;
+        }
+        let [first, second] = &self.came;
+        let (mine, other) = if worker == 0 {
+            (first, second)
+        } else {
+            (second, first)
+        };
+        let count = mine.fetch_add(1, Ordering::SeqCst).wrapping_add(1);
+        for _ in 0..1_000_000_000u32 {
+            if other.load(Ordering::SeqCst) >= count {
+                return;
+            }
+        }
+        self.alone.fetch_add(1, Ordering::SeqCst);
+    }
+}
