@@ -4,7 +4,7 @@ set -eu
 top="$(cd "$(dirname "${BASH_SOURCE[0]}")/.." && pwd)"
 work="$(mktemp -d)"
 trap 'rm -rf "$work"' EXIT
-gcc -O3 -march=x86-64-v2 -o "$work/baseline" "$here/baseline.c"
+gcc -O3 -march=native -o "$work/baseline" "$here/baseline.c"
 
 copy_crates() {
     for crate in "$@"; do

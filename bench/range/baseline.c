@@ -1,5 +1,5 @@
-// Scans of all walks in plain C with the radius of each query as the limit: tested at each value, and once a block of
-// 64 values. The radius is the distance of the tenth nearest walk. Prints for each the microseconds over all queries,
+// Scans of all walks in plain C with the radius of each query as the limit: tested at each value, once a
+// block of 64 values, and by lanes in a sampled order. The radius is the distance of the tenth nearest walk. Prints for each the microseconds over all queries,
 // and a checksum.
 enum { ROWS = 100000, POINTS = 1024, QUERIES = 10, ROUNDS = 3, BLOCK = 64, RANK = 10 };
 
@@ -34,13 +34,15 @@ static void time_scan(const char *name, scan *within, const int16_t *values, con
 }
 
 int main(void) {
-    int16_t *values = malloc(sizeof(int16_t) * (ROWS + QUERIES) * POINTS);
+    int16_t *values = room_for(ROWS + QUERIES);
     if (!values) return 1;
     fill(values, ROWS + QUERIES);
+    sample_lines();
     uint64_t radius[QUERIES];
     for (size_t j = 0; j < QUERIES; j++) radius[j] = tenth(values, values + (ROWS + j) * POINTS);
     time_scan("scan, tested at each value", at_each, values, radius);
     time_scan("scan, tested once a block", in_blocks, values, radius);
+    time_scan("scan, AVX2 in sampled order", in_sampled_order, values, radius);
     free(values);
     return 0;
 }

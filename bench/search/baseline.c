@@ -1,5 +1,5 @@
 // Scans of all walks in plain C for the ten nearest, with the tenth distance so far as the limit: tested at each value,
-// and once a block of 64 values. Prints for each the microseconds over all queries, and a checksum.
+// once a block of 64 values, and by lanes in a sampled order. Prints for each the microseconds over all queries, and a checksum.
 enum { ROWS = 500000, POINTS = 256, QUERIES = 20, ROUNDS = 3, BLOCK = 64, RANK = 10 };
 
 #include "../scans.h"
@@ -35,10 +35,12 @@ static void time_scan(const char *name, scan *within, const int16_t *values) {
 }
 
 int main(void) {
-    int16_t *values = malloc(sizeof(int16_t) * (ROWS + QUERIES) * POINTS);
+    int16_t *values = room_for(ROWS + QUERIES);
     if (!values) return 1;
     fill(values, ROWS + QUERIES);
+    sample_lines();
     time_scan("C, tested at each value", at_each, values);
     time_scan("C, tested once a block", in_blocks, values);
+    time_scan("C, AVX2 in sampled order", in_sampled_order, values);
     return 0;
 }
