@@ -8,23 +8,23 @@ use Rattle.std.specs.Prelude.{slice_get}
 use Rattle.leaf_queues.specs.PlainQueue.{PlainQueue}
 use Rattle.subtree_build.specs.Index.{IndexParts}
 use Rattle.subtree_build.specs.Outline.{leaf_numbers}
-use Rattle.query_core.specs.declared.calls.Reply.{Reply}
-use Rattle.query_core.specs.declared.calls.Reply.TheVariants.{Claimed}
-use Rattle.query_core.specs.declared.phase.Phase.{Phase}
-use Rattle.query_core.specs.declared.phase.Phase.TheVariants.{Aim, Claim, Done, Give, Late, Look, Offer, Pop}
-use Rattle.query_core.specs.Calls.{call_in, call_of}
-use Rattle.query_core.specs.Ground.{Ground}
-use Rattle.query_core.specs.Machine.{State, Worker, claim_turn, give_turn, pop_turn, queue_of, entry_of, round_queue, turn, turn_by_phase, turn_of, after_claim}
+use Rattle.search_machine.specs.declared.calls.Reply.{Reply}
+use Rattle.search_machine.specs.declared.calls.Reply.TheVariants.{Claimed}
+use Rattle.search_machine.specs.declared.phase.Phase.{Phase}
+use Rattle.search_machine.specs.declared.phase.Phase.TheVariants.{Aim, Claim, Done, Give, Late, Look, Offer, Pop}
+use Rattle.search_machine.specs.Calls.{call_in, call_of}
+use Rattle.search_machine.specs.Ground.{Ground, queue_of, entry_of}
+use Rattle.search_machine.specs.Machine.{State, Worker, claim_turn, give_turn, pop_turn, round_queue, turn, turn_by_phase, turn_of, after_claim}
 use Rattle.query_core.specs.OneThread.{Did, Held, held_after, put_into, pop_from}
-use Rattle.query_core.specs.OwnRecord.{Member, OwnRecord, nothing_yet}
-use Rattle.query_core.specs.Outcome.{start_of}
+use Rattle.search_machine.specs.OwnRecord.{Member, OwnRecord, nothing_yet}
+use Rattle.search_machine.specs.Basics.{start_of}
 use Rattle.query_core.specs.Questions.{Question, search_over}
-use Rattle.query_core.specs.Replies.{after, after_reply}
-use Rattle.query_core.specs.Sound.{Sound}
+use Rattle.search_machine.specs.Replies.{after, after_reply}
+use Rattle.search_machine.specs.Sound.{Sound}
 use Rattle.query_core.specs.Teams.{IsTeam, StandsAt, TeamParts, searched}
 use Rattle.query_core.specs.Turning.{Turns}
 use Rattle.query_core.specs.Working.{IsOf, Shows, Working}
-use Rattle.query_core.proofs.Places.{get_none, get_set, get_set_other, get_set_same, get_some}
+use Rattle.search_machine.proofs.Places.{get_none, get_set, get_set_other, get_set_same, get_some}
 
 -- the state of what is held and these workers
 abbrev state_of : Held → List Worker → State

@@ -8,18 +8,18 @@ use Rattle.std.proofs.lemmas.Option.{slice_get-get_or}
 use Rattle.subtree_build.specs.declared.node.Node.{Node, Leaf}
 use Rattle.subtree_build.specs.Outline.{leaf_numbers}
 use Rattle.subtree_build.specs.Start.{start_leaf_of}
-use Rattle.query_core.specs.declared.calls.Call.{Call}
-use Rattle.query_core.specs.declared.calls.Reply.{Reply}
-use Rattle.query_core.specs.declared.phase.Phase.{Phase}
-use Rattle.query_core.specs.declared.phase.Phase.TheVariants.{Claim, Give, Look}
-use Rattle.query_core.specs.declared.phase.Onward.{Onward}
-use Rattle.query_core.specs.declared.phase.Onward.TheVariants.{Look as ToLook}
-use Rattle.query_core.specs.Calls.{call_in}
-use Rattle.query_core.specs.Ground.{Ground}
-use Rattle.query_core.specs.Machine.{Worker, after_claim, after_late, after_look, in_phase, is_new, onward, scanned_by, skip, stopped, without}
-use Rattle.query_core.specs.OwnRecord.{OwnRecord}
+use Rattle.search_machine.specs.declared.calls.Call.{Call}
+use Rattle.search_machine.specs.declared.calls.Reply.{Reply}
+use Rattle.search_machine.specs.declared.phase.Phase.{Phase}
+use Rattle.search_machine.specs.declared.phase.Phase.TheVariants.{Claim, Give, Look}
+use Rattle.search_machine.specs.declared.phase.Onward.{Onward}
+use Rattle.search_machine.specs.declared.phase.Onward.TheVariants.{Look as ToLook}
+use Rattle.search_machine.specs.Calls.{call_in}
+use Rattle.search_machine.specs.Ground.{Ground}
+use Rattle.search_machine.specs.Machine.{Worker, after_claim, after_late, after_look, in_phase, is_new, onward, scanned_by, skip, stopped, without}
+use Rattle.search_machine.specs.OwnRecord.{OwnRecord}
 use Rattle.query_core.specs.Questions.{last_of, view_in}
-use Rattle.query_core.specs.Replies.{ReplyFits, after_reply, leaves_below}
+use Rattle.search_machine.specs.Replies.{ReplyFits, after_reply, leaves_below}
 use Rattle.query_core.specs.Turning.{ReplyNotLow, TurnsBy, search_of, taken_by}
 use Rattle.query_core.specs.Walks.{Advances}
 use Rattle.query_core.specs.Working.{Working, Shows, is_marked}

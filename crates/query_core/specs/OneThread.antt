@@ -4,12 +4,12 @@ use Rattle.series_core.specs.declared.queue_words.Entry.{Entry}
 use Rattle.series_core.specs.declared.queue_words.PutReply.TheVariants.{Filled}
 use Rattle.series_core.specs.declared.queue_words.PopReply.TheVariants.{Closed}
 use Rattle.leaf_queues.specs.PlainQueue.{PlainQueue, put, pop}
-use Rattle.query_core.specs.Ground.{Ground}
-use Rattle.query_core.specs.Machine.{empty_queues}
-use Rattle.query_core.specs.declared.calls.Call.{Call}
-use Rattle.query_core.specs.declared.calls.Call.TheVariants.{Claim, Read, Offer, Put, Pop}
-use Rattle.query_core.specs.declared.calls.Reply.{Reply}
-use Rattle.query_core.specs.declared.calls.Reply.TheVariants.{Claimed, Seen, Offered, PutTold, PopTold}
+use Rattle.search_machine.specs.Ground.{Ground}
+use Rattle.search_machine.specs.Machine.{empty_queues}
+use Rattle.search_machine.specs.declared.calls.Call.{Call}
+use Rattle.search_machine.specs.declared.calls.Call.TheVariants.{Claim, Read, Offer, Put, Pop}
+use Rattle.search_machine.specs.declared.calls.Reply.{Reply}
+use Rattle.search_machine.specs.declared.calls.Reply.TheVariants.{Claimed, Seen, Offered, PutTold, PopTold}
 
 -- what is held: below what no limit falls, how many root children there are and how many are claimed, the bound word, and
 -- the queues

@@ -1,15 +1,15 @@
 -- What one turn of a worker does: one call, and the worker becomes what the machine's worker becomes by the reply.
 use Rattle.std.specs.Prelude.{ℕ, ◌≤◌, cond, nat_lt, ◌&&◌}
-use Rattle.query_core.specs.declared.calls.Call.{Call}
-use Rattle.query_core.specs.declared.calls.Reply.{Reply}
-use Rattle.query_core.specs.declared.calls.Reply.TheVariants.{Seen, Offered}
-use Rattle.query_core.specs.declared.phase.Onward.{Onward}
-use Rattle.query_core.specs.Ground.{Ground}
-use Rattle.query_core.specs.Machine.{Worker, in_phase, is_new, onward, scanned_by}
-use Rattle.query_core.specs.OwnRecord.{Member}
-use Rattle.query_core.specs.Calls.{call_of}
+use Rattle.search_machine.specs.declared.calls.Call.{Call}
+use Rattle.search_machine.specs.declared.calls.Reply.{Reply}
+use Rattle.search_machine.specs.declared.calls.Reply.TheVariants.{Seen, Offered}
+use Rattle.search_machine.specs.declared.phase.Onward.{Onward}
+use Rattle.search_machine.specs.Ground.{Ground}
+use Rattle.search_machine.specs.Machine.{Worker, in_phase, is_new, onward, scanned_by}
+use Rattle.search_machine.specs.OwnRecord.{Member}
+use Rattle.search_machine.specs.Calls.{call_of}
 use Rattle.query_core.specs.Questions.{last_of, search_over}
-use Rattle.query_core.specs.Replies.{ReplyFits, after}
+use Rattle.search_machine.specs.Replies.{ReplyFits, after}
 use Rattle.query_core.specs.Working.{Working, Shows}
 
 -- what the code's worker searches, where there are so many workers

@@ -1,7 +1,7 @@
 //! What the workers share, held by one thread in plain fields. Each call is what the machine's turn makes of the state.
 ghost use Rattle.std.specs.Prelude.{◌≡◌, ◌≤◌, EachIndex, IfOk, length, slice_index, vec_len};
-ghost use Rattle.query_core.specs.Ground.{Ground};
-ghost use Rattle.query_core.specs.Machine.{capacity_of, empty_queues};
+ghost use Rattle.search_machine.specs.Ground.{Ground};
+ghost use Rattle.search_machine.specs.Machine.{capacity_of, empty_queues};
 ghost use Rattle.query_core.specs.OneThread.{opening_hand};
 ghost use Rattle.query_core.specs.Questions.{last_of, search_over};
 

@@ -4,7 +4,7 @@ ghost use Rattle.std.specs.Prelude.{◌≡◌, ℕ, ◌-◌};
 ghost use Rattle.std.specs.List.{All};
 ghost use Rattle.subtree_build.specs.Index.{IndexParts};
 ghost use Rattle.subtree_build.specs.Members.{numbers_of};
-ghost use Rattle.query_core.specs.Ground.{scan, scan_one};
+ghost use Rattle.search_machine.specs.Ground.{scan, scan_one};
 ghost use Rattle.series_core.specs.Order.{distance_at};
 ghost use Rattle.query_core.specs.Questions.{search_over, IsMemberOf};
 

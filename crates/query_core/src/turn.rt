@@ -1,16 +1,15 @@
 //! A worker's turn: one call on what is shared, and what the worker makes of the reply. One function a phase.
 ghost use Rattle.std.specs.Prelude.{◌≡◌, ◌≢◌, ℕ, suc, ◌<◌, ◌≤◌, ◌↔◌, false, cond, nat_lt, length};
-ghost use Rattle.query_core.specs.Ground.{worst};
-ghost use Rattle.query_core.specs.Machine.{Worker as Shown, onward, scanned_by};
+ghost use Rattle.search_machine.specs.Ground.{worst};
+ghost use Rattle.search_machine.specs.Machine.{Worker as Shown, onward, scanned_by};
 ghost use Rattle.query_core.specs.Questions.{last_of};
 ghost use Rattle.query_core.specs.Turning.{Turns, TurnsBy, search_of, taken_by};
 ghost use Rattle.query_core.specs.Working.{IsOf, OnwardInRange, Shows, is_marked};
 
-use crate::calls::Reply;
-use crate::phase::{Onward, Phase};
 use crate::scan::distance_of_worst;
 use crate::shared::Shared;
 use crate::worker::Worker;
+use search_machine::{Onward, Phase, Reply};
 use series_core::{Entry, PopReply, PutReply, Rows, far};
 
 /// Whether a worker has more turns.

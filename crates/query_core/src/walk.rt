@@ -7,7 +7,7 @@ ghost use Rattle.isax_word.specs.Word.{part_at, child_word};
 ghost use Rattle.lower_bound.specs.Bound.{View, word_bound};
 ghost use Rattle.subtree_build.specs.Outline.{leaf_numbers};
 ghost use Rattle.subtree_build.specs.Start.{node_at};
-ghost use Rattle.query_core.specs.Ground.{Ground};
+ghost use Rattle.search_machine.specs.Ground.{Ground};
 ghost use Rattle.query_core.specs.Questions.{leaf_bound};
 ghost use Rattle.query_core.specs.Walks.{Advances, IsAwaited, IsEntry, IsGiven, IsVisited, IsWalk, Reaches, leaves_of_walk, most_steps};
 

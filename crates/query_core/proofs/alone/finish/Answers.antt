@@ -1,12 +1,12 @@
 use Rattle.std.proofs.Common.{ap, arith, subst, sym, ℕ, ◌∙◌, ◌≡◌}
 use Rattle.std.proofs.lemmas.Option.{slice_get_within}
 use Rattle.std.specs.Prelude.{replicate}
-use Rattle.query_core.specs.Ground.{Ground}
-use Rattle.query_core.specs.Machine.{played, turn}
-use Rattle.query_core.specs.Outcome.{AllDone}
-use Rattle.query_core.specs.Sound.{Sound}
+use Rattle.search_machine.specs.Ground.{Ground}
+use Rattle.search_machine.specs.Machine.{played, turn}
+use Rattle.search_machine.specs.Outcome.{AllDone}
+use Rattle.search_machine.specs.Sound.{Sound}
 use Rattle.query_core.specs.Teams.{StandsAt, searched}
-use Rattle.query_core.proofs.Schedules.{played_sound}
+use Rattle.search_machine.proofs.Schedules.{played_sound}
 use Rattle.query_core.proofs.TeamPlays.{all_done, alone_done, alone_more}
 use Rattle.query_core.proofs.alone.finish.Goals as goal
 

@@ -1,9 +1,9 @@
 use Rattle.std.proofs.Common.{ap, arith, get_or, subst, sym, take, ◌<◌, ◌∙◌}
-use Rattle.query_core.specs.Ground.{Ground}
-use Rattle.query_core.specs.Machine.{State, played, turn}
-use Rattle.query_core.specs.Sound.{Sound}
+use Rattle.search_machine.specs.Ground.{Ground}
+use Rattle.search_machine.specs.Machine.{State, played, turn}
+use Rattle.search_machine.specs.Sound.{Sound}
 use Rattle.query_core.specs.Teams.{StandsAt, searched}
-use Rattle.query_core.proofs.Schedules.{played_sound}
+use Rattle.search_machine.proofs.Schedules.{played_sound}
 use Rattle.query_core.proofs.TeamPlays.{names_more, no_stranger, played_more}
 use Rattle.query_core.proofs.playing.play.Goals as goal
 

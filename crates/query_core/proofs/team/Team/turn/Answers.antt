@@ -2,11 +2,11 @@ use Rattle.std.proofs.Common.{Some, ap, arith, length, refl, set, subst, sym, â—
 use Rattle.std.proofs.lemmas.Bool.{falseâ‰¢true}
 use Rattle.std.proofs.lemmas.Option.{same_Some, slice_get_read}
 use Rattle.std.specs.Prelude.{slice_get}
-use Rattle.query_core.specs.declared.phase.Phase.TheVariants.{Done}
+use Rattle.search_machine.specs.declared.phase.Phase.TheVariants.{Done}
 use Rattle.subtree_build.specs.Index.{IndexParts}
 use Rattle.query_core.specs.Questions.{last_of}
-use Rattle.query_core.specs.Machine.{State, turn}
-use Rattle.query_core.specs.Sound.{Sound}
+use Rattle.search_machine.specs.Machine.{State, turn}
+use Rattle.search_machine.specs.Sound.{Sound}
 use Rattle.query_core.specs.Working.{Working}
 use Rattle.query_core.specs.Teams.{StandsAt, TeamParts, searched}
 use Rattle.query_core.proofs.TeamTurns.{done_stands, turn_keeps, turn_stands}

@@ -1,6 +1,6 @@
 use Rattle.std.proofs.Common.{◌+◌, ◌%◌, subst}
-use Rattle.query_core.specs.declared.calls.Call.TheVariants.{Pop}
-use Rattle.query_core.specs.declared.calls.Reply.TheVariants.{PopTold}
+use Rattle.search_machine.specs.declared.calls.Call.TheVariants.{Pop}
+use Rattle.search_machine.specs.declared.calls.Reply.TheVariants.{PopTold}
 use Rattle.query_core.specs.Working.{Working}
 use Rattle.series_core.specs.declared.queue_words.PopReply.TheVariants.{Leaf}
 use Rattle.query_core.proofs.TurnLaws.{turned_here}

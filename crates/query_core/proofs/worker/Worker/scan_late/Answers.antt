@@ -1,5 +1,5 @@
 use Rattle.std.proofs.Common.{◌≡◌, ◌<◌, ◌≤◌, length, sym, ap, ◌∙◌, subst, arith}
-use Rattle.query_core.specs.declared.phase.Phase.TheVariants.{Late}
+use Rattle.search_machine.specs.declared.phase.Phase.TheVariants.{Late}
 use Rattle.query_core.specs.Turning.{search_of}
 use Rattle.query_core.specs.Questions.{view_in}
 use Rattle.query_core.specs.Working.{PhaseInRange, Shows}
