@@ -15,7 +15,7 @@ use Rattle.subtree_build.specs.declared.node.Node.{Leaf}
 use Rattle.series_core.specs.declared.queue_words.Entry.{Entry}
 use Rattle.query_core.specs.declared.step.Step.{Step}
 use Rattle.search_machine.specs.Ground.{Ground}
-use Rattle.search_machine.specs.Machine.{skip, without}
+use Rattle.search_machine.specs.Workers.{skip, without}
 use Rattle.query_core.specs.Questions.{leaf_bound}
 use Rattle.query_core.specs.Walks.{IsEntry, IsGiven, IsStep}
 

@@ -11,7 +11,7 @@ use Rattle.search_machine.specs.declared.phase.Phase.TheVariants.{Offer}
 use Rattle.search_machine.specs.declared.phase.Onward.{Onward}
 use Rattle.search_machine.specs.declared.phase.Onward.TheVariants.{Look as ToLook, Aim as ToAim}
 use Rattle.search_machine.specs.Ground.{scan}
-use Rattle.search_machine.specs.Machine.{onward}
+use Rattle.search_machine.specs.Workers.{onward}
 use Rattle.query_core.specs.Questions.{leaf_series, search_over, view_in}
 use Rattle.query_core.specs.Walks.{Walked}
 use Rattle.query_core.specs.Working.{Working, IsFound, IsWorking, OnwardInRange, PhaseInRange, is_marked}

@@ -10,7 +10,7 @@ use Rattle.subtree_build.specs.Start.{start_leaf_of}
 use Rattle.search_machine.specs.declared.outcome.Start.{Start}
 use Rattle.search_machine.specs.declared.phase.Phase.TheVariants.{Claim}
 use Rattle.search_machine.specs.Ground.{Ground, Fits, start_limit}
-use Rattle.search_machine.specs.Machine.{start_list}
+use Rattle.search_machine.specs.Workers.{start_list}
 use Rattle.search_machine.specs.Outcome.{is_start}
 use Rattle.search_machine.specs.Basics.{start_of}
 use Rattle.query_core.specs.Questions.{Question, search_over, view_in}

@@ -8,7 +8,8 @@ use Rattle.std.specs.Prelude.{nat_eq, not, slice_get}
 use Rattle.list_totals.specs.Totals.{times}
 use Rattle.query_core.specs.Fates.{leaf_of}
 use Rattle.search_machine.specs.Ground.{Ground, start_limit}
-use Rattle.search_machine.specs.Machine.{State, Worker}
+use Rattle.search_machine.specs.Machine.{State}
+use Rattle.search_machine.specs.Workers.{Worker}
 use Rattle.search_machine.specs.Outcome.{first_place}
 use Rattle.search_machine.specs.Basics.{start_of}
 use Rattle.search_machine.specs.Sound.{scans}

@@ -11,7 +11,8 @@ use Rattle.subtree_build.specs.Index.{IndexParts}
 use Rattle.search_machine.specs.declared.phase.Phase.TheVariants.{Claim, Done}
 use Rattle.search_machine.specs.Ground.{Ground, opening, opening_of, start_limit, worst}
 use Rattle.search_machine.specs.Basics.{start_of}
-use Rattle.search_machine.specs.Machine.{Worker, capacity_of, empty_queues, idle, leader, opened, start_list}
+use Rattle.search_machine.specs.Machine.{capacity_of, empty_queues, opened}
+use Rattle.search_machine.specs.Workers.{Worker, idle, leader, start_list}
 use Rattle.query_core.specs.Questions.{Question, search_over}
 use Rattle.query_core.specs.Teams.{AreDoneTo, AreHired, StandsAt, TeamParts, limit_of}
 use Rattle.query_core.specs.Working.{IsOf, Shows, Working, opens_as}

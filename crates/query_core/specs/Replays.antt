@@ -4,7 +4,8 @@ use Rattle.search_machine.specs.declared.phase.Phase.TheVariants.{Done}
 use Rattle.query_core.specs.declared.playing.ReplayError.{ReplayError}
 use Rattle.query_core.specs.declared.playing.ReplayError.TheVariants.{NoMemory, Stranger, Unfinished}
 use Rattle.search_machine.specs.Ground.{Ground}
-use Rattle.search_machine.specs.Machine.{Worker, played}
+use Rattle.search_machine.specs.Machine.{played}
+use Rattle.search_machine.specs.Workers.{Worker}
 use Rattle.search_machine.specs.Outcome.{AllDone}
 
 -- each entry of the schedule before place n is a worker's number

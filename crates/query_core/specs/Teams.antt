@@ -5,8 +5,9 @@ use Rattle.series_core.specs.declared.pair.Pair.{Pair}
 use Rattle.subtree_build.specs.Index.{IndexParts}
 use Rattle.search_machine.specs.declared.outcome.Start.{Start}
 use Rattle.search_machine.specs.Ground.{Ground}
-use Rattle.search_machine.specs.Machine.{Worker, State, played}
-use Rattle.query_core.specs.OneThread.{Held}
+use Rattle.search_machine.specs.Machine.{State, played}
+use Rattle.search_machine.specs.Workers.{Worker}
+use Rattle.search_machine.specs.Shared.{Held}
 use Rattle.search_machine.specs.Outcome.{AllDone}
 use Rattle.search_machine.specs.Basics.{start_of}
 use Rattle.query_core.specs.Questions.{Question, CanBeSearched, last_of, search_over}

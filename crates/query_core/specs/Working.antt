@@ -12,7 +12,7 @@ use Rattle.search_machine.specs.declared.phase.Phase.TheVariants.{Claim, Look, G
 use Rattle.search_machine.specs.declared.phase.Onward.{Onward}
 use Rattle.search_machine.specs.declared.phase.Onward.TheVariants.{Look as ToLook, Aim as ToAim}
 use Rattle.search_machine.specs.Ground.{Ground, pair_of, opening}
-use Rattle.search_machine.specs.Machine.{Worker, is_new, leader, idle}
+use Rattle.search_machine.specs.Workers.{Worker, is_new, leader, idle}
 use Rattle.search_machine.specs.Outcome.{is_start}
 use Rattle.query_core.specs.Questions.{Question, CanBeSearched, leaf_bound, view_in, search_over}
 use Rattle.query_core.specs.Walks.{Walked}

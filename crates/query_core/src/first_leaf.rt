@@ -24,6 +24,7 @@ impl<'a, R: Rows> Task<'a, R> {
           pairs = opening (search_over self.now index.now 1 1);
         }) }
     {
+        // for the fact that the index is one
         let _leaves = index.leaf_count();
         let mut list = KBest::new(alloc, self.k())?;
         let Some(leaf) = index.start_leaf(self.view()) else {

@@ -25,13 +25,14 @@ pub use playing::{ReplayError, replay};
 pub use search_machine::examples::{
     late_example, one_worker_example, shut_example, straight_example,
 };
-pub use search_machine::laws::{answer_law, offer_law, pass_over_law, rank_law, scan_law};
-pub use search_machine::laws::{closing_law, empty_record_law, reply_law};
 pub use search_machine::laws::{
-    ending_law, enough_law, fate_law, opening_law, room_law, schedule_law, straight_law, turn_law,
+    answer_law, closing_law, empty_record_law, ending_law, enough_law, fate_law, offer_law,
+    opening_law, pass_over_law, rank_law, reply_law, room_law, scan_law, schedule_law,
+    straight_law, turn_law,
 };
-pub use search_machine::{Call, Onward, Phase, Reply};
-pub use search_machine::{EntryList, Fate, FateList, LineList, Outcome, QueueLine, Start};
+pub use search_machine::{
+    Call, EntryList, Fate, FateList, LineList, Onward, Outcome, Phase, QueueLine, Reply, Start,
+};
 pub use shared::Shared;
 pub use task::Task;
 pub use turn::Turn;

@@ -73,7 +73,6 @@ pub fn replay<R: Rows>(
 
 // Gives the turns of the schedule up to the first stranger, and answers its place; None where there is none.
 fn play<R: Rows>(team: &mut Team<'_, R>, schedule: &[u32]) -> Option<u64>
-    requires fits { Fits (searched team.old) }
     requires opens { StandsAt team.old (opened (searched team.old)) }
     ensures same { searched team.new ≡ searched team.old }
     ensures none { IfNone result (NoStranger (searched team.old) schedule.now) }

@@ -23,6 +23,7 @@ impl<'a, R: Rows> Task<'a, R> {
         ensures pairs { (ix : IndexParts) (workers queues : ℕ) → list.new.pairs
             ≡ scan (search_over self.now ix workers queues) limit (numbers_of members.now) list.old.pairs }
     {
+        // for the fact that the list is one: in order, and no longer than its limit
         let _held = list.pairs();
         for member in members {
             self.meet(member, limit, list);
@@ -37,6 +38,7 @@ impl<'a, R: Rows> Task<'a, R> {
         ensures pairs { (ix : IndexParts) (workers queues : ℕ) → list.new.pairs
             ≡ scan_one (search_over self.now ix workers queues) limit member.now.number list.old.pairs }
     {
+        // for the fact that the list is one: in order, and no longer than its limit
         let _held = list.pairs();
         let most = far(limit).min(distance_of_worst(list));
         if self.view().bound_full(&member.full) > most {

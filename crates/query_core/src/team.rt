@@ -102,7 +102,7 @@ impl<'a, R: Rows> Team<'a, R> {
     pub(crate) fn turn(&mut self, i: u32)
         requires place { i < length self.old.workers }
         ensures same { searched self.new ≡ searched self.old }
-        ensures turns { (s : State) → Sound (searched self.old) s → StandsAt self.old s
+        ensures turns { (s : State) → StandsAt self.old s
             → StandsAt self.new (turn (searched self.old) i s) }
     {
         if self.workers[i as usize].is_done() {
@@ -134,6 +134,7 @@ pub(crate) fn search_law<R: Rows>(task: &Task<'_, R>, index: &Index)
     ensures answer { (workers queues : ℕ) → answer (search_over task.now index.now workers queues)
         ≡ collection_answer task.now.collection task.now.query task.now.k }
 {
+    // for the facts that the task is a question, and that the index is one
     let _k = task.k();
     let _leaves = index.leaf_count();
     index_law();

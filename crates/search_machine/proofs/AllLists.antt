@@ -7,7 +7,7 @@ use Rattle.series_core.specs.Order.{Ascending, Has}
 use Rattle.series_core.specs.Pairs.{ascending}
 use Rattle.series_core.specs.declared.pair.Pair.{Pair}
 use Rattle.search_machine.specs.Ground.{Fits, Ground}
-use Rattle.search_machine.specs.Machine.{Worker}
+use Rattle.search_machine.specs.Workers.{Worker}
 use Rattle.search_machine.specs.Outcome.{all_pairs}
 use Rattle.search_machine.specs.Sound.{ListSound, scans}
 use Rattle.search_machine.proofs.Places.{total_at}

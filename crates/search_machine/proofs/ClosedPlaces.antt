@@ -10,7 +10,7 @@ use Rattle.list_totals.specs.Totals.{one_if_same, times, total}
 use Rattle.leaf_queues.specs.PlainQueue.{PlainQueue}
 use Rattle.search_machine.specs.Closes.{Closes, claimed_by, final, placed_by, placed_of, popped_by, popped_of}
 use Rattle.search_machine.specs.Ground.{Fits, Ground, last}
-use Rattle.search_machine.specs.Machine.{without}
+use Rattle.search_machine.specs.Workers.{without}
 use Rattle.search_machine.specs.Members.{In}
 use Rattle.search_machine.specs.OwnRecord.{Below, Far, Member, WasPut, claims_of, is_refused}
 use Rattle.search_machine.specs.Sound.{held, in_hand, places, scans, takes, unclaimed, waits}

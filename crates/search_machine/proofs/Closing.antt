@@ -10,7 +10,7 @@ use Rattle.leaf_queues.specs.PlainQueue.{PlainQueue}
 use Rattle.search_machine.specs.Closes.{CameByPut, Closes, QueueCloses, final}
 use Rattle.search_machine.specs.Ground.{Fits, Ground, start_limit}
 use Rattle.search_machine.specs.Legal.{Legal}
-use Rattle.search_machine.specs.Machine.{Worker, round_queue}
+use Rattle.search_machine.specs.Workers.{Worker, round_queue}
 use Rattle.search_machine.specs.Members.{In}
 use Rattle.search_machine.specs.Outcome.{AllDone, outcome}
 use Rattle.search_machine.specs.OwnRecord.{Member, Near, PutRight, WasClosed, WasRefused, WasTaken}

@@ -17,7 +17,9 @@ use Rattle.search_machine.specs.declared.phase.Onward.TheVariants.{Aim as ToAim,
 use Rattle.search_machine.specs.declared.phase.Phase.{Phase}
 use Rattle.search_machine.specs.declared.phase.Phase.TheVariants.{Aim, Claim, Done, Give, Late, Look, Offer, Pop}
 use Rattle.search_machine.specs.Ground.{Fits, Ground, scan, worst, entry_of, queue_of}
-use Rattle.search_machine.specs.Machine.{State, Worker, after_claim, after_late, after_look, after_pop, after_put, after_scan, claim_turn, give_turn, improves, in_phase, is_new, onward, pop_turn, round_queue, scanned_by, skip, stopped, turn_by_phase, with_queue, without}
+use Rattle.search_machine.specs.Machine.{State, turn_by_phase}
+use Rattle.search_machine.proofs.Rows.{claim_turn, give_turn, pop_turn, row, row_is, with_queue}
+use Rattle.search_machine.specs.Workers.{Worker, after_claim, after_late, after_look, after_pop, after_put, after_scan, improves, in_phase, is_new, onward, round_queue, scanned_by, skip, stopped, without}
 use Rattle.search_machine.specs.Sound.{Drains, PhaseSound, Sound}
 use Rattle.search_machine.specs.Basics.{Between}
 use Rattle.search_machine.proofs.Entries.{length_place}
@@ -217,26 +219,33 @@ module _ (g : Ground) (fits : Fits g) (s : State) (i : ℕ) (w : Worker) (sound 
       together g s i (round_queue g i j) w (after_pop g w j v (pop v q).1) q (pop v q).0 at f
       (popped_less g w j v q e h.1 q.kept q.waiting refl)
 
-  -- the turn of a worker that is not done uses up effort
-  pub turn_less : (phase : Phase) → w.phase ≡ phase → phase ≢ Done
-      → effort g (turn_by_phase g i s w phase) < effort g s
-  turn_less Claim e ne = claim_less g s i w sound at e (slice_get g.roots s.claimed) refl
-  turn_less Look e ne =
+  -- the row of a worker that is not done uses up effort
+  row_less : (phase : Phase) → w.phase ≡ phase → phase ≢ Done
+      → effort g (row g i s w phase) < effort g s
+  row_less Claim e ne = claim_less g s i w sound at e (slice_get g.roots s.claimed) refl
+  row_less Look e ne =
       alone g s i w (after_look g w s.word) s.word at (let h = ap (turns_left g) e in
       let a = stopped_less g w (skip g s.word w.rest) in
       let b = length_skip g s.word w.rest in omega arith)
-  turn_less (Give l) e ne = give_less l e (slice_get s.queues (queue_of g l)) refl
-  turn_less (Late l) e ne =
+  row_less (Give l) e ne = give_less l e (slice_get s.queues (queue_of g l)) refl
+  row_less (Late l) e ne =
       alone g s i w (after_late g w l s.word) s.word at (late_less g w l s.word e)
-  turn_less (Aim j) e ne =
+  row_less (Aim j) e ne =
       let p : Drains g s.claimed s.queues i j w.rest × (j < g.queues) = phase_of (Aim j) e in
       alone g s i w (in_phase (Pop j s.word) w) s.word at (let h = ap (turns_left g) e in
       let a = p.1 in omega arith)
-  turn_less (Pop j v) e ne = pop_less j v e (slice_get s.queues (round_queue g i j)) refl
-  turn_less (Offer next) e ne =
+  row_less (Pop j v) e ne = pop_less j v e (slice_get s.queues (round_queue g i j)) refl
+  row_less (Offer next) e ne =
       alone g s i w (in_phase (onward next) w) (min s.word (worst g w.list)) at
       (let h = ap (turns_left g) e in let a = onward_left g next in omega arith)
-  turn_less Done e ne = absurd (ne refl)
+  row_less Done e ne = absurd (ne refl)
+
+  -- and so does its turn
+  pub turn_less : (phase : Phase) → w.phase ≡ phase → phase ≢ Done
+      → effort g (turn_by_phase g i s w phase) < effort g s
+  turn_less phase e ne =
+      subst (λ (t : State). effort g t < effort g s)
+      (row_is g s i w fits.some_queue sound.queue_count phase) (row_less phase e ne)
 
 -- a worker is done or not
 pub done_or : (phase : Phase) → (phase ≡ Done) ⊎ (phase ≢ Done)

@@ -19,7 +19,8 @@ use Rattle.search_machine.specs.declared.outcome.Fate.TheVariants.{Start as Star
 use Rattle.search_machine.specs.declared.outcome.QueueLine.{QueueLine}
 use Rattle.search_machine.specs.Ground.{Fits, Ground, answer, last, plain, start_limit}
 use Rattle.search_machine.specs.Legal.{FateRight, Legal}
-use Rattle.search_machine.specs.Machine.{State, round_queue, without}
+use Rattle.search_machine.specs.Machine.{State}
+use Rattle.search_machine.specs.Workers.{round_queue, without}
 use Rattle.search_machine.specs.Members.{In}
 use Rattle.search_machine.specs.Outcome.{AllDone, all_pairs, fate, first_place, is_start, kept_of, late_fate, line_of, outcome, taken_fate}
 use Rattle.search_machine.specs.Sound.{Drains, PhaseSound, Sound, held, in_hand, scans, takes, unclaimed, waits}

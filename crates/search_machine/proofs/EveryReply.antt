@@ -3,10 +3,10 @@ use Rattle.std.proofs.Common.{List, None, Option, Some, arith, inl, refl, subst,
 use Rattle.list_totals.specs.Totals.{one_if_same, times}
 use Rattle.search_machine.specs.declared.phase.Phase.{Phase}
 use Rattle.search_machine.specs.declared.phase.Phase.TheVariants.{Aim, Claim, Give, Late, Look, Offer, Pop}
-use Rattle.search_machine.specs.Ground.{Fits, Ground}
-use Rattle.search_machine.specs.Machine.{Worker, after_claim, idle, leader, start_list}
+use Rattle.search_machine.specs.Ground.{Fits, Ground, worst}
+use Rattle.search_machine.specs.Workers.{Worker, after_claim, idle, leader, start_list, after_reply, leaves_below}
 use Rattle.search_machine.specs.OwnRecord.{Floored, Member, OwnRecord, nothing_yet, with_claim}
-use Rattle.search_machine.specs.Replies.{ReplyFits, after, after_reply, leaves_below}
+use Rattle.search_machine.specs.Replies.{ReplyFits, after, own_after}
 use Rattle.search_machine.specs.declared.calls.Reply.{Reply}
 use Rattle.search_machine.specs.declared.calls.Reply.TheVariants.{Claimed, Offered, PopTold, PutTold, Seen}
 use Rattle.search_machine.specs.Stands.{Stands}
@@ -81,14 +81,15 @@ claimed g fits i w r (Some c) low s e =
 -- the reply to the call of its phase; a reply to another call changes nothing
 replied : (g : Ground) → Fits g → (i : ℕ) (w : Worker) (r : OwnRecord) (phase : Phase)
     (reply : Reply) → ReplyFits g reply → Stands g i w r → w.phase ≡ phase
-    → let x = after_reply g i w r phase reply in Stands g i x.worker x.own
+    → Stands g i (after_reply g w phase reply) (own_after g i w r phase reply)
 replied g fits i w r Claim (Claimed o) low s e = claimed g fits i w r o low s e
 replied g fits i w r Look (Seen v) low s e = own_look g i w r v s e
 replied g fits i w r (Give l) (PutTold reply) low s e = own_give g i w r l s e reply
 replied g fits i w r (Late l) (Seen v) low s e = own_late g fits i w r l v s e
 replied g fits i w r (Aim j) (Seen v) low s e = own_aim g i w r j v s e
 replied g fits i w r (Pop j v) (PopTold reply) low s e = own_pop g fits i w r j v s e reply
-replied g fits i w r (Offer next) (Offered v) low s e = own_offer g i w r next s e
+replied g fits i w r (Offer next) (Offered v) low s e =
+    own_offer g i w r next (record { value = worst g w.list; reply = v }) s e
 replied g fits i w r _ _ low s e = s
 
 -- a member that stands for its record stands for the longer record after a reply

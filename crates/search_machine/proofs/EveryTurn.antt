@@ -1,19 +1,21 @@
 -- Each turn from a sound state gives a sound state, and so does each schedule.
-use Rattle.std.proofs.Common.{List, None, Option, Some, [], refl, ℕ, ◌∷◌, ◌≡◌}
+use Rattle.std.proofs.Common.{List, None, Option, Some, [], refl, subst, ℕ, ◌∷◌, ◌≡◌}
 use Rattle.std.specs.Prelude.{slice_get}
 use Rattle.search_machine.specs.declared.phase.Phase.{Phase}
 use Rattle.search_machine.specs.declared.phase.Phase.TheVariants.{Aim, Claim, Done, Give, Late, Look, Offer, Pop}
 use Rattle.search_machine.specs.Ground.{Fits, Ground, queue_of}
-use Rattle.search_machine.specs.Machine.{State, Worker, round_queue, run, turn, turn_by_phase, turn_of}
+use Rattle.search_machine.specs.Machine.{State, run, turn, turn_of}
+use Rattle.search_machine.specs.Workers.{Worker, round_queue}
 use Rattle.search_machine.specs.Sound.{Sound}
 use Rattle.search_machine.proofs.GiveTurns.{give_sound}
 use Rattle.search_machine.proofs.PopTurns.{pop_sound}
+use Rattle.search_machine.proofs.Rows.{row, row_is}
 use Rattle.search_machine.proofs.WorkerTurns.{aim_sound, claim_sound, late_sound, look_sound, offer_sound}
 
 -- the turn of a worker by its phase
 phase_sound : (g : Ground) → Fits g → (s : State) (i : ℕ) (w : Worker) → Sound g s
     → slice_get s.workers i ≡ Some w → (phase : Phase) → w.phase ≡ phase
-    → Sound g (turn_by_phase g i s w phase)
+    → Sound g (row g i s w phase)
 phase_sound g fits s i w sound at Claim e =
     claim_sound g fits s i w sound at e (slice_get g.roots s.claimed) refl
 phase_sound g fits s i w sound at Look e = look_sound g s i w sound at e
@@ -30,7 +32,9 @@ phase_sound g fits s i w sound at Done e = sound
 turn_of_sound : (g : Ground) → Fits g → (s : State) (i : ℕ) → Sound g s → (o : Option Worker)
     → slice_get s.workers i ≡ o → Sound g (turn_of g i s o)
 turn_of_sound g fits s i sound None at = sound
-turn_of_sound g fits s i sound (Some w) at = phase_sound g fits s i w sound at w.phase refl
+turn_of_sound g fits s i sound (Some w) at =
+    subst (Sound g) (row_is g s i w fits.some_queue sound.queue_count w.phase)
+    (phase_sound g fits s i w sound at w.phase refl)
 
 -- a turn keeps a sound state sound
 pub turn_sound : (g : Ground) → Fits g → (i : ℕ) (s : State) → Sound g s → Sound g (turn g i s)

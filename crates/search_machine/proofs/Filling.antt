@@ -12,7 +12,8 @@ use Rattle.series_core.specs.declared.queue_words.PutReply.TheVariants.{Filled, 
 use Rattle.leaf_queues.specs.PlainQueue.{PlainQueue, placed_in, put, put_open}
 use Rattle.search_machine.specs.declared.phase.Phase.TheVariants.{Give}
 use Rattle.search_machine.specs.Ground.{Ground, entry_of, queue_of}
-use Rattle.search_machine.specs.Machine.{State, Worker, capacity_of}
+use Rattle.search_machine.specs.Machine.{State, capacity_of}
+use Rattle.search_machine.specs.Workers.{Worker}
 use Rattle.search_machine.specs.Members.{In}
 use Rattle.search_machine.specs.Sound.{QueueSound, Sound, held, in_hand, places, takes, waits}
 use Rattle.search_machine.specs.Basics.{EntryRight, entered}

@@ -9,7 +9,9 @@ use Rattle.series_core.specs.declared.queue_words.PutReply.TheVariants.{Filled, 
 use Rattle.leaf_queues.specs.PlainQueue.{PlainQueue, placed_in, put_open}
 use Rattle.search_machine.specs.declared.phase.Phase.TheVariants.{Give, Late, Look}
 use Rattle.search_machine.specs.Ground.{Fits, Ground, start_limit, entry_of, queue_of}
-use Rattle.search_machine.specs.Machine.{State, Worker, give_turn, in_phase, put_done, with_queue}
+use Rattle.search_machine.specs.Machine.{State}
+use Rattle.search_machine.proofs.Rows.{give_turn, put_done, with_queue}
+use Rattle.search_machine.specs.Workers.{Worker, in_phase}
 use Rattle.search_machine.specs.Members.{In}
 use Rattle.search_machine.specs.Sound.{PhaseSound, QueueSound, Sound, held, in_hand, takes, waits}
 use Rattle.search_machine.specs.Basics.{EntryRight}

@@ -9,7 +9,8 @@ use Rattle.search_machine.specs.declared.phase.Onward.{Onward}
 use Rattle.search_machine.specs.declared.phase.Onward.TheVariants.{Aim as ToAim, Look as ToLook}
 use Rattle.search_machine.specs.declared.phase.Phase.TheVariants.{Offer}
 use Rattle.search_machine.specs.Ground.{Fits, Ground, last, scan, start_limit, worst}
-use Rattle.search_machine.specs.Machine.{State, Worker, after_scan, improves, onward, scanned_by, skip, stopped}
+use Rattle.search_machine.specs.Machine.{State}
+use Rattle.search_machine.specs.Workers.{Worker, after_scan, improves, onward, scanned_by, skip, stopped}
 use Rattle.search_machine.specs.Sound.{OnwardSound, PhaseSound, Sound, WorkerSound, held, in_hand, scans, waits}
 use Rattle.search_machine.proofs.Counts.{counts_or_not, times_cons}
 use Rattle.search_machine.proofs.Places.{total_at}

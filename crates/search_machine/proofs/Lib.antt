@@ -6,6 +6,7 @@ pub mod Entries
 pub mod PlainList
 pub mod Pools
 pub mod Scans
+pub mod Rows
 pub mod Turns
 pub mod WorkerTurns
 pub mod EveryTurn

@@ -1,15 +1,18 @@
 -- A schedule that names each worker often enough leaves all workers done.
-use Rattle.std.proofs.Common.{List, None, Option, Some, [], ap, arith, inl, inr, length, refl, set, suc, sym, zero, ℕ, ⊎_elim, ◌%◌, ◌*◌, ◌+◌, ◌-◌, ◌<◌, ◌∙◌, ◌∷◌, ◌≡◌, ◌≢◌, ◌≤◌, ◌⊎◌}
+use Rattle.std.proofs.Common.{List, None, Option, Some, [], ap, arith, inl, inr, length, refl, set, suc, sym, zero, ℕ, ⊎_elim, ◌*◌, ◌+◌, ◌-◌, ◌<◌, ◌∙◌, ◌∷◌, ◌≡◌, ◌≢◌, ◌≤◌, ◌⊎◌}
 use Rattle.std.proofs.lemmas.Bool.{cases_eq}
 use Rattle.std.proofs.lemmas.Option.{none-some, same_Some}
 use Rattle.std.specs.Prelude.{replicate, slice_get}
 use Rattle.list_totals.specs.Totals.{one_if_same, times, total}
 use Rattle.series_core.specs.declared.pair.Pair.{Pair}
-use Rattle.leaf_queues.specs.PlainQueue.{PlainQueue, pop, put}
+use Rattle.leaf_queues.specs.PlainQueue.{PlainQueue}
 use Rattle.search_machine.specs.declared.phase.Phase.{Phase}
 use Rattle.search_machine.specs.declared.phase.Phase.TheVariants.{Aim, Claim, Done, Give, Late, Look, Offer, Pop}
-use Rattle.search_machine.specs.Ground.{Fits, Ground, entry_of, queue_of}
-use Rattle.search_machine.specs.Machine.{State, Worker, after_claim, after_late, after_look, after_pop, after_put, claim_turn, empty_queues, give_turn, idle, in_phase, onward, opened, pop_turn, run, turn, turn_by_phase, turn_of}
+use Rattle.search_machine.specs.Ground.{Fits, Ground}
+use Rattle.search_machine.specs.Machine.{State, answered, shared, empty_queues, opened, run, turn, turn_by_phase, turn_of}
+use Rattle.search_machine.specs.Calls.{call_in}
+use Rattle.search_machine.specs.Shared.{held_after}
+use Rattle.search_machine.specs.Workers.{Worker, after_reply, idle}
 use Rattle.search_machine.specs.Sound.{PhaseSound, Sound}
 use Rattle.search_machine.proofs.Counts.{counts_or_not, lengths_sum, sum_le, sum_ones}
 use Rattle.search_machine.proofs.Effort.{done_or, effort, queue_effort, root_effort, turn_less, turns_left, worker_effort}
@@ -23,38 +26,27 @@ Moves j s t = (t.workers ≡ s.workers)
     × (t.workers ≡ set s.workers j x))
 
 module _ (g : Ground) (s : State) (j : ℕ) (w : Worker) (at : slice_get s.workers j ≡ Some w) where
-  -- a claim
-  claim_moves : w.phase ≢ Done → (o : Option (List ℕ)) → Moves j s (claim_turn g j s w o)
-  -- a claim
-  claim_moves ne None = inr (w, after_claim g w None, at, ne, refl)
-  -- a claim
-  claim_moves ne (Some r) = inr (w, after_claim g w (Some r), at, ne, refl)
-
-  -- a put
-  give_moves : w.phase ≢ Done → (l : ℕ) (o : Option PlainQueue) → Moves j s (give_turn g j s w l o)
-  -- a put
-  give_moves ne l None = inl refl
-  -- a put
-  give_moves ne l (Some q) = inr (w, after_put w l (put (entry_of g l) q).1, at, ne, refl)
-
-  -- a pop
-  pop_moves : w.phase ≢ Done → (i v : ℕ) (o : Option PlainQueue)
-      → Moves j s (pop_turn g j s w i v o)
-  -- a pop
-  pop_moves ne i v None = inl refl
-  -- a pop
-  pop_moves ne i v (Some q) = inr (w, after_pop g w i v (pop v q).1, at, ne, refl)
+  -- whatever the reply to its call, worker j alone moves
+  reply_moves : w.phase ≢ Done → (phase : Phase)
+      → Moves j s (answered g j s w phase (held_after (shared g s) (call_in g j w phase)))
+  reply_moves ne phase = inr (
+    w,
+    after_reply g w phase (held_after (shared g s) (call_in g j w phase)).1,
+    at,
+    ne,
+    refl,
+  )
 
   -- any turn
   phase_moves : (phase : Phase) → (phase ≢ Done → w.phase ≢ Done)
       → Moves j s (turn_by_phase g j s w phase)
-  phase_moves Claim ne = claim_moves (ne (λ h. cc)) (slice_get g.roots s.claimed)
-  phase_moves Look ne = inr (w, after_look g w s.word, at, ne (λ h. cc), refl)
-  phase_moves (Give l) ne = give_moves (ne (λ h. cc)) l (slice_get s.queues (queue_of g l))
-  phase_moves (Late l) ne = inr (w, after_late g w l s.word, at, ne (λ h. cc), refl)
-  phase_moves (Aim i) ne = inr (w, in_phase (Pop i s.word) w, at, ne (λ h. cc), refl)
-  phase_moves (Pop i v) ne = pop_moves (ne (λ h. cc)) i v (slice_get s.queues ((j + i) % g.queues))
-  phase_moves (Offer next) ne = inr (w, in_phase (onward next) w, at, ne (λ h. cc), refl)
+  phase_moves Claim ne = reply_moves (ne (λ h. cc)) Claim
+  phase_moves Look ne = reply_moves (ne (λ h. cc)) Look
+  phase_moves (Give l) ne = reply_moves (ne (λ h. cc)) (Give l)
+  phase_moves (Late l) ne = reply_moves (ne (λ h. cc)) (Late l)
+  phase_moves (Aim i) ne = reply_moves (ne (λ h. cc)) (Aim i)
+  phase_moves (Pop i v) ne = reply_moves (ne (λ h. cc)) (Pop i v)
+  phase_moves (Offer next) ne = reply_moves (ne (λ h. cc)) (Offer next)
   phase_moves Done ne = inl refl
 
 -- a turn of worker j changes no other worker, and worker j only where it is not done

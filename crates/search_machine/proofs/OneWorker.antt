@@ -11,7 +11,8 @@ use Rattle.search_machine.specs.declared.outcome.Fate.TheVariants.{Late as LateF
 use Rattle.search_machine.specs.declared.outcome.QueueLine.{QueueLine}
 use Rattle.search_machine.specs.Ground.{Fits, Ground}
 use Rattle.search_machine.specs.Legal.{IsStraight, Legal}
-use Rattle.search_machine.specs.Machine.{State, Worker, capacity_of, empty_queues, idle, leader, opened, run, turn, turn_of}
+use Rattle.search_machine.specs.Machine.{State, capacity_of, empty_queues, opened, run, turn, turn_of}
+use Rattle.search_machine.specs.Workers.{Worker, idle, leader}
 use Rattle.search_machine.specs.Outcome.{AllDone, fate, first_place, is_start, late_fate, line_of, outcome, taken_fate}
 use Rattle.search_machine.specs.Sound.{Sound, scans, takes}
 use Rattle.search_machine.specs.Basics.{Ordered, entered}
@@ -22,6 +23,7 @@ use Rattle.search_machine.proofs.EveryTurn.{turn_sound}
 use Rattle.search_machine.proofs.Opening.{start_only}
 use Rattle.search_machine.proofs.Outcomes.{FirstPlace, found_some, get_fates, line_at}
 use Rattle.search_machine.proofs.Places.{get_replicate, total_at, total_replicate_none}
+use Rattle.search_machine.proofs.Rows.{row_is}
 use Rattle.search_machine.proofs.StraightTurns.{NoneFills, phase_straight}
 
 -- new queues are open, and nothing waits in them
@@ -66,11 +68,12 @@ alone_drains g s i w alone_there sound at e j y f =
     (same_Some y w (sym f ∙ ap (slice_get s.workers) (sym same) ∙ at)) ∙ e
 
 -- a turn of one worker
-turn_of_straight : (g : Ground) (s : State) (i : ℕ) → g.workers ≡ 1 → Sound g s → Straight g s
+turn_of_straight : (g : Ground) → Fits g → (s : State) (i : ℕ) → g.workers ≡ 1 → Sound g s → Straight g s
     → (o : Option Worker) → slice_get s.workers i ≡ o → Straight g (turn_of g i s o)
-turn_of_straight g s i alone_there sound t None at = t
-turn_of_straight g s i alone_there sound t (Some w) at =
-    phase_straight g s i w sound t at (alone_drains g s i w alone_there sound at) w.phase refl
+turn_of_straight g fits s i alone_there sound t None at = t
+turn_of_straight g fits s i alone_there sound t (Some w) at =
+    subst (Straight g) (row_is g s i w fits.some_queue sound.queue_count w.phase)
+    (phase_straight g s i w sound t at (alone_drains g s i w alone_there sound at) w.phase refl)
 
 -- a schedule of one worker
 pub run_straight : (g : Ground) → Fits g → g.workers ≡ 1 → (schedule : List ℕ) (s : State)
@@ -78,7 +81,7 @@ pub run_straight : (g : Ground) → Fits g → g.workers ≡ 1 → (schedule : L
 run_straight g fits alone_there [] s sound t = t
 run_straight g fits alone_there (i ∷ is) s sound t =
     run_straight g fits alone_there is (turn g i s) (turn_sound g fits i s sound)
-    (turn_of_straight g s i alone_there sound t (slice_get s.workers i) refl)
+    (turn_of_straight g fits s i alone_there sound t (slice_get s.workers i) refl)
 
 -- a leaf with the fate Late was scanned
 late_scanned : (g : Ground) (s : State) (l i : ℕ) → fate g s l ≡ LateFate i

@@ -7,7 +7,8 @@ use Rattle.std.specs.Prelude.{not, replicate, slice_get}
 use Rattle.list_totals.specs.Totals.{one_if_same, times, total}
 use Rattle.leaf_queues.specs.PlainQueue.{PlainQueue, empty_queue}
 use Rattle.search_machine.specs.Ground.{Fits, Ground}
-use Rattle.search_machine.specs.Machine.{Worker, capacity_of, empty_queues, idle, leader, opened, start_list, without}
+use Rattle.search_machine.specs.Machine.{capacity_of, empty_queues, opened}
+use Rattle.search_machine.specs.Workers.{Worker, idle, leader, start_list, without}
 use Rattle.search_machine.specs.Sound.{QueueSound, Sound, WorkerSound, held, places, scans, takes, waits}
 use Rattle.search_machine.proofs.Counts.{others_count, same_counts, times_cons}
 use Rattle.search_machine.proofs.Places.{get_replicate, total_replicate_none}

@@ -8,10 +8,10 @@ use Rattle.series_core.specs.declared.pair.Pair.{Pair}
 use Rattle.search_machine.specs.declared.phase.Onward.{Onward}
 use Rattle.search_machine.specs.declared.phase.Onward.TheVariants.{Aim as ToAim, Look as ToLook}
 use Rattle.search_machine.specs.declared.phase.Phase.TheVariants.{Aim, Claim, Offer, Pop}
-use Rattle.search_machine.specs.Ground.{Fits, Ground, worst}
-use Rattle.search_machine.specs.Machine.{Worker, after_claim, in_phase, onward, without}
+use Rattle.search_machine.specs.Ground.{Fits, Ground}
+use Rattle.search_machine.specs.Workers.{Worker, after_claim, in_phase, onward, without}
 use Rattle.search_machine.specs.Members.{In}
-use Rattle.search_machine.specs.OwnRecord.{Below, Different, OwnRecord, PutMade, claims_of, put_of, with_claim, with_offer, with_read}
+use Rattle.search_machine.specs.OwnRecord.{Below, Different, OfferMade, OwnRecord, PutMade, claims_of, put_of, with_claim, with_offer, with_read}
 use Rattle.search_machine.specs.Sound.{held, in_hand}
 use Rattle.search_machine.specs.Stands.{OwnOnward, OwnPhase, Stands, in_late, stands_in}
 use Rattle.search_machine.proofs.Counts.{counts_or_not, same_counts}
@@ -48,10 +48,11 @@ own_onward g t i ls ps ToLook h = tt
 own_onward g t i ls ps (ToAim j) h = h
 
 -- an offer
-pub own_offer : (g : Ground) (i : ℕ) (w : Worker) (r : OwnRecord) (next : Onward) → Stands g i w r
-    → w.phase ≡ Offer next → Stands g i (in_phase (onward next) w) (with_offer (worst g w.list) r)
-own_offer g i w r next s e = quiet g i w (onward next) r (with_offer (worst g w.list) r) s (record {
-  more = grows_offer (worst g w.list) r;
+pub own_offer : (g : Ground) (i : ℕ) (w : Worker) (r : OwnRecord) (next : Onward)
+    (o : OfferMade) → Stands g i w r → w.phase ≡ Offer next
+    → Stands g i (in_phase (onward next) w) (with_offer o r)
+own_offer g i w r next o s e = quiet g i w (onward next) r (with_offer o r) s (record {
+  more = grows_offer o r;
   no_hand = λ l. ap (in_hand l) e;
   no_hand_then = λ l. onward_hand l next;
   same_puts = refl;
@@ -60,8 +61,8 @@ own_offer g i w r next s e = quiet g i w (onward next) r (with_offer (worst g w.
   claims = λ c h. inl h;
   taken = λ l low h. inl h;
   different = λ d. d;
-  phase = own_onward g (with_offer (worst g w.list) r) i w.rest w.list next
-      (own_onward_still g r (with_offer (worst g w.list) r) (grows_offer (worst g w.list) r) i
+  phase = own_onward g (with_offer o r) i w.rest w.list next
+      (own_onward_still g r (with_offer o r) (grows_offer o r) i
       w.rest next (on (phase_of g i w r (Offer next) s e)));
 })
   where

@@ -7,7 +7,7 @@ use Rattle.search_machine.specs.declared.phase.Onward.{Onward}
 use Rattle.search_machine.specs.declared.phase.Onward.TheVariants.{Look as ToLook}
 use Rattle.search_machine.specs.declared.phase.Phase.TheVariants.{Late, Look, Offer}
 use Rattle.search_machine.specs.Ground.{Fits, Ground, scan, worst}
-use Rattle.search_machine.specs.Machine.{Worker, after_late, after_scan, improves, in_phase, is_new, onward, scanned_by}
+use Rattle.search_machine.specs.Workers.{Worker, after_late, after_scan, improves, in_phase, is_new, onward, scanned_by}
 use Rattle.search_machine.specs.OwnRecord.{Below, Far, Floored, OwnRecord, WasPut, WasRefused, with_read}
 use Rattle.search_machine.specs.Sound.{held, in_hand}
 use Rattle.search_machine.specs.Stands.{OwnOnward, OwnPhase, Stands, in_late}

@@ -10,7 +10,7 @@ use Rattle.search_machine.specs.declared.phase.Onward.TheVariants.{Aim as ToAim}
 use Rattle.search_machine.specs.declared.phase.Phase.{Phase}
 use Rattle.search_machine.specs.declared.phase.Phase.TheVariants.{Aim, Done, Pop}
 use Rattle.search_machine.specs.Ground.{Fits, Ground, scan}
-use Rattle.search_machine.specs.Machine.{Worker, after_pop, after_scan, in_phase, is_new, scanned_by}
+use Rattle.search_machine.specs.Workers.{Worker, after_pop, after_scan, in_phase, is_new, scanned_by}
 use Rattle.search_machine.specs.Members.{In}
 use Rattle.search_machine.specs.OwnRecord.{Floored, OwnRecord, PopMade, WasTaken, with_pop}
 use Rattle.search_machine.specs.Sound.{in_hand}

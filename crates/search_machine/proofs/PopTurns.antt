@@ -13,7 +13,9 @@ use Rattle.leaf_queues.specs.PlainQueue.{PlainQueue, pop_open, shut_with, taken_
 use Rattle.search_machine.specs.declared.phase.Onward.TheVariants.{Aim as ToAim}
 use Rattle.search_machine.specs.declared.phase.Phase.TheVariants.{Aim, Done, Pop}
 use Rattle.search_machine.specs.Ground.{Fits, Ground, last, scan, start_limit}
-use Rattle.search_machine.specs.Machine.{State, Worker, after_pop, in_phase, is_new, pop_done, pop_turn, round_queue, scanned_by, with_queue}
+use Rattle.search_machine.specs.Machine.{State}
+use Rattle.search_machine.proofs.Rows.{pop_done, pop_turn, with_queue}
+use Rattle.search_machine.specs.Workers.{Worker, after_pop, in_phase, is_new, round_queue, scanned_by}
 use Rattle.search_machine.specs.Members.{In}
 use Rattle.search_machine.specs.Sound.{Drains, IsShut, PhaseSound, QueueSound, Sound, WorkerSound, held, in_hand, scans, waits}
 use Rattle.search_machine.specs.Basics.{Between, EntryRight, Ordered, entered}

@@ -5,9 +5,9 @@ use Rattle.search_machine.specs.declared.phase.Onward.{Onward}
 use Rattle.search_machine.specs.declared.phase.Onward.TheVariants.{Aim as ToAim, Look as ToLook}
 use Rattle.search_machine.specs.declared.phase.Phase.{Phase}
 use Rattle.search_machine.specs.Ground.{Ground}
-use Rattle.search_machine.specs.Machine.{Worker, round_queue}
+use Rattle.search_machine.specs.Workers.{Worker, round_queue}
 use Rattle.search_machine.specs.Members.{In}
-use Rattle.search_machine.specs.OwnRecord.{Below, Far, Floored, Near, OwnRecord, PopMade, PutMade, PutRight, WasClosed, WasPut, WasRefused, WasTaken, with_claim, with_offer, with_pop, with_put, with_read}
+use Rattle.search_machine.specs.OwnRecord.{Below, Far, Floored, Near, OfferMade, OwnRecord, PopMade, PutMade, PutRight, WasClosed, WasPut, WasRefused, WasTaken, with_claim, with_offer, with_pop, with_put, with_read}
 use Rattle.search_machine.specs.Sound.{ListUnder}
 use Rattle.search_machine.specs.Stands.{OwnDrains, OwnOnward, OwnPhase, Stands}
 
@@ -110,8 +110,8 @@ pub grows_pop : (p : PopMade) (r : OwnRecord) → Grows r (with_pop p r)
 grows_pop p r = record { claims = λ o h. h; reads = λ x h. h; puts = λ q h. h; pops = λ q h. inr h }
 
 -- an offer
-pub grows_offer : (v : ℕ) (r : OwnRecord) → Grows r (with_offer v r)
-grows_offer v r = record { claims = λ o h. h; reads = λ x h. h; puts = λ q h. h; pops = λ q h. h }
+pub grows_offer : (o : OfferMade) (r : OwnRecord) → Grows r (with_offer o r)
+grows_offer o r = record { claims = λ c h. h; reads = λ x h. h; puts = λ q h. h; pops = λ q h. h }
 
 -- what holds of a worker by its phase
 pub phase_of : (g : Ground) (i : ℕ) (w : Worker) (r : OwnRecord) (phase : Phase) → Stands g i w r

@@ -10,7 +10,7 @@ use Rattle.series_core.specs.Pairs.{ascending, smallest}
 use Rattle.series_core.specs.declared.distance.TheConstants.{NONE}
 use Rattle.series_core.specs.declared.pair.Pair.{Pair}
 use Rattle.search_machine.specs.Ground.{Fits, Ground, answer, last, near, opening, opening_of, pair_of, pairs_of, plain, scan, start_limit}
-use Rattle.search_machine.specs.Machine.{start_list}
+use Rattle.search_machine.specs.Workers.{start_list}
 use Rattle.search_machine.specs.Sound.{ListUnder}
 use Rattle.search_machine.proofs.Counts.{equal_counts, same_counts, times_cons}
 use Rattle.search_machine.proofs.PlainList.{Known, answer_near, has_plain, last_none, last_worst, plain_has}

@@ -16,7 +16,9 @@ use Rattle.search_machine.specs.declared.phase.Onward.TheVariants.{Aim as ToAim,
 use Rattle.search_machine.specs.declared.phase.Phase.{Phase}
 use Rattle.search_machine.specs.declared.phase.Phase.TheVariants.{Aim, Claim, Done, Give, Late, Look, Offer, Pop}
 use Rattle.search_machine.specs.Ground.{Ground, scan, worst, entry_of, queue_of}
-use Rattle.search_machine.specs.Machine.{State, Worker, after_claim, after_pop, claim_turn, give_turn, improves, in_phase, is_new, pop_done, pop_turn, put_done, round_queue, scanned_by, skip, stopped, turn_by_phase, with_queue}
+use Rattle.search_machine.specs.Machine.{State}
+use Rattle.search_machine.proofs.Rows.{claim_turn, give_turn, pop_done, pop_turn, put_done, row, with_queue}
+use Rattle.search_machine.specs.Workers.{Worker, after_claim, after_pop, improves, in_phase, is_new, round_queue, scanned_by, skip, stopped}
 use Rattle.search_machine.specs.Sound.{Sound, scans, takes}
 use Rattle.search_machine.specs.Basics.{Ordered, entered}
 use Rattle.search_machine.specs.Straight.{Straight, fills, on_time}
@@ -271,7 +273,7 @@ pop_straight g s i w j v t drained at (Some q) f =
 -- the turn of a worker by its phase
 pub phase_straight : (g : Ground) (s : State) (i : ℕ) (w : Worker) → Sound g s → Straight g s
     → slice_get s.workers i ≡ Some w → (fills w.phase ≡ false → NoneFills s) → (phase : Phase)
-    → w.phase ≡ phase → Straight g (turn_by_phase g i s w phase)
+    → w.phase ≡ phase → Straight g (row g i s w phase)
 phase_straight g s i w sound t at drained Claim e =
     claim_straight g s i w t at e (slice_get g.roots s.claimed)
 phase_straight g s i w sound t at drained Look e =

@@ -12,7 +12,9 @@ use Rattle.search_machine.specs.declared.phase.Onward.TheVariants.{Aim as ToAim,
 use Rattle.search_machine.specs.declared.phase.Phase.{Phase}
 use Rattle.search_machine.specs.declared.phase.Phase.TheVariants.{Aim, Claim, Done, Give, Late, Look, Offer, Pop}
 use Rattle.search_machine.specs.Ground.{Fits, Ground, last}
-use Rattle.search_machine.specs.Machine.{State, Worker, round_queue, with_queue}
+use Rattle.search_machine.specs.Machine.{State}
+use Rattle.search_machine.proofs.Rows.{with_queue}
+use Rattle.search_machine.specs.Workers.{Worker, round_queue}
 use Rattle.search_machine.specs.Sound.{Drains, IsShut, OnwardSound, PhaseSound, QueueSound, Sound, WorkerSound, held, places, scans, takes, unclaimed, waits}
 use Rattle.search_machine.specs.Basics.{Between}
 use Rattle.search_machine.proofs.Places.{get_set, get_some, total_at, total_set}

@@ -8,7 +8,9 @@ use Rattle.search_machine.specs.declared.phase.Onward.{Onward}
 use Rattle.search_machine.specs.declared.phase.Onward.TheVariants.{Look as ToLook}
 use Rattle.search_machine.specs.declared.phase.Phase.TheVariants.{Aim, Claim, Give, Late, Look, Offer, Pop}
 use Rattle.search_machine.specs.Ground.{Fits, Ground, last, scan, start_limit, worst}
-use Rattle.search_machine.specs.Machine.{State, Worker, after_claim, after_late, after_look, claim_turn, in_phase, is_new, offer_turn, onward, scanned_by, skip, stopped, with_worker, without}
+use Rattle.search_machine.specs.Machine.{State}
+use Rattle.search_machine.proofs.Rows.{claim_turn, offer_turn, with_worker}
+use Rattle.search_machine.specs.Workers.{Worker, after_claim, after_late, after_look, in_phase, is_new, onward, scanned_by, skip, stopped, without}
 use Rattle.search_machine.specs.Sound.{Drains, OnwardSound, PhaseSound, Sound, WorkerSound, held, in_hand, scans}
 use Rattle.search_machine.specs.Basics.{Between}
 use Rattle.search_machine.proofs.Counts.{counts_or_not, same_counts}

@@ -5,7 +5,7 @@ use Rattle.search_machine.specs.declared.calls.Call.TheVariants.{Claim as ClaimC
 use Rattle.search_machine.specs.declared.phase.Phase.{Phase}
 use Rattle.search_machine.specs.declared.phase.Phase.TheVariants.{Claim, Look, Give, Late, Aim, Pop, Offer, Done}
 use Rattle.search_machine.specs.Ground.{Ground, worst, queue_of, entry_of}
-use Rattle.search_machine.specs.Machine.{Worker, round_queue}
+use Rattle.search_machine.specs.Workers.{Worker, round_queue}
 
 -- the call of worker i, which is w, in this phase; one that is done makes none, and reads here
 abbrev pub call_in : Ground → ℕ → Worker → Phase → Call

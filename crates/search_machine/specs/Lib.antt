@@ -4,14 +4,16 @@ pub mod Ground
 pub mod Measures
 pub mod Basics
 pub mod Legal
--- The machine, its schedules, and what holds in each of its states.
+-- The machine: workers, their calls, what they share, schedules, and what holds in each of its states.
+pub mod Workers
+pub mod Calls
+pub mod Shared
 pub mod Machine
 pub mod Outcome
 pub mod Sound
 pub mod Schedules
 -- Workers' own records, and what closed objects say by them.
 pub mod OwnRecord
-pub mod Calls
 pub mod Replies
 pub mod Stands
 pub mod Closes

@@ -11,7 +11,8 @@ use Rattle.search_machine.specs.declared.outcome.QueueLine.{QueueLine}
 use Rattle.search_machine.specs.declared.outcome.Outcome.{Outcome}
 use Rattle.search_machine.specs.Ground.{Ground}
 use Rattle.search_machine.specs.Basics.{start_of}
-use Rattle.search_machine.specs.Machine.{Worker, State}
+use Rattle.search_machine.specs.Machine.{State}
+use Rattle.search_machine.specs.Workers.{Worker}
 use Rattle.search_machine.specs.Sound.{takes, scans}
 
 -- each worker is done

@@ -8,7 +8,7 @@ use Rattle.series_core.specs.declared.queue_words.PopReply.{PopReply}
 use Rattle.series_core.specs.declared.queue_words.PopReply.TheVariants.{Leaf, Closed}
 use Rattle.search_machine.specs.Members.{In}
 use Rattle.search_machine.specs.Ground.{Ground, last, queue_of, entry_of}
-use Rattle.search_machine.specs.Machine.{Worker}
+use Rattle.search_machine.specs.Workers.{Worker}
 
 -- a put: the queue and the entry that it named, and its reply
 pub record PutMade : Type 0 where
@@ -22,12 +22,17 @@ pub record PopMade : Type 0 where
   pub limit : ℕ
   pub reply : PopReply
 
--- the own record of a worker: the replies to its claims and to its reads, the values that it
--- offered, its puts and its pops, the newest of each first
+-- an offer: the value that it named, and what the bound word was before it
+pub record OfferMade : Type 0 where
+  pub value : ℕ
+  pub reply : ℕ
+
+-- the own record of a worker: the replies to its claims and to its reads, its offers, its puts and its
+-- pops, the newest of each first
 pub record OwnRecord : Type 0 where
   pub claims : List (Option ℕ)
   pub reads : List ℕ
-  pub offers : List ℕ
+  pub offers : List OfferMade
   pub puts : List PutMade
   pub pops : List PopMade
 
@@ -49,8 +54,8 @@ abbrev pub with_read : ℕ → OwnRecord → OwnRecord
 with_read v r = record r { reads = v ∷ r.reads }
 
 -- the record with one more offer
-abbrev pub with_offer : ℕ → OwnRecord → OwnRecord
-with_offer v r = record r { offers = v ∷ r.offers }
+abbrev pub with_offer : OfferMade → OwnRecord → OwnRecord
+with_offer o r = record r { offers = o ∷ r.offers }
 
 -- the record with one more put
 abbrev pub with_put : PutMade → OwnRecord → OwnRecord

@@ -7,7 +7,8 @@ use Rattle.leaf_queues.specs.PlainQueue.{PlainQueue, put}
 use Rattle.search_machine.specs.declared.phase.Phase.{Phase}
 use Rattle.search_machine.specs.declared.phase.Phase.TheVariants.{Give}
 use Rattle.search_machine.specs.Ground.{Ground, queue_of, entry_of}
-use Rattle.search_machine.specs.Machine.{Worker, State, turn}
+use Rattle.search_machine.specs.Machine.{State, turn}
+use Rattle.search_machine.specs.Workers.{Worker}
 
 -- the schedule names each worker at least n times
 abbrev pub NamesEach : Ground → ℕ → List ℕ → Type 0

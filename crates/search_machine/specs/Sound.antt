@@ -12,7 +12,8 @@ use Rattle.search_machine.specs.declared.phase.Onward.TheVariants.{Look as ToLoo
 use Rattle.search_machine.specs.Members.{In}
 use Rattle.search_machine.specs.Basics.{Between, EntryRight, Ordered, entered}
 use Rattle.search_machine.specs.Ground.{Ground, plain, answer, last, start_limit}
-use Rattle.search_machine.specs.Machine.{Worker, State, round_queue, without, capacity_of}
+use Rattle.search_machine.specs.Machine.{State, capacity_of}
+use Rattle.search_machine.specs.Workers.{Worker, round_queue, without}
 
 -- Where a leaf is.
 

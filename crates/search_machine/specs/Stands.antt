@@ -8,7 +8,7 @@ use Rattle.search_machine.specs.declared.phase.Onward.{Onward}
 use Rattle.search_machine.specs.declared.phase.Onward.TheVariants.{Look as ToLook, Aim as ToAim}
 use Rattle.search_machine.specs.Members.{In}
 use Rattle.search_machine.specs.Ground.{Ground}
-use Rattle.search_machine.specs.Machine.{Worker, round_queue}
+use Rattle.search_machine.specs.Workers.{Worker, round_queue}
 use Rattle.search_machine.specs.Sound.{ListUnder, held}
 use Rattle.search_machine.specs.OwnRecord.{PutMade, PopMade, OwnRecord, Member, Below, Near, Far, WasPut, WasRefused, WasTaken, WasClosed, PutRight, Floored, Different, put_of}
 

@@ -6,7 +6,8 @@ use Rattle.search_machine.specs.declared.phase.Phase.{Phase}
 use Rattle.search_machine.specs.declared.phase.Phase.TheVariants.{Claim, Look, Give, Late, Aim, Pop, Offer, Done}
 use Rattle.search_machine.specs.declared.phase.Onward.TheVariants.{Look as ToLook, Aim as ToAim}
 use Rattle.search_machine.specs.Ground.{Ground}
-use Rattle.search_machine.specs.Machine.{Worker, State}
+use Rattle.search_machine.specs.Machine.{State}
+use Rattle.search_machine.specs.Workers.{Worker}
 use Rattle.search_machine.specs.Sound.{scans, takes}
 use Rattle.search_machine.specs.Basics.{Ordered}
 

@@ -11,7 +11,7 @@ pub enum Onward {
 
 impl Onward {
     ghost use Rattle.std.specs.Prelude.{◌≡◌};
-    ghost use Rattle.search_machine.specs.Machine.{onward};
+    ghost use Rattle.search_machine.specs.Workers.{onward};
 
     /// The phase in which it goes on.
     pub fn phase(self) -> Phase

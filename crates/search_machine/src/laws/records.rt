@@ -5,7 +5,7 @@
 ghost use Rattle.std.specs.Prelude.{ℕ, ◌<◌, List};
 ghost use Rattle.leaf_queues.specs.PlainQueue.{PlainQueue};
 ghost use Rattle.search_machine.specs.Ground.{Ground, Fits};
-ghost use Rattle.search_machine.specs.Machine.{leader, idle};
+ghost use Rattle.search_machine.specs.Workers.{leader, idle};
 ghost use Rattle.search_machine.specs.Outcome.{outcome};
 ghost use Rattle.search_machine.specs.Legal.{Legal};
 ghost use Rattle.search_machine.specs.OwnRecord.{Member, nothing_yet};

@@ -11,11 +11,6 @@ use Rattle.search_machine.proofs.Schedules.{enough_done, played_sound}
 use Rattle.query_core.proofs.TeamPlays.{all_done, first_unfinished}
 use Rattle.query_core.proofs.playing.replay.Goals as goal
 
-pub play-requires-clause-fits : goal.play-requires-clause-fits
-play-requires-clause-fits g c =
-    subst Fits (sym c.in-Ok.ensures.searches)
-    (c.search_law.ensures.fits c.args.workers c.args.queues c.requires.workers.0 c.requires.queues.0)
-
 pub returns-in-Some-first_busy-clause-refused : goal.returns-in-Some-first_busy-clause-refused
 returns-in-Some-first_busy-clause-refused g c = (
   subst (λ (h : Ground). NoStranger h c.args.schedule.now) c.in-Ok.ensures.searches c.in_default-play.ensures.none,

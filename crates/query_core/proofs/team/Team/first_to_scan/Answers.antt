@@ -2,7 +2,7 @@ use Rattle.std.proofs.Common.{List, Some, ap, arith, length, refl, subst, sym, â
 use Rattle.std.proofs.lemmas.Option.{slice_get_read}
 use Rattle.std.specs.Prelude.{slice_get}
 use Rattle.subtree_build.specs.Index.{IndexParts}
-use Rattle.search_machine.specs.Machine.{Worker}
+use Rattle.search_machine.specs.Workers.{Worker}
 use Rattle.search_machine.specs.Sound.{scans}
 use Rattle.query_core.specs.Teams.{TeamParts}
 use Rattle.query_core.specs.Working.{Shows, Working}

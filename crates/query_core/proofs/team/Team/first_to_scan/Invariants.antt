@@ -1,6 +1,6 @@
 use Rattle.std.proofs.Common.{◌≡◌, ◌<◌, ◌^◌, ℕ, Some, length}
 use Rattle.std.specs.Prelude.{slice_get}
-use Rattle.search_machine.specs.Machine.{Worker}
+use Rattle.search_machine.specs.Workers.{Worker}
 use Rattle.search_machine.specs.Sound.{scans}
 use Rattle.query_core.specs.Working.{Shows, Working}
 use Rattle.query_core.proofs.team.Team.first_to_scan.Given as goal

@@ -1,6 +1,6 @@
 use Rattle.std.proofs.Common.{ap, arith, ◌∙◌, ◌≡◌, ◌≤◌}
 use Rattle.search_machine.specs.Ground.{Fits, last, start_limit}
-use Rattle.query_core.specs.OneThread.{Held}
+use Rattle.search_machine.specs.Shared.{Held}
 use Rattle.query_core.specs.Questions.{search_over}
 use Rattle.query_core.specs.Teams.{TeamParts, limit_of}
 use Rattle.search_machine.proofs.Opening.{opening_sound}

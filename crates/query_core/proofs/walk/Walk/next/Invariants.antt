@@ -2,7 +2,7 @@
 -- skipped, what remains of those that are left is what remains of those at the start.
 use Rattle.std.proofs.Common.{◌≡◌, ◌≤◌, None, vec_capacity}
 use Rattle.search_machine.specs.Ground.{Ground}
-use Rattle.search_machine.specs.Machine.{skip, without}
+use Rattle.search_machine.specs.Workers.{skip, without}
 use Rattle.query_core.specs.Questions.{leaf_bound}
 use Rattle.query_core.specs.Walks.{IsWalk, leaves_left, most_steps}
 use Rattle.query_core.proofs.Walking.{nodes_left}
