@@ -3,7 +3,7 @@ ghost use Rattle.std.specs.Prelude.{◌≡◌, ◌<◌, ◌≤◌, ◌↔◌, Is
 ghost use Rattle.std.specs.Option.{option_map};
 ghost use Rattle.subtree_build.specs.Fits.{Fits as IndexFits};
 ghost use Rattle.search_machine.specs.Basics.{start_of};
-ghost use Rattle.search_machine.specs.Straight.{fills};
+ghost use Rattle.search_machine.specs.Workers.{fills};
 ghost use Rattle.query_core.specs.Questions.{search_over};
 ghost use Rattle.query_core.specs.Working.{AreOpeningMarks, IsOf, Shows, opened_list, opens_as};
 

@@ -20,10 +20,6 @@ refused_of l p = cond (is_refused p.reply) (one_if_same l p.entry.leaf) 0
 abbrev pub refusals_by : ℕ → Member → ℕ
 refusals_by l x = total (refused_of l) x.own.puts
 
--- how often a member's puts name leaf l
-abbrev pub puts_by : ℕ → Member → ℕ
-puts_by l x = total (put_of l) x.own.puts
-
 -- a put is placed or refused, not both
 pub both_of : (m l : ℕ) (p : PutMade) → placed_of m l p + refused_of l p ≤ put_of l p
 both_of m l p = by (eqb p.queue m) (is_refused p.reply)

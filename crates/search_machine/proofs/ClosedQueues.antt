@@ -4,11 +4,11 @@ use Rattle.std.proofs.lemmas.Bool.{cases_eq, cond-true}
 use Rattle.std.specs.Prelude.{slice_get}
 use Rattle.list_totals.specs.Totals.{one_if_same, total}
 use Rattle.leaf_queues.specs.PlainQueue.{PlainQueue}
-use Rattle.search_machine.specs.Closes.{Closes, placed_by, placed_of, popped_by, popped_of}
+use Rattle.search_machine.specs.Closes.{Closes, placed_by, placed_of, popped_by, popped_of, puts_by}
 use Rattle.search_machine.specs.Ground.{Fits, Ground, queue_of}
 use Rattle.search_machine.specs.OwnRecord.{Member, WasRefused, WasTaken, is_refused, put_of}
 use Rattle.search_machine.specs.Sound.{takes, waits}
-use Rattle.search_machine.proofs.CallCounts.{both_of, placed_is, popped_some, puts_by, refusals_by, refused_of}
+use Rattle.search_machine.proofs.CallCounts.{both_of, placed_is, popped_some, refusals_by, refused_of}
 use Rattle.search_machine.proofs.Counts.{same_counts}
 use Rattle.search_machine.proofs.Members.{in_total, total_in}
 use Rattle.search_machine.proofs.Places.{at_most_one, get_some, total_at, total_most, total_some, total_two}

@@ -7,7 +7,7 @@ use Rattle.std.specs.Prelude.{is_some, slice_get}
 use Rattle.list_totals.specs.Totals.{total}
 use Rattle.series_core.specs.declared.queue_words.Entry.{Entry}
 use Rattle.leaf_queues.specs.PlainQueue.{PlainQueue}
-use Rattle.search_machine.specs.Closes.{CameByPut, Closes, QueueCloses, final}
+use Rattle.search_machine.specs.Closes.{CameByPut, Closes, QueueCloses, final, puts_by}
 use Rattle.search_machine.specs.Ground.{Fits, Ground, start_limit}
 use Rattle.search_machine.specs.Legal.{Legal}
 use Rattle.search_machine.specs.Workers.{Worker, round_queue}
@@ -17,7 +17,7 @@ use Rattle.search_machine.specs.OwnRecord.{Member, Near, PutRight, WasClosed, Wa
 use Rattle.search_machine.specs.Sound.{IsShut, PhaseSound, QueueSound, Sound, WorkerSound, takes, waits}
 use Rattle.search_machine.specs.Basics.{Between, EntryRight}
 use Rattle.search_machine.specs.Stands.{Stands}
-use Rattle.search_machine.proofs.CallCounts.{puts_by, scans_by}
+use Rattle.search_machine.proofs.CallCounts.{scans_by}
 use Rattle.search_machine.proofs.ClosedPlaces.{nowhere, own_done, places_is, put_real, scans_is, taken_scanned}
 use Rattle.search_machine.proofs.ClosedQueues.{in_queue, refused_is, taken_put}
 use Rattle.search_machine.proofs.ClosedScans.{both_once, scan_once, waits_unscanned}
@@ -164,7 +164,7 @@ module _ (g : Ground) (fits : Fits g) (team : List Member) (qs : List PlainQueue
   }
 
   -- in it all workers are done
-  final_done : AllDone (final g team qs)
+  pub final_done : AllDone (final g team qs)
   final_done i w e = let r = member_at i w e in
       ap (λ (x : Worker). x.phase) (sym r.2) ∙ c.done i r.0 r.1
 

@@ -22,7 +22,7 @@ use Rattle.search_machine.proofs.Ending.{entered_some}
 use Rattle.search_machine.proofs.Places.{total_at}
 
 -- the room of a queue is the sum over the leaves
-capacity_sum : (g : Ground) (m n : ℕ)
+pub capacity_sum : (g : Ground) (m n : ℕ)
     → capacity_of g m n ≡ sum_below (λ l. one_if_same m (queue_of g l)) n
 capacity_sum g m zero = refl
 capacity_sum g m (suc n) = let a = capacity_sum g m n in omega arith

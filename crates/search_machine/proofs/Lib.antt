@@ -30,6 +30,10 @@ pub mod ClosedQueues
 pub mod ClosedScans
 pub mod ClosedPlaces
 pub mod Closing
+pub mod ClosedStraight
+pub mod RoomByRecords
+pub mod AnyWorkers
+pub mod Draining
 pub mod Schedules
 pub mod Ranks
 pub mod ScanSteps
@@ -40,3 +44,4 @@ pub mod PopTurns
 pub mod OwnLate
 pub mod OwnPops
 pub mod LegalFates
+pub mod ElevenTurns

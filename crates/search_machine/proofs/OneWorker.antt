@@ -1,5 +1,5 @@
 -- Every run of one worker is straight, and so is its outcome.
-use Rattle.std.proofs.Common.{List, None, Option, Some, [], ap, arith, false, inl, refl, subst, suc, sym, true, zero, ℕ, ⊎_elim, ◌++◌, ◌+◌, ◌-◌, ◌<◌, ◌∙◌, ◌∷◌, ◌≡◌}
+use Rattle.std.proofs.Common.{List, None, Option, Some, [], ap, arith, false, inl, refl, subst, suc, sym, true, zero, ℕ, ⊎_elim, ◌++◌, ◌+◌, ◌-◌, ◌<◌, ◌∙◌, ◌∷◌, ◌≡◌, ◌⊎◌}
 use Rattle.std.proofs.lemmas.Bool.{cond_both}
 use Rattle.std.proofs.lemmas.Option.{none-some, same_Some, slice_get_within}
 use Rattle.std.specs.Prelude.{replicate, slice_get}
@@ -12,11 +12,12 @@ use Rattle.search_machine.specs.declared.outcome.QueueLine.{QueueLine}
 use Rattle.search_machine.specs.Ground.{Fits, Ground}
 use Rattle.search_machine.specs.Legal.{IsStraight, Legal}
 use Rattle.search_machine.specs.Machine.{State, capacity_of, empty_queues, opened, run, turn, turn_of}
-use Rattle.search_machine.specs.Workers.{Worker, idle, leader}
+use Rattle.search_machine.specs.Workers.{Worker, idle, leader, fills}
 use Rattle.search_machine.specs.Outcome.{AllDone, fate, first_place, is_start, late_fate, line_of, outcome, taken_fate}
+use Rattle.search_machine.specs.Closes.{TakenInOrder}
 use Rattle.search_machine.specs.Sound.{Sound, scans, takes}
 use Rattle.search_machine.specs.Basics.{Ordered, entered}
-use Rattle.search_machine.specs.Straight.{Straight, fills, on_time}
+use Rattle.search_machine.specs.Straight.{Straight, on_time}
 use Rattle.search_machine.proofs.Ending.{ending_legal}
 use Rattle.search_machine.proofs.Entries.{ordered_front}
 use Rattle.search_machine.proofs.EveryTurn.{turn_sound}
@@ -68,8 +69,8 @@ alone_drains g s i w alone_there sound at e j y f =
     (same_Some y w (sym f ∙ ap (slice_get s.workers) (sym same) ∙ at)) ∙ e
 
 -- a turn of one worker
-turn_of_straight : (g : Ground) → Fits g → (s : State) (i : ℕ) → g.workers ≡ 1 → Sound g s → Straight g s
-    → (o : Option Worker) → slice_get s.workers i ≡ o → Straight g (turn_of g i s o)
+turn_of_straight : (g : Ground) → Fits g → (s : State) (i : ℕ) → g.workers ≡ 1 → Sound g s
+    → Straight g s → (o : Option Worker) → slice_get s.workers i ≡ o → Straight g (turn_of g i s o)
 turn_of_straight g fits s i alone_there sound t None at = t
 turn_of_straight g fits s i alone_there sound t (Some w) at =
     subst (Straight g) (row_is g s i w fits.some_queue sound.queue_count w.phase)
@@ -105,10 +106,13 @@ late_scanned g s l i =
     by None h = late (first_place (scans l) s.workers) refl h
     by (Some m) h = absurd (cc)
 
--- a straight state has a straight outcome
-pub straight_outcome : (g : Ground) → Fits g → (s : State) → Sound g s → Straight g s → AllDone s
-    → IsStraight (outcome g s)
-straight_outcome g fits s sound t done = record {
+-- the outcome is straight where each scanned leaf is the start leaf or was taken, and what was
+-- taken ascends
+pub straight_ends : (g : Ground) → Fits g → (s : State) → Sound g s → AllDone s
+    → ((l : ℕ) → 0 < total (scans l) s.workers
+    → (g.start ≡ Some l) ⊎ (0 < total (takes l) s.queues))
+    → TakenInOrder s.queues → IsStraight (outcome g s)
+straight_ends g fits s sound done taken ordered = record {
   no_late = λ l i e.
       let r = get_fates g s 0 g.leaves l (LateFate i) e in
       let legal : Legal g (outcome g s) = ending_legal g fits s sound done in
@@ -118,9 +122,16 @@ straight_outcome g fits s sound t done = record {
       let lines = total_map (λ (line : QueueLine). entered l line.taken) line_of s.queues in
       let none = right.0.1 in
       ⊎_elim (λ (start : g.start ≡ Some l). right.0.0 start)
-      (λ (h : 0 < total (takes l) s.queues). absurd (omega arith)) (t.taken l marked);
+      (λ (h : 0 < total (takes l) s.queues). absurd (omega arith)) (taken l marked);
   lines = λ m line e.
       let r = line_at s.queues m line e in
       subst (λ (x : QueueLine). Ordered x.taken) r.2
-      (ordered_front r.0.taken r.0.waiting (t.ordered m r.0 r.1));
+      (ordered m r.0 r.1);
 }
+
+-- a straight state has a straight outcome
+pub straight_outcome : (g : Ground) → Fits g → (s : State) → Sound g s → Straight g s → AllDone s
+    → IsStraight (outcome g s)
+straight_outcome g fits s sound t done =
+    straight_ends g fits s sound done t.taken
+    (λ m q e. ordered_front q.taken q.waiting (t.ordered m q e))

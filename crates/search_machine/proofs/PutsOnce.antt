@@ -3,12 +3,12 @@ use Rattle.std.proofs.Common.{List, Some, arith, subst, sym, ℕ, ⊎_elim, ◌+
 use Rattle.std.proofs.lemmas.Bool.{cases_eq}
 use Rattle.std.specs.Prelude.{slice_get}
 use Rattle.list_totals.specs.Totals.{times, total}
-use Rattle.search_machine.specs.Closes.{claimed_by, placed_by, placed_of}
+use Rattle.search_machine.specs.Closes.{claimed_by, placed_by, placed_of, puts_by}
 use Rattle.search_machine.specs.Ground.{Fits, Ground}
 use Rattle.search_machine.specs.Members.{In}
 use Rattle.search_machine.specs.OwnRecord.{Below, Member, Near, put_of}
 use Rattle.search_machine.specs.Stands.{Stands}
-use Rattle.search_machine.proofs.CallCounts.{both_of, puts_by, refusals_by, refused_of}
+use Rattle.search_machine.proofs.CallCounts.{both_of, refusals_by, refused_of}
 use Rattle.search_machine.proofs.OwnClaims.{claim_in, put_in}
 use Rattle.search_machine.proofs.Places.{at_most_one, total_add, total_at, total_most, total_two}
 

@@ -1,4 +1,5 @@
--- A turn written out by its phase, as plain steps on the state: it is the machine's turn (`row_is`), where each round has its queues.
+-- A turn written out by its phase, as plain steps on the state: it is the machine's turn
+-- (`row_is`), where each round has its queues.
 use Rattle.std.proofs.Common.{List, None, Option, Some, ap, arith, length, ltb, min, refl, set, suc, sym, ℕ, ◌<◌, ◌≡◌, ◌≢◌, ◌≤◌}
 use Rattle.std.proofs.lemmas.Bool.{cond_both, ltb-false, ltb-true}
 use Rattle.std.proofs.lemmas.Option.{slice_get_within}

@@ -18,10 +18,10 @@ use Rattle.search_machine.specs.declared.phase.Phase.TheVariants.{Aim, Claim, Do
 use Rattle.search_machine.specs.Ground.{Ground, scan, worst, entry_of, queue_of}
 use Rattle.search_machine.specs.Machine.{State}
 use Rattle.search_machine.proofs.Rows.{claim_turn, give_turn, pop_done, pop_turn, put_done, row, with_queue}
-use Rattle.search_machine.specs.Workers.{Worker, after_claim, after_pop, improves, in_phase, is_new, round_queue, scanned_by, skip, stopped}
+use Rattle.search_machine.specs.Workers.{Worker, after_claim, after_pop, improves, in_phase, is_new, round_queue, scanned_by, skip, stopped, fills}
 use Rattle.search_machine.specs.Sound.{Sound, scans, takes}
 use Rattle.search_machine.specs.Basics.{Ordered, entered}
-use Rattle.search_machine.specs.Straight.{Straight, fills, on_time}
+use Rattle.search_machine.specs.Straight.{Straight, on_time}
 use Rattle.search_machine.proofs.Counts.{same_counts, times_cons}
 use Rattle.search_machine.proofs.Entries.{ordered_place}
 use Rattle.search_machine.proofs.Filling.{room}

@@ -1,5 +1,5 @@
 -- What the workers, their own records and the closed shared objects say together.
-use Rattle.std.specs.Prelude.{◌≡◌, ℕ, ◌+◌, ◌<◌, ◌≤◌, List, ◌⊎◌, None, Some, cond, ◌&&◌, not, nat_eq, map, length, slice_get}
+use Rattle.std.specs.Prelude.{◌≡◌, ℕ, ◌+◌, ◌<◌, ◌≤◌, List, ◌⊎◌, None, Some, false, cond, ◌&&◌, not, nat_eq, map, length, slice_get}
 use Rattle.list_totals.specs.Totals.{total, one_if_same}
 use Rattle.series_core.specs.declared.queue_words.Entry.{Entry}
 use Rattle.series_core.specs.declared.queue_words.PopReply.{PopReply}
@@ -11,7 +11,7 @@ use Rattle.search_machine.specs.Ground.{Ground, start_limit}
 use Rattle.search_machine.specs.Machine.{State, capacity_of}
 use Rattle.search_machine.specs.Sound.{waits, takes}
 use Rattle.search_machine.specs.Basics.{Between, Ordered}
-use Rattle.search_machine.specs.OwnRecord.{PutMade, PopMade, Member, is_refused, WasClosed, claims_of}
+use Rattle.search_machine.specs.OwnRecord.{PutMade, PopMade, Member, is_refused, WasClosed, claims_of, put_of}
 use Rattle.search_machine.specs.Stands.{StandsFor}
 
 -- how often a put placed leaf l in queue m
@@ -27,6 +27,18 @@ leaf_of l (Closed v) = 0
 abbrev pub popped_of : ℕ → ℕ → PopMade → ℕ
 popped_of m l p = cond (nat_eq p.queue m) (leaf_of l p.reply) 0
 
+-- how often a member's puts name leaf l
+abbrev pub puts_by : ℕ → Member → ℕ
+puts_by l x = total (put_of l) x.own.puts
+
+-- how often a put names queue m
+abbrev pub put_in : ℕ → PutMade → ℕ
+put_in m p = one_if_same m p.queue
+
+-- how many of a member's puts name queue m
+abbrev pub puts_into : ℕ → Member → ℕ
+puts_into m x = total (put_in m) x.own.puts
+
 -- how often a member's claims gave the number c
 abbrev pub claimed_by : ℕ → Member → ℕ
 claimed_by c x = total (claims_of c) x.own.claims
@@ -38,6 +50,24 @@ placed_by m l x = total (placed_of m l) x.own.puts
 -- how often a member's pops took leaf l from queue m
 abbrev pub popped_by : ℕ → ℕ → Member → ℕ
 popped_by m l x = total (popped_of m l) x.own.pops
+
+-- each member stands for its record
+abbrev pub AllStand : Ground → List Member → Type 0
+AllStand g team = (i : ℕ) (x : Member) → slice_get team i ≡ Some x → StandsFor g i x
+
+-- each number was claimed once at most
+abbrev pub ClaimedOnce : List Member → Type 0
+ClaimedOnce team = (c : ℕ) → total (claimed_by c) team ≤ 1
+
+-- no put of a member was answered Shut or Filled
+abbrev pub NoneRefused : List Member → Type 0
+NoneRefused team =
+    (i : ℕ) (x : Member) (p : PutMade) → slice_get team i ≡ Some x → In p x.own.puts
+    → is_refused p.reply ≡ false
+
+-- what was taken from each queue ascends by bound and leaf
+abbrev pub TakenInOrder : List PlainQueue → Type 0
+TakenInOrder qs = (m : ℕ) (q : PlainQueue) → slice_get qs m ≡ Some q → Ordered q.taken
 
 -- some member's put of this entry named queue m
 pub record CameByPut (team : List Member) (m : ℕ) (e : Entry) : Type 0 where
@@ -81,11 +111,11 @@ pub record QueueCloses (g : Ground) (team : List Member) (m : ℕ) (q : PlainQue
 pub record Closes (g : Ground) (team : List Member) (qs : List PlainQueue) : Type 0 where
   -- each worker stands for its record, and is done
   pub members : length team ≡ g.workers
-  pub stands : (i : ℕ) (x : Member) → slice_get team i ≡ Some x → StandsFor g i x
+  pub stands : AllStand g team
   pub done : (i : ℕ) (x : Member) → slice_get team i ≡ Some x → x.worker.phase ≡ Done
   -- each number was claimed once at most, and each root child was where some claim was answered
   -- None
-  pub claims : (c : ℕ) → total (claimed_by c) team ≤ 1
+  pub claims : ClaimedOnce team
   pub all_claimed : (i : ℕ) (x : Member) (c : ℕ) → slice_get team i ≡ Some x
       → In None x.own.claims → c < length g.roots → 0 < total (claimed_by c) team
   -- each reply to a read is at least the last distance and at most the starting limit

@@ -1,15 +1,22 @@
 -- Four small searches with their schedules, and what they end with: so the definitions are not
 -- empty.
-use Rattle.std.specs.Prelude.{ℕ, zero, suc, List, [], ◌∷◌, ◌++◌, Some, cond, nat_lt, replicate}
+use Rattle.std.specs.Prelude.{ℕ, zero, suc, List, [], ◌∷◌, ◌++◌, None, Some, cond, nat_lt, replicate}
 use Rattle.series_core.specs.declared.pair.Pair.{Pair}
 use Rattle.series_core.specs.declared.queue_words.Entry.{Entry}
 use Rattle.series_core.specs.declared.distance.TheConstants.{NONE}
+use Rattle.series_core.specs.declared.queue_words.PutReply.TheVariants.{Placed}
+use Rattle.series_core.specs.declared.queue_words.PopReply.TheVariants.{Leaf, Closed}
+use Rattle.leaf_queues.specs.PlainQueue.{PlainQueue}
+use Rattle.search_machine.specs.declared.calls.Reply.{Reply}
+use Rattle.search_machine.specs.declared.calls.Reply.TheVariants.{Claimed, Seen, PutTold, PopTold}
 use Rattle.search_machine.specs.declared.phase.Phase.{Phase}
 use Rattle.search_machine.specs.declared.phase.Phase.TheVariants.{Claim, Look, Give, Aim, Pop, Done}
 use Rattle.search_machine.specs.declared.outcome.Fate.TheVariants.{Start as StartFate, Queue as QueueFate, Late as LateFate, Bound as BoundFate}
 use Rattle.search_machine.specs.declared.outcome.QueueLine.{QueueLine}
 use Rattle.search_machine.specs.declared.outcome.Outcome.{Outcome}
 use Rattle.search_machine.specs.Ground.{Ground, enough_turns}
+use Rattle.search_machine.specs.Workers.{leader}
+use Rattle.search_machine.specs.OwnRecord.{Member, nothing_yet}
 
 -- Two series of one point, -1 and 1, and the query 0: each is 1 away, and each has a leaf of its
 -- own.
@@ -67,6 +74,42 @@ eleven_outcome = record {
   start = Some (record { leaf = 1; limit = 1 });
   lines = line (entry 1 0 ∷ []) 1 ∷ [];
   fates = QueueFate 0 ∷ StartFate ∷ [];
+}
+
+-- the replies to the eleven calls: both root children are claimed, leaf 0 is put, popped and scanned,
+-- and the queue is shut
+abbrev pub eleven_replies : List Reply
+eleven_replies =
+    Claimed (Some 0) ∷ Seen 1 ∷ PutTold Placed ∷ Seen 1 ∷ Claimed (Some 1) ∷ Seen 1 ∷ Claimed None
+    ∷ Seen 1 ∷ PopTold (Leaf (entry 1 0)) ∷ Seen 1 ∷ PopTold (Closed 1) ∷ []
+
+-- the worker as it opens, with no record yet
+abbrev pub eleven_opening : Member
+eleven_opening = record { worker = leader (two_series 1); own = nothing_yet }
+
+-- the worker after them, with its record
+abbrev pub eleven_member : Member
+eleven_member = record {
+  worker = record { phase = Done; rest = []; list = pair 1 0 ∷ []; scanned = 0 ∷ 1 ∷ [] };
+  own = record {
+    claims = None ∷ Some 1 ∷ Some 0 ∷ [];
+    reads = 1 ∷ 1 ∷ 1 ∷ 1 ∷ 1 ∷ [];
+    offers = [];
+    puts = record { queue = 0; entry = entry 1 0; reply = Placed } ∷ [];
+    pops =
+        record { queue = 0; limit = 1; reply = Closed 1 }
+        ∷ record { queue = 0; limit = 1; reply = Leaf (entry 1 0) } ∷ [];
+  };
+}
+
+-- the queue as it is closed
+abbrev pub eleven_queue : PlainQueue
+eleven_queue = record {
+  waiting = [];
+  taken = entry 1 0 ∷ [];
+  placed = 1;
+  capacity = 2;
+  kept = Some 1;
 }
 
 -- two workers: worker 1 shuts the empty queue before worker 0 puts leaf 0, and worker 0 scans the

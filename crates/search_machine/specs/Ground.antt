@@ -109,6 +109,10 @@ entry_of g l = record { bound = g.bound l; leaf = l }
 abbrev pub enough_turns : Ground → ℕ
 enough_turns g = 8 * g.leaves + g.workers + 2 * g.workers * g.queues
 
+-- the same search by so many workers
+abbrev pub with_workers : ℕ → Ground → Ground
+with_workers n g = record g { workers = n }
+
 -- what an index that fits the collection gives, and the conditions of a search
 pub record Fits (g : Ground) : Type 0 where
   -- at least one pair is asked for, and there are a queue and a worker

@@ -1,5 +1,5 @@
 -- What a worker and its own record become by a reply, whatever it is that answers.
-use Rattle.std.specs.Prelude.{ℕ, ◌<◌, Some, length}
+use Rattle.std.specs.Prelude.{ℕ, ◌<◌, List, [], ◌∷◌, Some, length}
 use Rattle.search_machine.specs.declared.calls.Call.{Call}
 use Rattle.search_machine.specs.declared.calls.Call.TheVariants.{Claim, Read, Offer, Put, Pop}
 use Rattle.search_machine.specs.declared.calls.Reply.{Reply}
@@ -39,3 +39,8 @@ after g i x reply = record {
   worker = after_reply g x.worker x.worker.phase reply;
   own = own_after g i x.worker x.own x.worker.phase reply;
 }
+
+-- a worker with its record after these replies, one after the other
+abbrev pub after_all : Ground → ℕ → Member → List Reply → Member
+after_all g i x [] = x
+after_all g i x (reply ∷ replies) = after_all g i (after g i x reply) replies

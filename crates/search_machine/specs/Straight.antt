@@ -7,21 +7,9 @@ use Rattle.search_machine.specs.declared.phase.Phase.TheVariants.{Claim, Look, G
 use Rattle.search_machine.specs.declared.phase.Onward.TheVariants.{Look as ToLook, Aim as ToAim}
 use Rattle.search_machine.specs.Ground.{Ground}
 use Rattle.search_machine.specs.Machine.{State}
-use Rattle.search_machine.specs.Workers.{Worker}
+use Rattle.search_machine.specs.Workers.{Worker, fills}
 use Rattle.search_machine.specs.Sound.{scans, takes}
 use Rattle.search_machine.specs.Basics.{Ordered}
-
--- a worker in this phase has not ended its fill part
-abbrev pub fills : Phase → Bool
-fills Claim = true
-fills Look = true
-fills (Give l) = true
-fills (Late l) = true
-fills (Aim j) = false
-fills (Pop j v) = false
-fills (Offer ToLook) = true
-fills (Offer (ToAim j)) = false
-fills Done = false
 
 -- no put of a worker in this phase was refused: it neither holds a late leaf nor has just scanned
 -- one

@@ -1,5 +1,5 @@
 -- A worker, and what it becomes in each phase by the reply to its call.
-use Rattle.std.specs.Prelude.{ℕ, suc, ◌+◌, ◌%◌, List, [], ◌∷◌, Option, None, Some, Bool, cond, not, ◌&&◌, nat_lt, nat_le, nat_eq, length, slice_get}
+use Rattle.std.specs.Prelude.{ℕ, suc, ◌+◌, ◌%◌, List, [], ◌∷◌, Option, None, Some, Bool, true, false, cond, not, ◌&&◌, nat_lt, nat_le, nat_eq, length, slice_get}
 use Rattle.std.specs.List.{filter}
 use Rattle.list_totals.specs.Totals.{times}
 use Rattle.series_core.specs.declared.pair.Pair.{Pair}
@@ -121,6 +121,18 @@ after_reply g w (Aim j) (Seen v) = in_phase (Pop j v) w
 after_reply g w (Pop j v) (PopTold reply) = after_pop g w j v reply
 after_reply g w (Offer next) (Offered v) = in_phase (onward next) w
 after_reply g w _ _ = w
+
+-- a worker in this phase has not ended its fill part
+abbrev pub fills : Phase → Bool
+fills Claim = true
+fills Look = true
+fills (Give l) = true
+fills (Late l) = true
+fills (Aim j) = false
+fills (Pop j v) = false
+fills (Offer ToLook) = true
+fills (Offer (ToAim j)) = false
+fills Done = false
 
 -- a worker that has done nothing
 abbrev pub idle : Worker

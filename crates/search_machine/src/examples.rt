@@ -6,7 +6,10 @@ ghost use Rattle.search_machine.specs.Ground.{Fits};
 ghost use Rattle.search_machine.specs.Machine.{opened, played};
 ghost use Rattle.search_machine.specs.Outcome.{outcome};
 ghost use Rattle.search_machine.specs.Schedules.{phases, phases_along, scanned_leaves, waiting_entries};
+ghost use Rattle.search_machine.specs.Closes.{Closes, final};
+ghost use Rattle.search_machine.specs.Replies.{after_all};
 ghost use Rattle.search_machine.specs.Examples.{two_series, eleven_phases, eleven_outcome, late_schedule, late_outcome};
+ghost use Rattle.search_machine.specs.Examples.{eleven_member, eleven_opening, eleven_queue, eleven_replies};
 ghost use Rattle.search_machine.specs.Examples.{three_series, shut_schedule, shut_outcome, six_series, six_schedule, six_outcome, six_waiting, six_scanned};
 
 /// One worker and one queue: it is done after eleven turns and not after ten.
@@ -17,6 +20,15 @@ pub fn one_worker_example()
     ensures ten { phases (played (two_series 1) (replicate 10 0)) ≡ Pop 0 1 ∷ [] }
     ensures eleven { outcome (two_series 1) (played (two_series 1) (replicate 11 0))
         ≡ eleven_outcome }
+{}
+
+/// The same search by its worker's own record: what the eleven replies make of the worker and its record closes with the
+/// queue, and the state that they make has the same outcome. So what closes say can be met.
+pub fn closing_example()
+    ensures replies { after_all (two_series 1) 0 eleven_opening eleven_replies ≡ eleven_member }
+    ensures closes { Closes (two_series 1) (eleven_member ∷ []) (eleven_queue ∷ []) }
+    ensures ends { outcome (two_series 1)
+        (final (two_series 1) (eleven_member ∷ []) (eleven_queue ∷ [])) ≡ eleven_outcome }
 {}
 
 /// Two workers and one queue: the queue is shut before the put, and the leaf is scanned late.
