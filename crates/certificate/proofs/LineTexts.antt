@@ -4,7 +4,7 @@ use Rattle.std.specs.Prelude.{decimal, codes, IfSome}
 use Rattle.std.specs.List.{AllByRecursion}
 use Rattle.series_core.specs.declared.pair.Pair.{Pair}
 use Rattle.series_core.specs.declared.queue_words.Entry.{Entry}
-use Rattle.query_core.specs.declared.outcome.Start.{Start}
+use Rattle.search_machine.specs.declared.outcome.Start.{Start}
 use Rattle.certificate.specs.declared.block.LeafLine.{LeafLine}
 use Rattle.certificate.specs.declared.block.Said.{Said}
 use Rattle.certificate.specs.declared.block.Said.TheVariants.{Scanned, Bound}

@@ -5,7 +5,7 @@ use Rattle.std.specs.List.{AllByRecursion}
 use Rattle.std.proofs.lemmas.Bool.{and_from, lt-ltb, eq-eqb, false≢true as false_not_true}
 use Rattle.series_core.specs.declared.pair.Pair.{Pair}
 use Rattle.series_core.specs.declared.queue_words.Entry.{Entry}
-use Rattle.query_core.specs.declared.outcome.Start.{Start}
+use Rattle.search_machine.specs.declared.outcome.Start.{Start}
 use Rattle.certificate.specs.declared.block.Block.{Block}
 use Rattle.certificate.specs.declared.block.LeafLine.{LeafLine}
 use Rattle.certificate.specs.declared.reader.Stage.{Stage}

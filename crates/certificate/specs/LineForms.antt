@@ -2,7 +2,7 @@
 use Rattle.std.specs.Prelude.{ℕ, ◌-◌, ◌^◌, Bool, List, [], ◌∷◌, length, Option, None, Some, codes, decimal}
 use Rattle.series_core.specs.declared.pair.Pair.{Pair}
 use Rattle.series_core.specs.declared.queue_words.Entry.{Entry}
-use Rattle.query_core.specs.declared.outcome.Start.{Start}
+use Rattle.search_machine.specs.declared.outcome.Start.{Start}
 use Rattle.certificate.specs.declared.block.LeafLine.{LeafLine}
 use Rattle.certificate.specs.Fields.{◌>>=◌, after, number_at, labels_at, limit_at, entries_at, word_at, said_at, ended}
 

@@ -3,7 +3,7 @@ use Rattle.std.specs.Prelude.{◌≡◌, ℕ, ◌+◌, ◌^◌, ◌==◌, ◌&&�
 use Rattle.certificate.specs.declared.block.Block.{Block}
 use Rattle.series_core.specs.declared.pair.Pair.{Pair}
 use Rattle.series_core.specs.declared.queue_words.Entry.{Entry}
-use Rattle.query_core.specs.declared.outcome.Start.{Start}
+use Rattle.search_machine.specs.declared.outcome.Start.{Start}
 use Rattle.certificate.specs.declared.block.LeafLine.{LeafLine}
 use Rattle.certificate.specs.declared.reader.Reader.{Reader}
 use Rattle.certificate.specs.declared.reader.Stage.{Stage}

@@ -6,7 +6,7 @@ use Rattle.isax_word.specs.declared.word.Part.{Part}
 use Rattle.series_core.specs.declared.pair.Pair.{Pair}
 use Rattle.series_core.specs.declared.queue_words.Entry.{Entry}
 use Rattle.series_core.specs.declared.distance.TheConstants.{NONE}
-use Rattle.query_core.specs.declared.outcome.Start.{Start}
+use Rattle.search_machine.specs.declared.outcome.Start.{Start}
 use Rattle.certificate.specs.declared.block.Block.{Block}
 use Rattle.certificate.specs.declared.block.LeafLine.{LeafLine}
 use Rattle.certificate.specs.declared.block.Said.{Said}

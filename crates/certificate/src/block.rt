@@ -4,7 +4,7 @@
 ghost use Rattle.std.specs.Prelude.{◌≡◌, length};
 
 use isax_word::Word;
-use query_core::{EntryList, Start};
+use search_machine::{EntryList, Start};
 use series_core::{LabelList, Pair, PairList};
 use std::marker::Model;
 

@@ -9,7 +9,7 @@ use crate::block::LeafLine;
 use crate::fields::{after, after_number, is_end, number};
 use crate::words::{entries, label, limit, said, word};
 use outside::NoMemory;
-use query_core::{EntryList, Start};
+use search_machine::{EntryList, Start};
 use series_core::Pair;
 use std::alloc::Global;
 

@@ -6,7 +6,7 @@ ghost use Rattle.certificate.specs.Reading.{reading_of, nothing_read, empty_bloc
 use crate::block::{Block, EntryLists, LeafLine, LeafLineList};
 use crate::line::{answer, leaf, query, queue, start};
 use outside::NoMemory;
-use query_core::EntryList;
+use search_machine::EntryList;
 use series_core::{LabelList, Pair, PairList};
 use std::alloc::Global;
 use std::mem;

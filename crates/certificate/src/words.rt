@@ -9,7 +9,7 @@ use crate::fields::{after, number};
 use crate::parts::Parts;
 use isax_word::{Part, Word};
 use outside::NoMemory;
-use query_core::EntryList;
+use search_machine::EntryList;
 use series_core::{Entry, NONE};
 use std::alloc::Global;
 

@@ -69,7 +69,9 @@ impl Queue {
         self.kept
     }
 
-    fn put(&mut self, entry: Entry) -> PutReply
+    /// Puts an entry: Shut where the queue was shut, else Filled where as many puts were placed as it has room for, and
+    /// else Placed.
+    pub fn put(&mut self, entry: Entry) -> PutReply
         ensures { (self.new, result) ≡ put entry self.old }
     {
         if let Some(kept) = self.kept {
@@ -83,7 +85,9 @@ impl Queue {
         PutReply::Placed
     }
 
-    fn pop(&mut self, limit: u64) -> PopReply
+    /// Takes the least entry, where its bound is not above this limit; else shuts the queue with the limit, and no entry is
+    /// lost. A queue that was shut is Closed with the limit that shut it.
+    pub fn pop(&mut self, limit: u64) -> PopReply
         ensures { (self.new, result) ≡ pop limit self.old }
     {
         if let Some(kept) = self.kept {

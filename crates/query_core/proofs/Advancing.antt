@@ -14,8 +14,8 @@ use Rattle.subtree_build.proofs.Bounds.{IsNoNearer, leaves_no_nearer}
 use Rattle.subtree_build.specs.declared.node.Node.{Leaf}
 use Rattle.series_core.specs.declared.queue_words.Entry.{Entry}
 use Rattle.query_core.specs.declared.step.Step.{Step}
-use Rattle.query_core.specs.Ground.{Ground}
-use Rattle.query_core.specs.Machine.{skip, without}
+use Rattle.search_machine.specs.Ground.{Ground}
+use Rattle.search_machine.specs.Workers.{skip, without}
 use Rattle.query_core.specs.Questions.{leaf_bound}
 use Rattle.query_core.specs.Walks.{IsEntry, IsGiven, IsStep}
 

@@ -23,8 +23,8 @@ use Rattle.subtree_build.specs.Index.{IndexParts, IsIndex, StandsUnder, leaf_at,
 use Rattle.subtree_build.proofs.Children.{length-child_word}
 use Rattle.subtree_build.proofs.Fitting.{total_flat_map}
 use Rattle.subtree_build.proofs.Outlines.{present}
-use Rattle.query_core.proofs.Counts.{equal_counts, others_count}
-use Rattle.query_core.proofs.Places.{get_map}
+use Rattle.search_machine.proofs.Counts.{equal_counts, others_count}
+use Rattle.search_machine.proofs.Places.{get_map}
 
 -- a number from a on, of n, stands there once
 times_range : (x a n : ℕ) → a ≤ x → times x (range_with_len a n) ≡ once_below x (a + n)

@@ -3,9 +3,9 @@ use Rattle.std.proofs.Common.{List, [], ap, arith, get_or, length, map, refl, se
 use Rattle.std.proofs.Common.{get_or-set_other, get_or-set_same}
 use Rattle.list_totals.specs.Totals.{one_if_same}
 use Rattle.leaf_queues.specs.PlainQueue.{empty_queue}
-use Rattle.query_core.specs.Ground.{Ground}
-use Rattle.query_core.specs.Machine.{capacity_of, empty_queues, queue_of}
-use Rattle.query_core.proofs.Counts.{counts_or_not, same_counts}
+use Rattle.search_machine.specs.Ground.{Ground, queue_of}
+use Rattle.search_machine.specs.Machine.{capacity_of, empty_queues}
+use Rattle.search_machine.proofs.Counts.{counts_or_not, same_counts}
 
 -- a number written one greater at a place: there it is one more, and elsewhere it is as it was
 pub one_more_at : (counts : List ℕ) (at v m : ℕ) → at < length counts → v ≡ get_or counts at 0

@@ -8,15 +8,16 @@ use Rattle.std.specs.Prelude.{nat_lt, slice_get}
 use Rattle.list_totals.specs.Totals.{one_if_same}
 use Rattle.series_core.specs.declared.queue_words.Entry.{Entry}
 use Rattle.leaf_queues.specs.PlainQueue.{PlainQueue}
-use Rattle.query_core.specs.declared.outcome.Fate.{Fate}
-use Rattle.query_core.specs.declared.outcome.Fate.TheVariants.{Queue as QueueFate, Start as StartFate}
+use Rattle.search_machine.specs.declared.outcome.Fate.{Fate}
+use Rattle.search_machine.specs.declared.outcome.Fate.TheVariants.{Queue as QueueFate, Start as StartFate}
 use Rattle.query_core.specs.Fates.{AreMarked, AreUnqueued, fate_over, fate_queued, fate_unqueued}
-use Rattle.query_core.specs.Ground.{Ground}
-use Rattle.query_core.specs.Machine.{State}
-use Rattle.query_core.specs.Outcome.{fate, fates_from, first_place, is_start, late_fate, taken_fate}
-use Rattle.query_core.specs.Sound.{entered, scans, takes}
-use Rattle.query_core.proofs.Counts.{equal_counts, others_count}
-use Rattle.query_core.proofs.Places.{get_set_other}
+use Rattle.search_machine.specs.Ground.{Ground}
+use Rattle.search_machine.specs.Machine.{State}
+use Rattle.search_machine.specs.Outcome.{fate, fates_from, first_place, is_start, late_fate, taken_fate}
+use Rattle.search_machine.specs.Sound.{scans, takes}
+use Rattle.search_machine.specs.Basics.{entered}
+use Rattle.search_machine.proofs.Counts.{equal_counts, others_count}
+use Rattle.search_machine.proofs.Places.{get_set_other}
 
 module _ {X : Type 0} where
   -- a place that is written holds what was written

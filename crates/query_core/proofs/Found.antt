@@ -7,12 +7,12 @@ use Rattle.std.proofs.lemmas.List.{get_or-set_same, get_or-set_other}
 use Rattle.list_totals.specs.Totals.{times}
 use Rattle.series_core.specs.Order.{Has}
 use Rattle.series_core.specs.declared.pair.Pair.{Pair}
-use Rattle.query_core.specs.Ground.{Ground, Fits, last, plain, scan, worst}
-use Rattle.query_core.specs.Sound.{ListUnder}
+use Rattle.search_machine.specs.Ground.{Ground, Fits, last, plain, scan, worst}
+use Rattle.search_machine.specs.Sound.{ListUnder}
 use Rattle.query_core.specs.Working.{IsFound, is_marked}
-use Rattle.query_core.proofs.Counts.{same_counts, times_cons}
-use Rattle.query_core.proofs.PlainList.{Known, has_plain, last_worst, plain_has}
-use Rattle.query_core.proofs.Scans.{list_scanned}
+use Rattle.search_machine.proofs.Counts.{same_counts, times_cons}
+use Rattle.search_machine.proofs.PlainList.{Known, has_plain, last_worst, plain_has}
+use Rattle.search_machine.proofs.Scans.{list_scanned}
 
 -- the leaves that have marks, where the first mark is that of leaf n
 abbrev marked_from : ℕ → List Bool → List ℕ

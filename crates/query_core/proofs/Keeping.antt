@@ -6,12 +6,12 @@ use Rattle.series_core.specs.Best.{Best}
 use Rattle.series_core.specs.declared.pair.Pair.{Pair}
 use Rattle.lower_bound.specs.Bound.{View}
 use Rattle.subtree_build.specs.Index.{IndexParts}
-use Rattle.query_core.specs.declared.phase.Phase.{Phase}
-use Rattle.query_core.specs.declared.phase.Phase.TheVariants.{Offer}
-use Rattle.query_core.specs.declared.phase.Onward.{Onward}
-use Rattle.query_core.specs.declared.phase.Onward.TheVariants.{Look as ToLook, Aim as ToAim}
-use Rattle.query_core.specs.Ground.{scan}
-use Rattle.query_core.specs.Machine.{onward}
+use Rattle.search_machine.specs.declared.phase.Phase.{Phase}
+use Rattle.search_machine.specs.declared.phase.Phase.TheVariants.{Offer}
+use Rattle.search_machine.specs.declared.phase.Onward.{Onward}
+use Rattle.search_machine.specs.declared.phase.Onward.TheVariants.{Look as ToLook, Aim as ToAim}
+use Rattle.search_machine.specs.Ground.{scan}
+use Rattle.search_machine.specs.Workers.{onward}
 use Rattle.query_core.specs.Questions.{leaf_series, search_over, view_in}
 use Rattle.query_core.specs.Walks.{Walked}
 use Rattle.query_core.specs.Working.{Working, IsFound, IsWorking, OnwardInRange, PhaseInRange, is_marked}

@@ -8,8 +8,8 @@ use Rattle.std.specs.Prelude.{nat_lt, slice_get}
 use Rattle.series_core.proofs.Smallest.{ascending-append_swap, smallest-append}
 use Rattle.series_core.specs.Pairs.{smallest}
 use Rattle.series_core.specs.declared.pair.Pair.{Pair}
-use Rattle.query_core.specs.Machine.{Worker}
-use Rattle.query_core.specs.Outcome.{all_pairs, first_place}
+use Rattle.search_machine.specs.Workers.{Worker}
+use Rattle.search_machine.specs.Outcome.{all_pairs, first_place}
 use Rattle.query_core.specs.Teams.{all_lists}
 use Rattle.query_core.specs.Working.{Working}
 

@@ -19,10 +19,10 @@ use Rattle.summary_phase.specs.declared.member.Member.{Member}
 use Rattle.subtree_build.proofs.Bounds.{length-full_word}
 use Rattle.subtree_build.specs.Index.{IndexParts}
 use Rattle.subtree_build.specs.Members.{numbers_of, series_at}
-use Rattle.query_core.specs.Ground.{pair_of, scan, scan_one}
+use Rattle.search_machine.specs.Ground.{pair_of, scan, scan_one}
 use Rattle.query_core.specs.Questions.{Question, IsQuestion, IsMemberOf, search_over, view_in}
 use Rattle.query_core.proofs.OfIndex.{distance_small}
-use Rattle.query_core.proofs.ScanSteps.{passed_over, scan_next}
+use Rattle.search_machine.proofs.ScanSteps.{passed_over, scan_next}
 
 -- the distance of the pair at a place, or NONE where there is none
 pub distance_there : (n : ℕ) (ps : List Pair) → distance_or_none (slice_get ps n) ≡ distance_at n ps

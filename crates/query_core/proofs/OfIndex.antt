@@ -15,12 +15,12 @@ use Rattle.summary_phase.specs.declared.member.Member.{Member}
 use Rattle.subtree_build.specs.Index.{IndexParts, leaf_at}
 use Rattle.subtree_build.specs.Members.{series_at, numbers_of}
 use Rattle.subtree_build.proofs.Bounds.{members_no_nearer}
-use Rattle.query_core.specs.Ground.{Fits, last}
-use Rattle.query_core.specs.Measures.{Measures}
+use Rattle.search_machine.specs.Ground.{Fits, last}
+use Rattle.search_machine.specs.Measures.{Measures}
 use Rattle.query_core.specs.Questions.{Question, IsQuestion, CanBeSearched, last_of, leaf_bound, leaf_series, search_over, view_in}
 use Rattle.query_core.proofs.BelowRoots.{below_count, leaf_has_word, some_below}
 use Rattle.query_core.proofs.Homes.{home_at_most_once, home_of, member_is_real, one_leaf}
-use Rattle.query_core.proofs.Ranks.{last_same}
+use Rattle.search_machine.proofs.Ranks.{last_same}
 use Rattle.query_core.proofs.StartLeaf.{start_is_leaf}
 
 -- no series is farther than NONE

@@ -7,16 +7,17 @@ use Rattle.std.proofs.lemmas.Option.{none-some, same_Some}
 use Rattle.list_totals.specs.Totals.{times}
 use Rattle.subtree_build.specs.Index.{IndexParts, IsIndex}
 use Rattle.subtree_build.specs.Start.{start_leaf_of}
-use Rattle.query_core.specs.declared.outcome.Start.{Start}
-use Rattle.query_core.specs.declared.phase.Phase.TheVariants.{Claim}
-use Rattle.query_core.specs.Ground.{Ground, Fits, start_limit}
-use Rattle.query_core.specs.Machine.{start_list}
-use Rattle.query_core.specs.Outcome.{is_start, start_of}
+use Rattle.search_machine.specs.declared.outcome.Start.{Start}
+use Rattle.search_machine.specs.declared.phase.Phase.TheVariants.{Claim}
+use Rattle.search_machine.specs.Ground.{Ground, Fits, start_limit}
+use Rattle.search_machine.specs.Workers.{start_list}
+use Rattle.search_machine.specs.Outcome.{is_start}
+use Rattle.search_machine.specs.Basics.{start_of}
 use Rattle.query_core.specs.Questions.{Question, search_over, view_in}
 use Rattle.query_core.specs.Working.{AreOpeningMarks, IsFound, Shows, Working, is_marked, opened_list, opens_as}
-use Rattle.query_core.proofs.Opening.{start_only}
-use Rattle.query_core.proofs.PlainList.{plain_has}
-use Rattle.query_core.proofs.Scans.{list_opening}
+use Rattle.search_machine.proofs.Opening.{start_only}
+use Rattle.search_machine.proofs.PlainList.{plain_has}
+use Rattle.search_machine.proofs.Scans.{list_opening}
 use Rattle.query_core.proofs.StartLeaf.{start_is_leaf}
 
 -- the leaf of a start is the start leaf

@@ -8,17 +8,17 @@ use Rattle.list_totals.specs.Totals.{times, one_if_same}
 use Rattle.series_core.specs.Order.{distance_at}
 use Rattle.series_core.specs.declared.distance.TheConstants.{NONE}
 use Rattle.series_core.specs.declared.pair.Pair.{Pair}
-use Rattle.query_core.specs.declared.phase.Onward.{Onward}
-use Rattle.query_core.specs.declared.phase.Phase.{Phase}
-use Rattle.query_core.specs.declared.phase.Phase.TheVariants.{Offer}
-use Rattle.query_core.specs.Ground.{Ground, scan, worst}
-use Rattle.query_core.specs.Machine.{Worker, after_scan, improves, is_new, onward, scanned_by}
+use Rattle.search_machine.specs.declared.phase.Onward.{Onward}
+use Rattle.search_machine.specs.declared.phase.Phase.{Phase}
+use Rattle.search_machine.specs.declared.phase.Phase.TheVariants.{Offer}
+use Rattle.search_machine.specs.Ground.{Ground, scan, worst}
+use Rattle.search_machine.specs.Workers.{Worker, after_scan, improves, is_new, onward, scanned_by}
 use Rattle.query_core.specs.Questions.{leaf_series}
 use Rattle.query_core.specs.Turning.{search_of}
 use Rattle.query_core.specs.Working.{Working, Shows, is_marked}
-use Rattle.query_core.proofs.Counts.{same_counts}
+use Rattle.search_machine.proofs.Counts.{same_counts}
 use Rattle.query_core.proofs.Found.{mark_kept, mark_set}
-use Rattle.query_core.proofs.ScanSteps.{past_end}
+use Rattle.search_machine.proofs.ScanSteps.{past_end}
 
 -- a list improves on a limit exactly where its k-th pair is nearer than the limit
 pub improves_is : (g : Ground) (ps : List Pair) (v : ℕ) → v ≤ NONE

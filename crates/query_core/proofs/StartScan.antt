@@ -9,12 +9,12 @@ use Rattle.series_core.specs.declared.pair.Pair.{Pair}
 use Rattle.subtree_build.specs.Index.{IndexParts, leaf_at}
 use Rattle.subtree_build.specs.Members.{numbers_of}
 use Rattle.summary_phase.specs.declared.member.Member.{Member}
-use Rattle.query_core.specs.declared.outcome.Start.{Start}
-use Rattle.query_core.specs.Ground.{opening, opening_of, scan, start_limit}
-use Rattle.query_core.specs.Outcome.{start_of}
+use Rattle.search_machine.specs.declared.outcome.Start.{Start}
+use Rattle.search_machine.specs.Ground.{opening, opening_of, scan, start_limit}
+use Rattle.search_machine.specs.Basics.{start_of}
 use Rattle.query_core.specs.Questions.{Question, CanBeSearched, search_over}
 use Rattle.query_core.proofs.OfIndex.{search_fits}
-use Rattle.query_core.proofs.Scans.{opening_scan}
+use Rattle.search_machine.proofs.Scans.{opening_scan}
 
 -- the list after the scan of the start leaf with no limit
 pub opening_is : (a : Question) (ix : IndexParts) (l : ℕ) (members : List Member) (empty list : Best)

@@ -7,14 +7,16 @@ use Rattle.std.specs.Option.{option_map}
 use Rattle.std.specs.Prelude.{nat_eq, not, slice_get}
 use Rattle.list_totals.specs.Totals.{times}
 use Rattle.query_core.specs.Fates.{leaf_of}
-use Rattle.query_core.specs.Ground.{Ground, start_limit}
-use Rattle.query_core.specs.Machine.{State, Worker}
-use Rattle.query_core.specs.Outcome.{first_place, start_of}
-use Rattle.query_core.specs.Sound.{scans}
+use Rattle.search_machine.specs.Ground.{Ground, start_limit}
+use Rattle.search_machine.specs.Machine.{State}
+use Rattle.search_machine.specs.Workers.{Worker}
+use Rattle.search_machine.specs.Outcome.{first_place}
+use Rattle.search_machine.specs.Basics.{start_of}
+use Rattle.search_machine.specs.Sound.{scans}
 use Rattle.query_core.specs.Teams.{StandsAt, TeamParts}
 use Rattle.query_core.specs.Working.{Shows, Working, is_marked}
 use Rattle.query_core.proofs.ListsMerged.{first_here, first_none}
-use Rattle.query_core.proofs.Places.{get_some}
+use Rattle.search_machine.proofs.Places.{get_some}
 
 -- a test of a count that says no mark
 count_none : (n : ℕ) → nat_eq n 0 ≡ true → n ≡ 0

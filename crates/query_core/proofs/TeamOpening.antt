@@ -8,14 +8,15 @@ use Rattle.series_core.specs.declared.pair.Pair.{Pair}
 use Rattle.leaf_queues.specs.PlainQueue.{empty_queue}
 use Rattle.std.specs.Prelude.{replicate, slice_get}
 use Rattle.subtree_build.specs.Index.{IndexParts}
-use Rattle.query_core.specs.declared.phase.Phase.TheVariants.{Claim, Done}
-use Rattle.query_core.specs.Ground.{Ground, opening, opening_of, start_limit, worst}
-use Rattle.query_core.specs.Outcome.{start_of}
-use Rattle.query_core.specs.Machine.{Worker, capacity_of, empty_queues, idle, leader, opened, start_list}
+use Rattle.search_machine.specs.declared.phase.Phase.TheVariants.{Claim, Done}
+use Rattle.search_machine.specs.Ground.{Ground, opening, opening_of, start_limit, worst}
+use Rattle.search_machine.specs.Basics.{start_of}
+use Rattle.search_machine.specs.Machine.{capacity_of, empty_queues, opened}
+use Rattle.search_machine.specs.Workers.{Worker, idle, leader, start_list}
 use Rattle.query_core.specs.Questions.{Question, search_over}
 use Rattle.query_core.specs.Teams.{AreDoneTo, AreHired, StandsAt, TeamParts, limit_of}
 use Rattle.query_core.specs.Working.{IsOf, Shows, Working, opens_as}
-use Rattle.query_core.proofs.Places.{get_replicate}
+use Rattle.search_machine.proofs.Places.{get_replicate}
 
 module _ {X : Type 0} where
   -- what a place of a longer list holds: what it held, or at the end what was added

@@ -6,19 +6,19 @@ use Rattle.std.proofs.lemmas.Option.{slice_get_within, get_or_from_slice_get}
 use Rattle.std.specs.Result.{IfOk}
 use Rattle.std.specs.Prelude.{replicate, slice_get}
 use Rattle.list_totals.specs.Totals.{times}
-use Rattle.query_core.specs.Ground.{Fits, Ground, enough_turns}
-use Rattle.query_core.specs.Machine.{State, opened, played, run, turn}
-use Rattle.query_core.specs.declared.outcome.Outcome.{Outcome}
-use Rattle.query_core.specs.Legal.{IsStraight, Legal}
-use Rattle.query_core.specs.Outcome.{AllDone, outcome}
+use Rattle.search_machine.specs.Ground.{Fits, Ground, enough_turns}
+use Rattle.search_machine.specs.Machine.{State, opened, played, run, turn}
+use Rattle.search_machine.specs.declared.outcome.Outcome.{Outcome}
+use Rattle.search_machine.specs.Legal.{IsStraight, Legal}
+use Rattle.search_machine.specs.Outcome.{AllDone, outcome}
 use Rattle.query_core.specs.Replays.{FirstUnfinished, NamesWorkers, NoStranger}
 use Rattle.query_core.specs.Teams.{AreDone, EndsAlone, IsFirstBusy, StandsAt, TeamParts, searched}
-use Rattle.query_core.proofs.Counts.{equal_counts}
-use Rattle.query_core.proofs.Ending.{ending_legal}
-use Rattle.query_core.proofs.Opening.{opening_sound}
-use Rattle.query_core.proofs.OneWorker.{opening_straight, run_straight, straight_outcome}
-use Rattle.query_core.proofs.Places.{get_some}
-use Rattle.query_core.proofs.Schedules.{enough_done, played_sound}
+use Rattle.search_machine.proofs.Counts.{equal_counts}
+use Rattle.search_machine.proofs.Ending.{ending_legal}
+use Rattle.search_machine.proofs.Opening.{opening_sound}
+use Rattle.search_machine.proofs.OneWorker.{opening_straight, run_straight, straight_outcome}
+use Rattle.search_machine.proofs.Places.{get_some}
+use Rattle.search_machine.proofs.Schedules.{enough_done, played_sound}
 
 -- one turn more at the end of a schedule
 run_push : (g : Ground) (is : List ℕ) (i : ℕ) (s : State) → run g (is ++ i ∷ []) s ≡ turn g i (run g is s)

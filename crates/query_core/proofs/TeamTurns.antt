@@ -1,6 +1,6 @@
 -- A turn of a team's worker: its call on what is shared and its reply make the machine's turn.
-use Rattle.std.proofs.Common.{List, None, Option, Some, ap, arith, length, refl, set, subst, suc, sym, ltb, ℕ, ⊎_elim, ◌<◌, ◌∙◌, ◌≡◌, ◌≢◌, ◌≤◌}
-use Rattle.std.proofs.lemmas.Bool.{cases_eq, cond_both, ltb-false, ltb-true}
+use Rattle.std.proofs.Common.{List, Some, ap, arith, length, refl, set, subst, sym, ℕ, ⊎_elim, ◌∙◌, ◌≡◌, ◌≢◌}
+use Rattle.std.proofs.lemmas.Bool.{cases_eq}
 use Rattle.std.proofs.lemmas.List.{length-map}
 use Rattle.std.proofs.lemmas.Option.{slice_get_within}
 use Rattle.std.proofs.Math.ListN.{length-set}
@@ -8,88 +8,31 @@ use Rattle.std.specs.Prelude.{slice_get}
 use Rattle.leaf_queues.specs.PlainQueue.{PlainQueue}
 use Rattle.subtree_build.specs.Index.{IndexParts}
 use Rattle.subtree_build.specs.Outline.{leaf_numbers}
-use Rattle.query_core.specs.declared.calls.Reply.{Reply}
-use Rattle.query_core.specs.declared.calls.Reply.TheVariants.{Claimed}
-use Rattle.query_core.specs.declared.phase.Phase.{Phase}
-use Rattle.query_core.specs.declared.phase.Phase.TheVariants.{Aim, Claim, Done, Give, Late, Look, Offer, Pop}
-use Rattle.query_core.specs.Calls.{call_in, call_of}
-use Rattle.query_core.specs.Ground.{Ground}
-use Rattle.query_core.specs.Machine.{State, Worker, claim_turn, give_turn, pop_turn, queue_of, entry_of, round_queue, turn, turn_by_phase, turn_of, after_claim}
-use Rattle.query_core.specs.OneThread.{Did, Held, held_after, put_into, pop_from}
-use Rattle.query_core.specs.OwnRecord.{Member, OwnRecord, nothing_yet}
-use Rattle.query_core.specs.Outcome.{start_of}
+use Rattle.search_machine.specs.declared.phase.Phase.TheVariants.{Done}
+use Rattle.search_machine.specs.Calls.{call_of}
+use Rattle.search_machine.specs.Ground.{Ground, last}
+use Rattle.search_machine.specs.Machine.{State, answered, shared, state_of, turn, turn_by_phase, turn_of}
+use Rattle.search_machine.specs.Workers.{Worker}
+use Rattle.search_machine.specs.Shared.{Did, Held, held_after}
+use Rattle.search_machine.specs.OwnRecord.{Member, nothing_yet}
+use Rattle.search_machine.specs.Basics.{start_of}
 use Rattle.query_core.specs.Questions.{Question, search_over}
-use Rattle.query_core.specs.Replies.{after, after_reply}
-use Rattle.query_core.specs.Sound.{Sound}
+use Rattle.search_machine.specs.Replies.{after}
 use Rattle.query_core.specs.Teams.{IsTeam, StandsAt, TeamParts, searched}
 use Rattle.query_core.specs.Turning.{Turns}
 use Rattle.query_core.specs.Working.{IsOf, Shows, Working}
-use Rattle.query_core.proofs.Places.{get_none, get_set, get_set_other, get_set_same, get_some}
+use Rattle.search_machine.proofs.Rows.{running_turn}
+use Rattle.query_core.proofs.OfIndex.{last_is}
+use Rattle.search_machine.proofs.Places.{get_set, get_set_other, get_set_same, get_some}
 
--- the state of what is held and these workers
-abbrev state_of : Held → List Worker → State
-state_of h ws = record { word = h.word; claimed = h.claimed; queues = h.queues; workers = ws }
-
-module _ (g : Ground) (i : ℕ) (h : Held) (ws : List Worker) (w : Worker) (r : OwnRecord)
-    (some : 0 < g.queues) (lines : length h.queues ≡ g.queues) (roots : h.roots ≡ length g.roots) where
-  -- what a call makes of what is held, and its worker by the reply
-  abbrev made : Phase → Held × Reply → State
-  made p x = state_of x.0 (set ws i (after_reply g i w r p x.1).worker)
-
-  -- a root child is claimed where there is one
-  claimed_turn : (o : Option (List ℕ)) → slice_get g.roots h.claimed ≡ o
-      → claim_turn g i (state_of h ws) w o ≡ made Claim (held_after h (call_in g i w Claim))
-  claimed_turn o e = cond_both (ltb h.claimed h.roots)
-      (record h { claimed = suc h.claimed }, Claimed (Some h.claimed)) (h, Claimed None)
-      (λ (x : Held × Reply). claim_turn g i (state_of h ws) w o ≡ made Claim x)
-      (λ t. let low = ltb-true h.claimed h.roots t in there o e (omega arith))
-      (λ f. let high = ltb-false h.claimed h.roots f in gone o e (omega arith))
-    where
-      there : (p : Option (List ℕ)) → slice_get g.roots h.claimed ≡ p → h.claimed < length g.roots
-          → claim_turn g i (state_of h ws) w p
-          ≡ made Claim (record h { claimed = suc h.claimed }, Claimed (Some h.claimed))
-      there None a low = let b = get_none g.roots h.claimed a in absurd (omega arith)
-      there (Some ls) a low = ap (λ (p : Option (List ℕ)).
-          state_of (record h { claimed = suc h.claimed }) (set ws i (after_claim g w p))) (sym a)
-
-      gone : (p : Option (List ℕ)) → slice_get g.roots h.claimed ≡ p → length g.roots ≤ h.claimed
-          → claim_turn g i (state_of h ws) w p ≡ made Claim (h, Claimed None)
-      gone None a high = refl
-      gone (Some ls) a high =
-          let b = slice_get_within g.roots h.claimed ls a in absurd (omega arith)
-
-  -- an entry is put into its queue
-  put_turn : (l : ℕ) (o : Option PlainQueue) → slice_get h.queues (queue_of g l) ≡ o
-      → give_turn g i (state_of h ws) w l o
-      ≡ made (Give l) (put_into h (queue_of g l) (entry_of g l) o)
-  put_turn l None e = let past = get_none h.queues (queue_of g l) e in absurd (omega arith)
-  put_turn l (Some q) e = refl
-
-  -- an entry is popped from the queue of the round
-  popped_turn : (j v : ℕ) (o : Option PlainQueue) → slice_get h.queues (round_queue g i j) ≡ o
-      → pop_turn g i (state_of h ws) w j v o ≡ made (Pop j v) (pop_from h (round_queue g i j) v o)
-  popped_turn j v None e = let past = get_none h.queues (round_queue g i j) e in absurd (omega arith)
-  popped_turn j v (Some q) e = refl
-
-  -- the turn is made by the call of the phase
-  pub made_turn : (p : Phase) → p ≢ Done
-      → turn_by_phase g i (state_of h ws) w p ≡ made p (held_after h (call_in g i w p))
-  made_turn Claim running = claimed_turn (slice_get g.roots h.claimed) refl
-  made_turn Look running = refl
-  made_turn (Give l) running = put_turn l (slice_get h.queues (queue_of g l)) refl
-  made_turn (Late l) running = refl
-  made_turn (Aim j) running = refl
-  made_turn (Pop j v) running = popped_turn j v (slice_get h.queues (round_queue g i j)) refl
-  made_turn (Offer next) running = refl
-  made_turn Done running = absurd (running refl)
-
--- a state is that of what is held where the two agree
-same_state : (s : State) (h : Held) → h.word ≡ s.word → h.claimed ≡ s.claimed → h.queues ≡ s.queues
-    → s ≡ state_of h s.workers
-same_state s h word claimed lines =
-    let parts : ℕ → ℕ → List PlainQueue → State =
-    λ a b c. record { word = a; claimed = b; queues = c; workers = s.workers } in
-    let e : parts s.word s.claimed s.queues ≡ parts h.word h.claimed h.queues = cc in
+-- what is held is the same where its parts are
+same_held : (h k : Held) → h.floor ≡ k.floor → h.roots ≡ k.roots → h.claimed ≡ k.claimed → h.word ≡ k.word
+    → h.queues ≡ k.queues → h ≡ k
+same_held h k floor roots claimed word lines =
+    let parts : ℕ → ℕ → ℕ → ℕ → List PlainQueue → Held =
+    λ a b c d e. record { floor = a; roots = b; claimed = c; word = d; queues = e } in
+    let e : parts h.floor h.roots h.claimed h.word h.queues
+    ≡ parts k.floor k.roots k.claimed k.word k.queues = cc in
     e
 
 -- what is said of a worker's own question, index, queues and number is said of its place
@@ -126,9 +69,8 @@ module _ (t : TeamParts) (team : IsTeam t) (i : ℕ) (w : Working)
 
   -- it stands for the state after the machine's turn
   pub turn_stands : (hand : Held) (v : Working) → w.phase ≢ Done → Turns Did t.hand hand w v
-      → (s : State) → Sound (searched t) s → StandsAt t s
-      → StandsAt (turned hand v) (turn (searched t) i s)
-  turn_stands hand v running turns s sound stands =
+      → (s : State) → StandsAt t s → StandsAt (turned hand v) (turn (searched t) i s)
+  turn_stands hand v running turns s stands =
       subst (StandsAt (turned hand v)) (sym whole) after_turn
     where
       g : Ground
@@ -159,21 +101,24 @@ module _ (t : TeamParts) (team : IsTeam t) (i : ℕ) (w : Working)
       runs : x.worker.phase ≢ Done
       runs e = running (sym shows.phase ∙ e)
 
-      before : s ≡ state_of t.hand s.workers
-      before = same_state s t.hand stands.word stands.claimed stands.lines
-
       roots : t.hand.roots ≡ length g.roots
       roots = team.roots ∙ sym team.searches.index.one_node_each ∙ sym (length-map t.index.nodes leaf_numbers)
+
+      floor : t.hand.floor ≡ last g
+      floor = team.floor ∙ sym (last_is t.question t.index (length t.workers) t.queues team.searches.question)
+
+      holds : shared g s ≡ t.hand
+      holds = same_held (shared g s) t.hand (sym floor) (sym roots) (sym stands.claimed) (sym stands.word)
+          (sym stands.lines)
 
       next : State
       next = state_of hand (set s.workers i (after g i x turns.0).worker)
 
       whole : turn g i s ≡ next
-      whole = ap (turn_of g i s) m.1
-          ∙ ap (λ (z : State). turn_by_phase g i z x.worker x.worker.phase) before
-          ∙ made_turn g i t.hand s.workers x.worker nothing_yet team.some_queue
-          (ap length stands.lines ∙ sound.queue_count) roots x.worker.phase runs
-          ∙ ap (λ (z : Held × Reply). state_of z.0 (set s.workers i (after g i x z.1).worker)) did
+      whole = ap (turn_of g i s) m.1 ∙ running_turn g i s x.worker x.worker.phase runs
+          ∙ ap (λ (h : Held). answered g i s x.worker x.worker.phase
+          (held_after h (call_of g i x.worker))) holds
+          ∙ ap (answered g i s x.worker x.worker.phase) did
 
       after_turn : StandsAt (turned hand v) next
       after_turn = record {

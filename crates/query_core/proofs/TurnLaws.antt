@@ -8,21 +8,20 @@ use Rattle.std.proofs.lemmas.Option.{slice_get-get_or}
 use Rattle.subtree_build.specs.declared.node.Node.{Node, Leaf}
 use Rattle.subtree_build.specs.Outline.{leaf_numbers}
 use Rattle.subtree_build.specs.Start.{start_leaf_of}
-use Rattle.query_core.specs.declared.calls.Call.{Call}
-use Rattle.query_core.specs.declared.calls.Reply.{Reply}
-use Rattle.query_core.specs.declared.phase.Phase.{Phase}
-use Rattle.query_core.specs.declared.phase.Phase.TheVariants.{Claim, Give, Look}
-use Rattle.query_core.specs.declared.phase.Onward.{Onward}
-use Rattle.query_core.specs.declared.phase.Onward.TheVariants.{Look as ToLook}
-use Rattle.query_core.specs.Calls.{call_in}
-use Rattle.query_core.specs.Ground.{Ground}
-use Rattle.query_core.specs.Machine.{Worker, after_claim, after_late, after_look, in_phase, is_new, onward, scanned_by, skip, stopped, without}
-use Rattle.query_core.specs.OwnRecord.{OwnRecord}
+use Rattle.search_machine.specs.declared.calls.Call.{Call}
+use Rattle.search_machine.specs.declared.calls.Reply.{Reply}
+use Rattle.search_machine.specs.declared.phase.Phase.{Phase}
+use Rattle.search_machine.specs.declared.phase.Phase.TheVariants.{Claim, Give, Look}
+use Rattle.search_machine.specs.declared.phase.Onward.{Onward}
+use Rattle.search_machine.specs.declared.phase.Onward.TheVariants.{Look as ToLook}
+use Rattle.search_machine.specs.Calls.{call_in}
+use Rattle.search_machine.specs.Ground.{Ground}
+use Rattle.search_machine.specs.Workers.{Worker, after_claim, after_late, after_look, in_phase, is_new, onward, scanned_by, skip, stopped, without, after_reply, leaves_below}
 use Rattle.query_core.specs.Questions.{last_of, view_in}
-use Rattle.query_core.specs.Replies.{ReplyFits, after_reply, leaves_below}
+use Rattle.search_machine.specs.Replies.{ReplyFits}
 use Rattle.query_core.specs.Turning.{ReplyNotLow, TurnsBy, search_of, taken_by}
 use Rattle.query_core.specs.Walks.{Advances}
-use Rattle.query_core.specs.Working.{Working, Shows, is_marked}
+use Rattle.query_core.specs.Working.{IsOf, Working, Shows, is_marked}
 
 -- a turn of a worker in this phase
 pub turned_here : {H : Type 0} (did : H → Call → Reply → H → Type 0) (before after_it : H) (w v : Working)
@@ -30,8 +29,7 @@ pub turned_here : {H : Type 0} (did : H → Call → Reply → H → Type 0) (be
     → ((workers : ℕ) (m : Worker) → Shows w m
     → did before (call_in (search_of w workers) w.number m phase) reply after_it)
     → ((workers : ℕ) → ReplyFits (search_of w workers) reply) → ReplyNotLow (last_of w.question) reply
-    → ((workers : ℕ) (m : Worker) (r : OwnRecord) → Shows w m
-    → Shows v (after_reply (search_of w workers) w.number m r phase reply).worker)
+    → ((workers : ℕ) (m : Worker) → Shows w m → Shows v (after_reply (search_of w workers) m phase reply))
     → TurnsBy did before after_it w v reply
 turned_here did before after_it w v reply phase is called fits not_low next = record {
   called = λ workers x shows.
@@ -40,8 +38,8 @@ turned_here did before after_it w v reply phase is called fits not_low next = re
   fits = fits;
   not_low = not_low;
   next = λ workers x shows.
-      subst (λ p. Shows v (after_reply (search_of w workers) w.number x.worker x.own p reply).worker)
-      (sym (shows.phase ∙ is)) (next workers x.worker x.own shows);
+      subst (λ p. Shows v (after_reply (search_of w workers) x.worker p reply)) (sym (shows.phase ∙ is))
+      (next workers x.worker shows);
 }
 
 -- the same of a worker that is seen as another one
@@ -50,13 +48,22 @@ pub turned : {H : Type 0} (did : H → Call → Reply → H → Type 0) (before 
     → ((workers : ℕ) (m : Worker) → Shows w m
     → did before (call_in (search_of w workers) w.number m phase) reply after_it)
     → ((workers : ℕ) → ReplyFits (search_of w workers) reply) → ReplyNotLow (last_of w.question) reply
-    → ((workers : ℕ) (m : Worker) (r : OwnRecord) → Shows w m
-    → Shows v (after_reply (search_of w workers) w.number m r phase reply).worker)
+    → ((workers : ℕ) (m : Worker) → Shows w m → Shows v (after_reply (search_of w workers) m phase reply))
     → TurnsBy did before after_it old v reply
 turned did before after_it w old v reply phase same is called fits not_low next =
     subst (λ (o : Working). TurnsBy did before after_it o v reply) same
     (turned_here did before after_it w v reply phase (ap (λ (o : Working). o.phase) same ∙ is) called fits
     not_low next)
+
+-- a worker that is seen as another one keeps its place in another phase with another rest
+pub stays : (w old : Working) (phase : Phase) (rest : List ℕ) → w ≡ old
+    → IsOf old.question old.index old.queues old.number (record w { phase = phase; rest = rest })
+stays w old phase rest same = record {
+  question = ap (λ (o : Working). o.question) same;
+  index = ap (λ (o : Working). o.index) same;
+  number = ap (λ (o : Working). o.number) same;
+  queues = ap (λ (o : Working). o.queues) same;
+}
 
 -- the leaves below a root child that there is
 pub root_there : (nodes : List Node) (root : ℕ) → root < length nodes

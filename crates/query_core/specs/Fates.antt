@@ -2,13 +2,14 @@
 use Rattle.std.specs.Prelude.{◌≡◌, ℕ, suc, ◌<◌, List, [], ◌∷◌, Option, None, Some, cond, nat_lt, length, slice_get}
 use Rattle.series_core.specs.declared.queue_words.Entry.{Entry}
 use Rattle.leaf_queues.specs.PlainQueue.{PlainQueue}
-use Rattle.query_core.specs.declared.outcome.Fate.{Fate}
-use Rattle.query_core.specs.declared.outcome.Fate.TheVariants.{Start as StartFate, Queue as QueueFate}
-use Rattle.query_core.specs.declared.outcome.Start.{Start}
-use Rattle.query_core.specs.Ground.{Ground}
-use Rattle.query_core.specs.Machine.{State}
-use Rattle.query_core.specs.Outcome.{first_place, is_start, late_fate}
-use Rattle.query_core.specs.Sound.{entered, scans}
+use Rattle.search_machine.specs.declared.outcome.Fate.{Fate}
+use Rattle.search_machine.specs.declared.outcome.Fate.TheVariants.{Start as StartFate, Queue as QueueFate}
+use Rattle.search_machine.specs.declared.outcome.Start.{Start}
+use Rattle.search_machine.specs.Ground.{Ground}
+use Rattle.search_machine.specs.Machine.{State}
+use Rattle.search_machine.specs.Outcome.{first_place, is_start, late_fate}
+use Rattle.search_machine.specs.Sound.{scans}
+use Rattle.search_machine.specs.Basics.{entered}
 
 -- the fate of leaf l where no queue gave it
 abbrev pub fate_unqueued : Ground → State → ℕ → Fate

@@ -1,34 +1,26 @@
--- The definitions of this crate, and those of the crates below that its public clauses cite.
-pub mod Members
-pub mod Ground
-pub mod Measures
-pub mod Machine
-pub mod Sound
-pub mod Outcome
-pub mod Legal
-pub mod Straight
-pub mod OwnRecord
-pub mod Stands
-pub mod Replies
-pub mod Calls
+-- The question, and what the search for its answer stands on.
 pub mod Questions
-pub mod Walks
+-- A worker, and what one turn of it does.
 pub mod Working
 pub mod Turning
+-- What one thread holds, and why a schedule gives no outcome.
 pub mod OneThread
 pub mod Replays
+-- What clauses of private functions alone speak of.
+pub mod Walks
 pub mod Teams
 pub mod Fates
-pub mod Closes
-pub mod Schedules
-pub mod Examples
-pub use Rattle.list_totals.specs.Totals
+-- The definitions of the crates below that the public clauses cite.
+pub use Rattle.search_machine.specs.Ground
+pub use Rattle.search_machine.specs.Machine
+pub use Rattle.search_machine.specs.Outcome
+pub use Rattle.search_machine.specs.Legal
+pub use Rattle.search_machine.specs.OwnRecord
+pub use Rattle.search_machine.specs.Calls
+pub use Rattle.search_machine.specs.Replies
+pub use Rattle.search_machine.specs.Schedules
 pub use Rattle.series_core.specs.Collection
-pub use Rattle.series_core.specs.Distance
-pub use Rattle.series_core.specs.Pairs
-pub use Rattle.series_core.specs.Order
 pub use Rattle.series_core.specs.Answer
-pub use Rattle.leaf_queues.specs.PlainQueue
 pub use Rattle.lower_bound.specs.Bound
 pub use Rattle.subtree_build.specs.Fits
 pub use Rattle.subtree_build.specs.Index

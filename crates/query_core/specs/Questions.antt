@@ -15,7 +15,7 @@ use Rattle.subtree_build.specs.Index.{IndexParts, IsIndex, leaf_at}
 use Rattle.subtree_build.specs.Members.{series_at, numbers_of}
 use Rattle.subtree_build.specs.Outline.{leaf_numbers}
 use Rattle.subtree_build.specs.Start.{start_leaf_of}
-use Rattle.query_core.specs.Ground.{Ground}
+use Rattle.search_machine.specs.Ground.{Ground}
 
 -- a question: the k nearest series of a collection to a query, where words are made by this layout
 pub record Question : Type 0 where

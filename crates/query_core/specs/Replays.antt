@@ -1,11 +1,12 @@
 -- What keeps a schedule from an outcome: a number that is no worker's, or a worker that is not done at its end.
 use Rattle.std.specs.Prelude.{◌≡◌, ◌≢◌, ℕ, ◌<◌, ◌≤◌, List, Some, slice_get}
-use Rattle.query_core.specs.declared.phase.Phase.TheVariants.{Done}
+use Rattle.search_machine.specs.declared.phase.Phase.TheVariants.{Done}
 use Rattle.query_core.specs.declared.playing.ReplayError.{ReplayError}
 use Rattle.query_core.specs.declared.playing.ReplayError.TheVariants.{NoMemory, Stranger, Unfinished}
-use Rattle.query_core.specs.Ground.{Ground}
-use Rattle.query_core.specs.Machine.{Worker, played}
-use Rattle.query_core.specs.Outcome.{AllDone}
+use Rattle.search_machine.specs.Ground.{Ground}
+use Rattle.search_machine.specs.Machine.{played}
+use Rattle.search_machine.specs.Workers.{Worker}
+use Rattle.search_machine.specs.Outcome.{AllDone}
 
 -- each entry of the schedule before place n is a worker's number
 abbrev pub NamesWorkers : Ground → List ℕ → ℕ → Type 0

@@ -3,14 +3,16 @@ use Rattle.std.specs.Prelude.{◌≡◌, ◌≢◌, ℕ, ◌<◌, ◌≤◌, Lis
 use Rattle.series_core.specs.declared.distance.TheConstants.{NONE}
 use Rattle.series_core.specs.declared.pair.Pair.{Pair}
 use Rattle.subtree_build.specs.Index.{IndexParts}
-use Rattle.query_core.specs.declared.outcome.Start.{Start}
-use Rattle.query_core.specs.Ground.{Ground}
-use Rattle.query_core.specs.Machine.{Worker, State, played}
-use Rattle.query_core.specs.OneThread.{Held}
-use Rattle.query_core.specs.Outcome.{AllDone, start_of}
+use Rattle.search_machine.specs.declared.outcome.Start.{Start}
+use Rattle.search_machine.specs.Ground.{Ground}
+use Rattle.search_machine.specs.Machine.{State, played}
+use Rattle.search_machine.specs.Workers.{Worker}
+use Rattle.search_machine.specs.Shared.{Held}
+use Rattle.search_machine.specs.Outcome.{AllDone}
+use Rattle.search_machine.specs.Basics.{start_of}
 use Rattle.query_core.specs.Questions.{Question, CanBeSearched, last_of, search_over}
 use Rattle.query_core.specs.Working.{Working, IsOf, Shows, opens_as}
-use Rattle.query_core.specs.declared.phase.Phase.TheVariants.{Done}
+use Rattle.search_machine.specs.declared.phase.Phase.TheVariants.{Done}
 
 -- a team: the question and the index, the number of queues, the start, what the workers share, and the workers
 pub record TeamParts : Type 0 where

@@ -1,16 +1,16 @@
 -- What one turn of a worker does: one call, and the worker becomes what the machine's worker becomes by the reply.
-use Rattle.std.specs.Prelude.{ℕ, ◌≤◌, cond, nat_lt, ◌&&◌}
-use Rattle.query_core.specs.declared.calls.Call.{Call}
-use Rattle.query_core.specs.declared.calls.Reply.{Reply}
-use Rattle.query_core.specs.declared.calls.Reply.TheVariants.{Seen, Offered}
-use Rattle.query_core.specs.declared.phase.Onward.{Onward}
-use Rattle.query_core.specs.Ground.{Ground}
-use Rattle.query_core.specs.Machine.{Worker, in_phase, is_new, onward, scanned_by}
-use Rattle.query_core.specs.OwnRecord.{Member}
-use Rattle.query_core.specs.Calls.{call_of}
+use Rattle.std.specs.Prelude.{◌≡◌, ℕ, ◌≤◌, cond, nat_lt, ◌&&◌}
+use Rattle.search_machine.specs.declared.calls.Call.{Call}
+use Rattle.search_machine.specs.declared.calls.Reply.{Reply}
+use Rattle.search_machine.specs.declared.calls.Reply.TheVariants.{Seen, Offered}
+use Rattle.search_machine.specs.declared.phase.Onward.{Onward}
+use Rattle.search_machine.specs.Ground.{Ground}
+use Rattle.search_machine.specs.Workers.{Worker, in_phase, is_new, onward, scanned_by}
+use Rattle.search_machine.specs.OwnRecord.{Member}
+use Rattle.search_machine.specs.Calls.{call_of}
 use Rattle.query_core.specs.Questions.{last_of, search_over}
-use Rattle.query_core.specs.Replies.{ReplyFits, after}
-use Rattle.query_core.specs.Working.{Working, Shows}
+use Rattle.search_machine.specs.Replies.{ReplyFits, after}
+use Rattle.query_core.specs.Working.{IsOf, Working, Shows}
 
 -- what the code's worker searches, where there are so many workers
 abbrev pub search_of : Working → ℕ → Ground
@@ -32,6 +32,13 @@ pub record TurnsBy {H : Type 0} (did : H → Call → Reply → H → Type 0) (b
   pub not_low : ReplyNotLow (last_of w.question) reply
   pub next : (workers : ℕ) (x : Member) → Shows w x.worker
       → Shows v (after (search_of w workers) w.number x reply).worker
+
+-- one turn with its reply: the worker keeps its place, and the hand its floor and its root children
+pub record Acts {H : Type 0} (floor roots : H → ℕ) (did : H → Call → Reply → H → Type 0) (before after_it : H)
+    (w v : Working) (reply : Reply) : Type 0 where
+  pub turns : TurnsBy did before after_it w v reply
+  pub place : IsOf w.question w.index w.queues w.number v
+  pub hand : (floor after_it ≡ floor before) × (roots after_it ≡ roots before)
 
 -- one turn, by some reply
 abbrev pub Turns : {H : Type 0} → (H → Call → Reply → H → Type 0) → H → H → Working → Working → Type 0

@@ -12,8 +12,8 @@ use Rattle.subtree_build.specs.Outline.{outline, leaf_numbers}
 use Rattle.subtree_build.specs.Start.{node_at}
 use Rattle.series_core.specs.declared.queue_words.Entry.{Entry}
 use Rattle.query_core.specs.declared.step.Step.{Step}
-use Rattle.query_core.specs.Ground.{Ground}
-use Rattle.query_core.specs.Machine.{skip, without}
+use Rattle.search_machine.specs.Ground.{Ground}
+use Rattle.search_machine.specs.Workers.{skip, without}
 use Rattle.query_core.specs.Questions.{leaf_bound}
 
 -- a walk: the index, and the leaves below the nodes that are left, in order

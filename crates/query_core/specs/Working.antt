@@ -7,13 +7,13 @@ use Rattle.series_core.specs.declared.pair.Pair.{Pair}
 use Rattle.lower_bound.specs.Bound.{View}
 use Rattle.subtree_build.specs.Index.{IndexParts}
 use Rattle.subtree_build.specs.Start.{start_leaf_of}
-use Rattle.query_core.specs.declared.phase.Phase.{Phase}
-use Rattle.query_core.specs.declared.phase.Phase.TheVariants.{Claim, Look, Give, Late, Aim, Pop, Offer, Done}
-use Rattle.query_core.specs.declared.phase.Onward.{Onward}
-use Rattle.query_core.specs.declared.phase.Onward.TheVariants.{Look as ToLook, Aim as ToAim}
-use Rattle.query_core.specs.Ground.{Ground, pair_of, opening}
-use Rattle.query_core.specs.Machine.{Worker, is_new, leader, idle}
-use Rattle.query_core.specs.Outcome.{is_start}
+use Rattle.search_machine.specs.declared.phase.Phase.{Phase}
+use Rattle.search_machine.specs.declared.phase.Phase.TheVariants.{Claim, Look, Give, Late, Aim, Pop, Offer, Done}
+use Rattle.search_machine.specs.declared.phase.Onward.{Onward}
+use Rattle.search_machine.specs.declared.phase.Onward.TheVariants.{Look as ToLook, Aim as ToAim}
+use Rattle.search_machine.specs.Ground.{Ground, pair_of, opening}
+use Rattle.search_machine.specs.Workers.{Worker, is_new, leader, idle}
+use Rattle.search_machine.specs.Outcome.{is_start}
 use Rattle.query_core.specs.Questions.{Question, CanBeSearched, leaf_bound, view_in, search_over}
 use Rattle.query_core.specs.Walks.{Walked}
 

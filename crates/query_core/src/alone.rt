@@ -2,16 +2,16 @@
 ghost use Rattle.std.specs.Prelude.{◌≡◌, ◌≤◌, IfOk, length};
 ghost use Rattle.series_core.specs.Answer.{answer};
 ghost use Rattle.subtree_build.specs.Fits.{Fits as IndexFits};
-ghost use Rattle.query_core.specs.Ground.{Fits, enough_turns};
-ghost use Rattle.query_core.specs.Machine.{opened};
+ghost use Rattle.search_machine.specs.Ground.{Fits, enough_turns};
+ghost use Rattle.search_machine.specs.Machine.{opened};
 ghost use Rattle.query_core.specs.Teams.{EndsAlone, StandsAt, searched};
-ghost use Rattle.query_core.specs.Legal.{Legal, IsStraight};
+ghost use Rattle.search_machine.specs.Legal.{Legal, IsStraight};
 ghost use Rattle.query_core.specs.Questions.{search_over};
 
-use crate::outcome::Outcome;
 use crate::task::Task;
 use crate::team::{Team, search_law};
 use outside::NoMemory;
+use search_machine::Outcome;
 use series_core::{PairList, Rows};
 use std::alloc::Global;
 use subtree_build::Index;

@@ -3,15 +3,15 @@
 ghost use Rattle.std.specs.Prelude.{◌≡◌, ◌<◌, IfOk, length, map};
 ghost use Rattle.series_core.specs.Pairs.{smallest};
 ghost use Rattle.query_core.specs.Fates.{AreMarked, AreUnqueued, fate_unqueued, leaf_of};
-ghost use Rattle.query_core.specs.Machine.{State};
-ghost use Rattle.query_core.specs.Outcome.{fates_from, first_place, is_start, line_of, outcome};
-ghost use Rattle.query_core.specs.Sound.{scans};
+ghost use Rattle.search_machine.specs.Machine.{State};
+ghost use Rattle.search_machine.specs.Outcome.{fates_from, first_place, is_start, line_of, outcome};
+ghost use Rattle.search_machine.specs.Sound.{scans};
 ghost use Rattle.query_core.specs.Teams.{StandsAt, all_lists, searched};
 
-use crate::outcome::{EntryList, Fate, FateList, LineList, Outcome, QueueLine, Start};
 use crate::team::Team;
 use leaf_queues::Queue;
 use outside::NoMemory;
+use search_machine::{EntryList, Fate, FateList, LineList, Outcome, QueueLine, Start};
 use series_core::{Entry, KBest, PairList, Rows};
 use std::alloc::Global;
 

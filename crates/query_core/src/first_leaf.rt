@@ -1,14 +1,14 @@
 //! The opening of a search: the leaf where it starts, and the list that the start leaf's members give.
 ghost use Rattle.std.specs.Prelude.{◌≡◌, IfOk};
 ghost use Rattle.subtree_build.specs.Fits.{Fits as IndexFits};
-ghost use Rattle.query_core.specs.Ground.{opening};
-ghost use Rattle.query_core.specs.Outcome.{start_of};
+ghost use Rattle.search_machine.specs.Ground.{opening};
+ghost use Rattle.search_machine.specs.Basics.{start_of};
 ghost use Rattle.query_core.specs.Questions.{search_over};
 
-use crate::outcome::Start;
 use crate::scan::distance_of_worst;
 use crate::task::Task;
 use outside::NoMemory;
+use search_machine::Start;
 use series_core::{KBest, NONE, Rows};
 use std::alloc::Global;
 use subtree_build::Index;
@@ -24,6 +24,7 @@ impl<'a, R: Rows> Task<'a, R> {
           pairs = opening (search_over self.now index.now 1 1);
         }) }
     {
+        // for the fact that the index is one
         let _leaves = index.leaf_count();
         let mut list = KBest::new(alloc, self.k())?;
         let Some(leaf) = index.start_leaf(self.view()) else {

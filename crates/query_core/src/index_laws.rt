@@ -2,8 +2,8 @@
 //! is the law.
 ghost use Rattle.std.specs.Prelude.{ℕ, ◌<◌};
 ghost use Rattle.subtree_build.specs.Index.{IndexParts};
-ghost use Rattle.query_core.specs.Ground.{Fits};
-ghost use Rattle.query_core.specs.Measures.{Measures};
+ghost use Rattle.search_machine.specs.Ground.{Fits};
+ghost use Rattle.search_machine.specs.Measures.{Measures};
 ghost use Rattle.query_core.specs.Questions.{Question, CanBeSearched, search_over};
 
 /// An index that fits the collection can be searched by any workers over any queues: each series has a home of its own, each

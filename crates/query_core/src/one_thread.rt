@@ -1,19 +1,18 @@
 //! What the workers share, held by one thread in plain fields. Each call is what the machine's turn makes of the state.
 ghost use Rattle.std.specs.Prelude.{◌≡◌, ◌≤◌, EachIndex, IfOk, length, slice_index, vec_len};
-ghost use Rattle.query_core.specs.Ground.{Ground};
-ghost use Rattle.query_core.specs.Machine.{capacity_of, empty_queues};
+ghost use Rattle.search_machine.specs.Ground.{Ground};
+ghost use Rattle.search_machine.specs.Machine.{capacity_of, empty_queues};
 ghost use Rattle.query_core.specs.OneThread.{opening_hand};
 ghost use Rattle.query_core.specs.Questions.{last_of, search_over};
 
 use crate::shared::Shared;
 use crate::task::Task;
-use leaf_queues::{Call as QueueCall, Queue, Reply as QueueReply};
+use leaf_queues::Queue;
 use outside::NoMemory;
 use series_core::{Entry, PopReply, PutReply, Rows};
 use std::alloc::Global;
 use std::marker::Model;
 use subtree_build::Index;
-use turn_lock::Object;
 
 /// What the workers of one task share, where all of them take their turns in one thread.
 #[derive(Drop)]
@@ -26,7 +25,8 @@ pub struct OneThread<'a, R: Rows> {
 }
 
 impl<'a, R: Rows> Model for OneThread<'a, R> {
-    ghost use Rattle.query_core.specs.OneThread.{Held, IsHeld};
+    ghost use Rattle.query_core.specs.OneThread.{IsHeld};
+    ghost use Rattle.search_machine.specs.Shared.{Held};
     ghost use Rattle.query_core.specs.Questions.{last_of};
 
     ghost Value = { Held };
@@ -111,7 +111,7 @@ fn leaves_of_each(alloc: Global, leaves: u32, queues: u32) -> Result<Vec<u32>, N
 }
 
 impl<'a, R: Rows> Shared for OneThread<'a, R> {
-    ghost use Rattle.query_core.specs.OneThread.{Did};
+    ghost use Rattle.search_machine.specs.Shared.{Did};
 
     ghost floor = { λ h. h.floor };
 
@@ -142,10 +142,7 @@ impl<'a, R: Rows> Shared for OneThread<'a, R> {
     /// A put that names no queue changes nothing, and is answered Filled(0).
     fn put(&mut self, queue: u32, entry: Entry) -> PutReply {
         match self.queues.get_mut(queue as usize) {
-            Some(queue) => match queue.apply(0, QueueCall::Put(entry)) {
-                QueueReply::Put(reply) => reply,
-                QueueReply::Pop(_) => unreachable!(),
-            },
+            Some(queue) => queue.put(entry),
             None => PutReply::Filled(0),
         }
     }
@@ -153,10 +150,7 @@ impl<'a, R: Rows> Shared for OneThread<'a, R> {
     /// A pop that names no queue changes nothing, and is answered Closed with the limit.
     fn pop(&mut self, queue: u32, limit: u64) -> PopReply {
         match self.queues.get_mut(queue as usize) {
-            Some(queue) => match queue.apply(0, QueueCall::Pop(limit)) {
-                QueueReply::Pop(reply) => reply,
-                QueueReply::Put(_) => unreachable!(),
-            },
+            Some(queue) => queue.pop(limit),
             None => PopReply::Closed(limit),
         }
     }

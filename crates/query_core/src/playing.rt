@@ -1,19 +1,19 @@
 //! A search by a schedule: each entry is one turn of that worker.
 ghost use Rattle.std.specs.Prelude.{◌≡◌, ◌≤◌, ◌≢◌, ℕ, IfOk, IfErr, IfNone, IfSome, Err};
 ghost use Rattle.subtree_build.specs.Fits.{Fits as IndexFits};
-ghost use Rattle.query_core.specs.Ground.{Fits, enough_turns};
-ghost use Rattle.query_core.specs.Legal.{Legal};
-ghost use Rattle.query_core.specs.Machine.{opened, played};
-ghost use Rattle.query_core.specs.Outcome.{outcome};
+ghost use Rattle.search_machine.specs.Ground.{Fits, enough_turns};
+ghost use Rattle.search_machine.specs.Legal.{Legal};
+ghost use Rattle.search_machine.specs.Machine.{opened, played};
+ghost use Rattle.search_machine.specs.Outcome.{outcome};
 ghost use Rattle.query_core.specs.Questions.{search_over};
 ghost use Rattle.query_core.specs.Replays.{FirstStranger, IsPlayed, NoStranger, Refuses};
-ghost use Rattle.query_core.specs.Schedules.{NamesEach};
+ghost use Rattle.search_machine.specs.Schedules.{NamesEach};
 ghost use Rattle.query_core.specs.Teams.{StandsAt, searched};
 
-use crate::outcome::Outcome;
 use crate::task::Task;
 use crate::team::{Team, search_law};
 use outside::NoMemory;
+use search_machine::Outcome;
 use series_core::Rows;
 use std::alloc::Global;
 use subtree_build::Index;
@@ -73,7 +73,6 @@ pub fn replay<R: Rows>(
 
 // Gives the turns of the schedule up to the first stranger, and answers its place; None where there is none.
 fn play<R: Rows>(team: &mut Team<'_, R>, schedule: &[u32]) -> Option<u64>
-    requires fits { Fits (searched team.old) }
     requires opens { StandsAt team.old (opened (searched team.old)) }
     ensures same { searched team.new ≡ searched team.old }
     ensures none { IfNone result (NoStranger (searched team.old) schedule.now) }

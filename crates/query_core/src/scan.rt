@@ -4,7 +4,7 @@ ghost use Rattle.std.specs.Prelude.{◌≡◌, ℕ, ◌-◌};
 ghost use Rattle.std.specs.List.{All};
 ghost use Rattle.subtree_build.specs.Index.{IndexParts};
 ghost use Rattle.subtree_build.specs.Members.{numbers_of};
-ghost use Rattle.query_core.specs.Ground.{scan, scan_one};
+ghost use Rattle.search_machine.specs.Ground.{scan, scan_one};
 ghost use Rattle.series_core.specs.Order.{distance_at};
 ghost use Rattle.query_core.specs.Questions.{search_over, IsMemberOf};
 
@@ -23,6 +23,7 @@ impl<'a, R: Rows> Task<'a, R> {
         ensures pairs { (ix : IndexParts) (workers queues : ℕ) → list.new.pairs
             ≡ scan (search_over self.now ix workers queues) limit (numbers_of members.now) list.old.pairs }
     {
+        // for the fact that the list is one: in order, and no longer than its limit
         let _held = list.pairs();
         for member in members {
             self.meet(member, limit, list);
@@ -37,6 +38,7 @@ impl<'a, R: Rows> Task<'a, R> {
         ensures pairs { (ix : IndexParts) (workers queues : ℕ) → list.new.pairs
             ≡ scan_one (search_over self.now ix workers queues) limit member.now.number list.old.pairs }
     {
+        // for the fact that the list is one: in order, and no longer than its limit
         let _held = list.pairs();
         let most = far(limit).min(distance_of_worst(list));
         if self.view().bound_full(&member.full) > most {

@@ -5,8 +5,8 @@ use series_core::{Entry, PopReply, PutReply};
 
 /// What the workers of a search share, as one of them sees it. Each call is one step.
 pub trait Shared {
-    ghost use Rattle.query_core.specs.declared.calls.Call.{Call};
-    ghost use Rattle.query_core.specs.declared.calls.Reply.{Reply};
+    ghost use Rattle.search_machine.specs.declared.calls.Call.{Call};
+    ghost use Rattle.search_machine.specs.declared.calls.Reply.{Reply};
 
     /// No limit falls below it.
     ghost floor: { Self → ℕ };

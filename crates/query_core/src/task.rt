@@ -58,6 +58,7 @@ impl<'a, R: Rows> Task<'a, R> {
           layout = layout.now;
         } }
     {
+        // for the facts that the rows are a collection, and that the cuts divide a row
         let _count = rows.count();
         let _segments = layout.cuts.segments();
         values_fit(query);

@@ -1,21 +1,21 @@
 //! A team: all workers of a search over one hand in one thread. A turn of its worker is a turn of the machine.
 ghost use Rattle.std.specs.Prelude.{◌≡◌, ℕ, ◌<◌, ◌≤◌, ◌↔◌, IfOk, IsTrue, MatchOption, length};
 ghost use Rattle.subtree_build.specs.Fits.{Fits as IndexFits};
-ghost use Rattle.query_core.specs.Ground.{Fits, answer, last, opening};
+ghost use Rattle.search_machine.specs.Ground.{Fits, answer, last, opening};
 ghost use Rattle.series_core.specs.Answer.{answer as collection_answer};
-ghost use Rattle.query_core.specs.Machine.{State, opened, turn};
-ghost use Rattle.query_core.specs.Outcome.{start_of};
+ghost use Rattle.search_machine.specs.Machine.{State, opened, turn};
+ghost use Rattle.search_machine.specs.Basics.{start_of};
 ghost use Rattle.query_core.specs.Questions.{CanBeSearched, last_of, search_over};
-ghost use Rattle.query_core.specs.Sound.{Sound};
+ghost use Rattle.search_machine.specs.Sound.{Sound};
 ghost use Rattle.query_core.specs.Teams.{StandsAt, AreHired, IsFirstBusy, AreDone, limit_of, searched};
 
-use crate::answer_laws::answer_law;
 use crate::index_laws::index_law;
 use crate::one_thread::OneThread;
-use crate::outcome::Start;
 use crate::task::Task;
 use crate::worker::Worker;
 use outside::NoMemory;
+use search_machine::Start;
+use search_machine::laws::answer_law;
 use series_core::{KBest, NONE, Rows};
 use std::alloc::Global;
 use std::marker::Model;
@@ -102,7 +102,7 @@ impl<'a, R: Rows> Team<'a, R> {
     pub(crate) fn turn(&mut self, i: u32)
         requires place { i < length self.old.workers }
         ensures same { searched self.new ≡ searched self.old }
-        ensures turns { (s : State) → Sound (searched self.old) s → StandsAt self.old s
+        ensures turns { (s : State) → StandsAt self.old s
             → StandsAt self.new (turn (searched self.old) i s) }
     {
         if self.workers[i as usize].is_done() {
@@ -134,6 +134,7 @@ pub(crate) fn search_law<R: Rows>(task: &Task<'_, R>, index: &Index)
     ensures answer { (workers queues : ℕ) → answer (search_over task.now index.now workers queues)
         ≡ collection_answer task.now.collection task.now.query task.now.k }
 {
+    // for the facts that the task is a question, and that the index is one
     let _k = task.k();
     let _leaves = index.leaf_count();
     index_law();

@@ -1,16 +1,15 @@
 //! A worker's turn: one call on what is shared, and what the worker makes of the reply. One function a phase.
 ghost use Rattle.std.specs.Prelude.{◌≡◌, ◌≢◌, ℕ, suc, ◌<◌, ◌≤◌, ◌↔◌, false, cond, nat_lt, length};
-ghost use Rattle.query_core.specs.Ground.{worst};
-ghost use Rattle.query_core.specs.Machine.{Worker as Shown, onward, scanned_by};
+ghost use Rattle.search_machine.specs.Ground.{worst};
+ghost use Rattle.search_machine.specs.Workers.{Worker as Shown, onward, scanned_by};
 ghost use Rattle.query_core.specs.Questions.{last_of};
-ghost use Rattle.query_core.specs.Turning.{Turns, TurnsBy, search_of, taken_by};
+ghost use Rattle.query_core.specs.Turning.{Acts, Turns, search_of, taken_by};
 ghost use Rattle.query_core.specs.Working.{IsOf, OnwardInRange, Shows, is_marked};
 
-use crate::calls::Reply;
-use crate::phase::{Onward, Phase};
 use crate::scan::distance_of_worst;
 use crate::shared::Shared;
 use crate::worker::Worker;
+use search_machine::{Onward, Phase, Reply};
 use series_core::{Entry, PopReply, PutReply, Rows, far};
 
 /// Whether a worker has more turns.
@@ -34,6 +33,7 @@ impl<'a, R: Rows> Worker<'a, R> {
         ensures place { IsOf self.old.question self.old.index self.old.queues self.old.number self.new }
         ensures hand { (S.floor hand.new ≡ S.floor hand.old) × (S.roots hand.new ≡ S.roots hand.old) }
     {
+        // the reply is the one by which the turn is a turn of the machine
         let _reply = self.act(hand);
         if self.phase == Phase::Done {
             Turn::Done
@@ -47,9 +47,7 @@ impl<'a, R: Rows> Worker<'a, R> {
         requires running { self.old.phase ≢ Phase.Done }
         requires floor { S.floor hand.old ≡ last_of self.old.question }
         requires roots { S.roots hand.old ≡ length self.old.index.roots }
-        ensures turns { TurnsBy S.did hand.old hand.new self.old self.new result }
-        ensures place { IsOf self.old.question self.old.index self.old.queues self.old.number self.new }
-        ensures hand { (S.floor hand.new ≡ S.floor hand.old) × (S.roots hand.new ≡ S.roots hand.old) }
+        ensures { Acts S.floor S.roots S.did hand.old hand.new self.old self.new result }
     {
         match self.phase {
             Phase::Claim => self.claim(hand),
@@ -67,9 +65,7 @@ impl<'a, R: Rows> Worker<'a, R> {
     fn claim<S: Shared>(&mut self, hand: &mut S) -> Reply
         requires phase { self.old.phase ≡ Phase.Claim }
         requires roots { S.roots hand.old ≡ length self.old.index.roots }
-        ensures turns { TurnsBy S.did hand.old hand.new self.old self.new result }
-        ensures place { IsOf self.old.question self.old.index self.old.queues self.old.number self.new }
-        ensures hand { (S.floor hand.new ≡ S.floor hand.old) × (S.roots hand.new ≡ S.roots hand.old) }
+        ensures { Acts S.floor S.roots S.did hand.old hand.new self.old self.new result }
     {
         match hand.claim() {
             Some(root) => {
@@ -88,9 +84,7 @@ impl<'a, R: Rows> Worker<'a, R> {
     fn look<S: Shared>(&mut self, hand: &mut S) -> Reply
         requires phase { self.old.phase ≡ Phase.Look }
         requires floor { S.floor hand.old ≡ last_of self.old.question }
-        ensures turns { TurnsBy S.did hand.old hand.new self.old self.new result }
-        ensures place { IsOf self.old.question self.old.index self.old.queues self.old.number self.new }
-        ensures hand { (S.floor hand.new ≡ S.floor hand.old) × (S.roots hand.new ≡ S.roots hand.old) }
+        ensures { Acts S.floor S.roots S.did hand.old hand.new self.old self.new result }
     {
         let limit = hand.read();
         match self.walk.next(self.task.view(), far(limit), self.start) {
@@ -109,9 +103,7 @@ impl<'a, R: Rows> Worker<'a, R> {
     // Puts a leaf into its queue; where that is refused, keeps it in hand.
     fn give<S: Shared>(&mut self, hand: &mut S, leaf: u32) -> Reply
         requires phase { self.old.phase ≡ Phase.Give leaf }
-        ensures turns { TurnsBy S.did hand.old hand.new self.old self.new result }
-        ensures place { IsOf self.old.question self.old.index self.old.queues self.old.number self.new }
-        ensures hand { (S.floor hand.new ≡ S.floor hand.old) × (S.roots hand.new ≡ S.roots hand.old) }
+        ensures { Acts S.floor S.roots S.did hand.old hand.new self.old self.new result }
     {
         let bound = self.bound;
         let told = hand.put(leaf % self.queues, Entry { bound, leaf });
@@ -126,9 +118,7 @@ impl<'a, R: Rows> Worker<'a, R> {
     fn scan_late<S: Shared>(&mut self, hand: &mut S, leaf: u32) -> Reply
         requires phase { self.old.phase ≡ Phase.Late leaf }
         requires floor { S.floor hand.old ≡ last_of self.old.question }
-        ensures turns { TurnsBy S.did hand.old hand.new self.old self.new result }
-        ensures place { IsOf self.old.question self.old.index self.old.queues self.old.number self.new }
-        ensures hand { (S.floor hand.new ≡ S.floor hand.old) × (S.roots hand.new ≡ S.roots hand.old) }
+        ensures { Acts S.floor S.roots S.did hand.old hand.new self.old self.new result }
     {
         let limit = hand.read();
         if self.bound_of(leaf) <= far(limit) {
@@ -144,9 +134,7 @@ impl<'a, R: Rows> Worker<'a, R> {
     fn aim<S: Shared>(&mut self, hand: &mut S, place: u32) -> Reply
         requires phase { self.old.phase ≡ Phase.Aim place }
         requires floor { S.floor hand.old ≡ last_of self.old.question }
-        ensures turns { TurnsBy S.did hand.old hand.new self.old self.new result }
-        ensures place { IsOf self.old.question self.old.index self.old.queues self.old.number self.new }
-        ensures hand { (S.floor hand.new ≡ S.floor hand.old) × (S.roots hand.new ≡ S.roots hand.old) }
+        ensures { Acts S.floor S.roots S.did hand.old hand.new self.old self.new result }
     {
         let limit = hand.read();
         self.phase = Phase::Pop(place, limit);
@@ -157,9 +145,7 @@ impl<'a, R: Rows> Worker<'a, R> {
     // and is done after the last.
     fn pop<S: Shared>(&mut self, hand: &mut S, place: u32, limit: u64) -> Reply
         requires phase { self.old.phase ≡ Phase.Pop place limit }
-        ensures turns { TurnsBy S.did hand.old hand.new self.old self.new result }
-        ensures place { IsOf self.old.question self.old.index self.old.queues self.old.number self.new }
-        ensures hand { (S.floor hand.new ≡ S.floor hand.old) × (S.roots hand.new ≡ S.roots hand.old) }
+        ensures { Acts S.floor S.roots S.did hand.old hand.new self.old self.new result }
     {
         match hand.pop((self.number + place) % self.queues, limit) {
             PopReply::Leaf(entry) => {
@@ -177,9 +163,7 @@ impl<'a, R: Rows> Worker<'a, R> {
     fn offer<S: Shared>(&mut self, hand: &mut S, next: Onward) -> Reply
         requires phase { self.old.phase ≡ Phase.Offer next }
         requires floor { S.floor hand.old ≡ last_of self.old.question }
-        ensures turns { TurnsBy S.did hand.old hand.new self.old self.new result }
-        ensures place { IsOf self.old.question self.old.index self.old.queues self.old.number self.new }
-        ensures hand { (S.floor hand.new ≡ S.floor hand.old) × (S.roots hand.new ≡ S.roots hand.old) }
+        ensures { Acts S.floor S.roots S.did hand.old hand.new self.old self.new result }
     {
         let offered = hand.offer(self.worst());
         self.phase = next.phase();

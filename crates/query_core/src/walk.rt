@@ -7,7 +7,7 @@ ghost use Rattle.isax_word.specs.Word.{part_at, child_word};
 ghost use Rattle.lower_bound.specs.Bound.{View, word_bound};
 ghost use Rattle.subtree_build.specs.Outline.{leaf_numbers};
 ghost use Rattle.subtree_build.specs.Start.{node_at};
-ghost use Rattle.query_core.specs.Ground.{Ground};
+ghost use Rattle.search_machine.specs.Ground.{Ground};
 ghost use Rattle.query_core.specs.Questions.{leaf_bound};
 ghost use Rattle.query_core.specs.Walks.{Advances, IsAwaited, IsEntry, IsGiven, IsVisited, IsWalk, Reaches, leaves_of_walk, most_steps};
 
@@ -56,6 +56,7 @@ impl<'a> Walk<'a> {
     pub(crate) fn new(alloc: Global, index: &'a Index) -> Result<Walk<'a>, NoMemory>
         ensures { IfOk result (λ w. w ≡ record { index = index.now; leaves = [] }) }
     {
+        // for the fact that the index is one
         let _segments = index.segments();
         Ok(Walk {
             index,
@@ -83,6 +84,7 @@ impl<'a> Walk<'a> {
         ensures next { (g : Ground) → g.bound ≡ leaf_bound view.now self.old.index
             → Advances g start limit self.old.leaves self.new.leaves (option_map (λ e. e.leaf) result) }
     {
+        // for the fact that the view is one
         let _segments = view.segments();
         let root = self.root.take();
         if let Some(entry) = open(self.index, root, &mut self.steps, view, limit, start) {
@@ -125,6 +127,7 @@ fn open<'a>(
     ensures next { (g : Ground) → g.bound ≡ leaf_bound view.now index.now
         → Reaches g start limit (leaves_of_walk index.now root steps.old.items) steps.new.items result }
 {
+    // for the fact that the view is one
     let _segments = view.segments();
     let Some(i) = root else {
         return None;

@@ -2,16 +2,15 @@
 ghost use Rattle.std.specs.Prelude.{◌≡◌, ◌<◌, ◌≤◌, ◌↔◌, IsTrue, not, IfOk, IfSome};
 ghost use Rattle.std.specs.Option.{option_map};
 ghost use Rattle.subtree_build.specs.Fits.{Fits as IndexFits};
-ghost use Rattle.query_core.specs.Outcome.{start_of};
-ghost use Rattle.query_core.specs.Straight.{fills};
+ghost use Rattle.search_machine.specs.Basics.{start_of};
+ghost use Rattle.search_machine.specs.Workers.{fills};
 ghost use Rattle.query_core.specs.Questions.{search_over};
 ghost use Rattle.query_core.specs.Working.{AreOpeningMarks, IsOf, Shows, opened_list, opens_as};
 
-use crate::outcome::Start;
-use crate::phase::{Onward, Phase};
 use crate::task::Task;
 use crate::walk::Walk;
 use outside::NoMemory;
+use search_machine::{Onward, Phase, Start};
 use series_core::{KBest, Rows};
 use std::alloc::Global;
 use std::marker::Model;
@@ -37,7 +36,7 @@ pub struct Worker<'a, R: Rows> {
 impl<'a, R: Rows> Model for Worker<'a, R> {
     ghost use Rattle.std.specs.Coded.{codes};
     ghost use Rattle.subtree_build.specs.contracts.node.Node as node;
-    ghost use Rattle.query_core.specs.Machine.{without};
+    ghost use Rattle.search_machine.specs.Workers.{without};
     ghost use Rattle.query_core.specs.Working.{Working, IsWorking};
 
     ghost Value = { Working };
@@ -91,6 +90,7 @@ impl<'a, R: Rows> Worker<'a, R> {
         ensures place { IfOk result (λ w. IsOf task.now index.now queues number w) }
         ensures opens { IfOk result (λ w. Shows w (opens_as (search_over task.now index.now 1 queues) number)) }
     {
+        // for the fact that the task is a question
         let _k = task.k();
         let start = leaf_of(start);
         let marks = opened_marks(alloc, index.leaf_count() as usize, number, start)?;

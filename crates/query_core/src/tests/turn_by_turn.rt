@@ -1,7 +1,6 @@
 //! One search turn by turn: the phase, the list and the end of its worker after each turn, as worked by hand.
-use crate::Task;
-use crate::phase::Phase;
 use crate::team::Team;
+use crate::{Phase, Task};
 use breakpoints::Table;
 use isax_word::Layout;
 use outside::NoGate;

@@ -1,12 +1,10 @@
 use Rattle.std.proofs.Common.{ap, arith, subst, sym, ℕ, ◌∙◌, ◌≡◌}
 use Rattle.std.proofs.lemmas.Option.{slice_get_within}
 use Rattle.std.specs.Prelude.{replicate}
-use Rattle.query_core.specs.Ground.{Ground}
-use Rattle.query_core.specs.Machine.{played, turn}
-use Rattle.query_core.specs.Outcome.{AllDone}
-use Rattle.query_core.specs.Sound.{Sound}
+use Rattle.search_machine.specs.Ground.{Ground}
+use Rattle.search_machine.specs.Machine.{played, turn}
+use Rattle.search_machine.specs.Outcome.{AllDone}
 use Rattle.query_core.specs.Teams.{StandsAt, searched}
-use Rattle.query_core.proofs.Schedules.{played_sound}
 use Rattle.query_core.proofs.TeamPlays.{all_done, alone_done, alone_more}
 use Rattle.query_core.proofs.alone.finish.Goals as goal
 
@@ -34,10 +32,6 @@ loop-turns-preserved g c =
     let alone = c.requires.alone in
     let low = slice_get_within c.loop-turns.team.workers c.in-Some.i c.in-Some.ensures.worker c.in-Some.ensures.there in
     let zero : c.in-Some.i ≡ 0 = omega arith in
-    let sound : Sound (searched c.loop-turns.team) (played (searched c.args.team.now) (replicate c.loop-turns._turns 0)) =
-    subst (λ (h : Ground). Sound h (played (searched c.args.team.now) (replicate c.loop-turns._turns 0)))
-    (sym was.same)
-    (played_sound (searched c.args.team.now) c.requires.fits (replicate c.loop-turns._turns 0)) in
     record {
       same = c.turn.ensures.same ∙ was.same;
       stands =
@@ -46,7 +40,7 @@ loop-turns-preserved g c =
           (played (searched c.args.team.now) (replicate c.loop-turns._turns 0)))) zero
           (subst (λ (h : Ground). StandsAt c.turn.new.self (turn h c.in-Some.i
           (played (searched c.args.team.now) (replicate c.loop-turns._turns 0)))) was.same
-          (c.turn.ensures.turns (played (searched c.args.team.now) (replicate c.loop-turns._turns 0)) sound
+          (c.turn.ensures.turns (played (searched c.args.team.now) (replicate c.loop-turns._turns 0))
           was.stands)));
     }
 

@@ -1,6 +1,6 @@
 use Rattle.std.proofs.Common.{◌≡◌}
 use Rattle.std.specs.Prelude.{replicate}
-use Rattle.query_core.specs.Machine.{played}
+use Rattle.search_machine.specs.Machine.{played}
 use Rattle.query_core.specs.Teams.{StandsAt, searched}
 use Rattle.query_core.proofs.alone.finish.Given as goal
 

@@ -1,5 +1,5 @@
 use Rattle.std.proofs.Common.{arith, subst, sym}
-use Rattle.query_core.specs.Ground.{Fits}
+use Rattle.search_machine.specs.Ground.{Fits}
 use Rattle.query_core.proofs.alone.finished.Goals as goal
 
 pub finish-requires-clause-fits : goal.finish-requires-clause-fits

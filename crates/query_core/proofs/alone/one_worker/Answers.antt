@@ -1,10 +1,10 @@
 use Rattle.std.proofs.Common.{arith, refl, ◌∙◌, ◌≡◌}
 use Rattle.std.specs.Prelude.{replicate}
 use Rattle.series_core.specs.Answer.{answer as collection_answer}
-use Rattle.query_core.specs.declared.outcome.Outcome.{Outcome}
-use Rattle.query_core.specs.Legal.{IsStraight, Legal}
-use Rattle.query_core.specs.Machine.{played}
-use Rattle.query_core.specs.Outcome.{outcome}
+use Rattle.search_machine.specs.declared.outcome.Outcome.{Outcome}
+use Rattle.search_machine.specs.Legal.{IsStraight, Legal}
+use Rattle.search_machine.specs.Machine.{played}
+use Rattle.search_machine.specs.Outcome.{outcome}
 use Rattle.query_core.specs.Questions.{search_over}
 use Rattle.query_core.specs.Teams.{searched}
 use Rattle.query_core.proofs.TeamPlays.{alone_legal, alone_straight, if_ok}

@@ -3,8 +3,8 @@ use Rattle.std.specs.Prelude.{replicate}
 use Rattle.series_core.specs.Answer.{answer as collection_answer}
 use Rattle.series_core.specs.Pairs.{smallest}
 use Rattle.series_core.specs.declared.pair.Pair.{Pair}
-use Rattle.query_core.specs.Machine.{played}
-use Rattle.query_core.specs.Outcome.{outcome}
+use Rattle.search_machine.specs.Machine.{played}
+use Rattle.search_machine.specs.Outcome.{outcome}
 use Rattle.query_core.specs.Questions.{search_over}
 use Rattle.query_core.specs.Teams.{all_lists, searched}
 use Rattle.query_core.proofs.ListsMerged.{lists_shown}

@@ -1,5 +1,5 @@
 use Rattle.std.proofs.Common.{◌≡◌, ◌≤◌, length, map, take, vec_capacity, vec_len}
-use Rattle.query_core.specs.Outcome.{line_of}
+use Rattle.search_machine.specs.Outcome.{line_of}
 use Rattle.query_core.proofs.ended.lines.Given as goal
 
 abbrev pub invariant-loop-queue : goal.invariant-loop-queue

@@ -1,7 +1,7 @@
 use Rattle.std.proofs.Common.{List, arith, get_or, set, subst, sym, take, ◌∙◌}
 use Rattle.std.proofs.lemmas.List.{take_all, take_more}
 use Rattle.series_core.specs.declared.queue_words.Entry.{Entry}
-use Rattle.query_core.specs.declared.outcome.Fate.TheVariants.{Queue as QueueFate}
+use Rattle.search_machine.specs.declared.outcome.Fate.TheVariants.{Queue as QueueFate}
 use Rattle.query_core.specs.Fates.{AreMarked, leaf_of}
 use Rattle.query_core.proofs.FatesWritten.{mark_more, mark_past, mark_start}
 use Rattle.query_core.proofs.ended.mark.Goals as goal

@@ -1,7 +1,7 @@
 use Rattle.std.proofs.Common.{List, arith, ap, length, map, sym, take, ℕ, ◌+◌, ◌<◌, ◌≡◌, ◌∙◌}
 use Rattle.std.proofs.lemmas.List.{take_all}
 use Rattle.leaf_queues.specs.PlainQueue.{empty_queue}
-use Rattle.query_core.specs.Machine.{empty_queues, capacity_of}
+use Rattle.search_machine.specs.Machine.{empty_queues, capacity_of}
 use Rattle.query_core.proofs.EmptyQueues.{rooms_queues}
 use Rattle.query_core.proofs.one_thread.empty_queues.Goals as goal
 

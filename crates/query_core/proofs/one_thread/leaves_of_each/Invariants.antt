@@ -1,6 +1,6 @@
 use Rattle.std.proofs.Common.{◌≡◌, ◌≤◌, ℕ, ◌<◌, get_or, vec_len}
-use Rattle.query_core.specs.Ground.{Ground}
-use Rattle.query_core.specs.Machine.{capacity_of}
+use Rattle.search_machine.specs.Ground.{Ground}
+use Rattle.search_machine.specs.Machine.{capacity_of}
 use Rattle.query_core.proofs.one_thread.leaves_of_each.Given as goal
 
 abbrev pub invariant-loop-leaf : goal.invariant-loop-leaf

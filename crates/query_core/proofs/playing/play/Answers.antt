@@ -1,9 +1,7 @@
 use Rattle.std.proofs.Common.{ap, arith, get_or, subst, sym, take, ◌<◌, ◌∙◌}
-use Rattle.query_core.specs.Ground.{Ground}
-use Rattle.query_core.specs.Machine.{State, played, turn}
-use Rattle.query_core.specs.Sound.{Sound}
+use Rattle.search_machine.specs.Ground.{Ground}
+use Rattle.search_machine.specs.Machine.{played, turn}
 use Rattle.query_core.specs.Teams.{StandsAt, searched}
-use Rattle.query_core.proofs.Schedules.{played_sound}
 use Rattle.query_core.proofs.TeamPlays.{names_more, no_stranger, played_more}
 use Rattle.query_core.proofs.playing.play.Goals as goal
 
@@ -13,11 +11,6 @@ loop-at-preserved g c =
     let many = ap (λ (h : Ground). h.workers) was.same in
     let named : get_or c.args.schedule.now c.loop-at.at 0 < (searched c.args.team.now).workers =
     let low = c.has.ensures.0 c.if-not-has.false in omega arith in
-    let s : State = played (searched c.args.team.now) (take c.loop-at.at c.args.schedule.now) in
-    let sound : Sound (searched c.loop-at.team) (played (searched c.args.team.now) (take c.loop-at.at c.args.schedule.now)) =
-    subst (λ (h : Ground). Sound h (played (searched c.args.team.now) (take c.loop-at.at c.args.schedule.now)))
-    (sym was.same)
-    (played_sound (searched c.args.team.now) c.requires.fits (take c.loop-at.at c.args.schedule.now)) in
     record {
       same = c.turn.ensures.same ∙ was.same;
       names = names_more (searched c.args.team.now) c.args.schedule.now c.loop-at.at was.names named;
@@ -26,7 +19,7 @@ loop-at-preserved g c =
           (sym (played_more (searched c.args.team.now) c.args.schedule.now c.loop-at.at c.loop-at-test.true))
           (subst (λ (h : Ground). StandsAt c.turn.new.self (turn h (get_or c.args.schedule.now c.loop-at.at 0)
           (played (searched c.args.team.now) (take c.loop-at.at c.args.schedule.now)))) was.same
-          (c.turn.ensures.turns (played (searched c.args.team.now) (take c.loop-at.at c.args.schedule.now)) sound
+          (c.turn.ensures.turns (played (searched c.args.team.now) (take c.loop-at.at c.args.schedule.now))
           was.stands));
     }
 

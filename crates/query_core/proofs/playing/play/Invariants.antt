@@ -1,5 +1,5 @@
 use Rattle.std.proofs.Common.{◌≡◌, take}
-use Rattle.query_core.specs.Machine.{played}
+use Rattle.search_machine.specs.Machine.{played}
 use Rattle.query_core.specs.Replays.{NamesWorkers}
 use Rattle.query_core.specs.Teams.{StandsAt, searched}
 use Rattle.query_core.proofs.playing.play.Given as goal

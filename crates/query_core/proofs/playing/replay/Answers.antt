@@ -1,20 +1,15 @@
 use Rattle.std.proofs.Common.{subst, sym, ◌∙◌, ◌≡◌}
-use Rattle.query_core.specs.Ground.{Fits, Ground}
-use Rattle.query_core.specs.Legal.{Legal}
-use Rattle.query_core.specs.Machine.{played}
-use Rattle.query_core.specs.Outcome.{outcome}
+use Rattle.search_machine.specs.Ground.{Fits, Ground}
+use Rattle.search_machine.specs.Legal.{Legal}
+use Rattle.search_machine.specs.Machine.{played}
+use Rattle.search_machine.specs.Outcome.{outcome}
 use Rattle.query_core.specs.Questions.{search_over}
 use Rattle.query_core.specs.Replays.{FirstUnfinished, NoStranger}
 use Rattle.query_core.specs.Teams.{StandsAt, searched}
-use Rattle.query_core.proofs.Ending.{ending_legal}
-use Rattle.query_core.proofs.Schedules.{enough_done, played_sound}
+use Rattle.search_machine.proofs.Ending.{ending_legal}
+use Rattle.search_machine.proofs.Schedules.{enough_done, played_sound}
 use Rattle.query_core.proofs.TeamPlays.{all_done, first_unfinished}
 use Rattle.query_core.proofs.playing.replay.Goals as goal
-
-pub play-requires-clause-fits : goal.play-requires-clause-fits
-play-requires-clause-fits g c =
-    subst Fits (sym c.in-Ok.ensures.searches)
-    (c.search_law.ensures.fits c.args.workers c.args.queues c.requires.workers.0 c.requires.queues.0)
 
 pub returns-in-Some-first_busy-clause-refused : goal.returns-in-Some-first_busy-clause-refused
 returns-in-Some-first_busy-clause-refused g c = (

@@ -3,7 +3,7 @@
 use Rattle.std.proofs.Common.{◌≢◌, refl, Some, ℕ, ◌++◌, List, ap, sym, ◌∙◌, subst, arith}
 use Rattle.subtree_build.specs.Outline.{leaf_numbers}
 use Rattle.subtree_build.specs.Index.{root_word_at}
-use Rattle.query_core.specs.Machine.{skip, without}
+use Rattle.search_machine.specs.Workers.{skip, without}
 use Rattle.query_core.specs.Walks.{leaves_left}
 use Rattle.query_core.specs.declared.step.Step.{Step}
 use Rattle.query_core.proofs.Walking.{step_splits, room_between, both_visited}

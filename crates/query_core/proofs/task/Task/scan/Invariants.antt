@@ -1,7 +1,7 @@
 use Rattle.std.proofs.Common.{◌≡◌, ℕ, take}
 use Rattle.subtree_build.specs.Index.{IndexParts}
 use Rattle.subtree_build.specs.Members.{numbers_of}
-use Rattle.query_core.specs.Ground.{scan}
+use Rattle.search_machine.specs.Ground.{scan}
 use Rattle.query_core.specs.Questions.{search_over}
 use Rattle.query_core.proofs.task.Task.scan.Given as goal
 

@@ -1,11 +1,12 @@
 use Rattle.std.proofs.Common.{List, Option, ap, length, map, subst, ◌∙◌, ◌≡◌}
 use Rattle.series_core.specs.Pairs.{smallest}
 use Rattle.series_core.specs.declared.pair.Pair.{Pair}
-use Rattle.query_core.specs.declared.outcome.Fate.{Fate}
-use Rattle.query_core.specs.declared.outcome.Outcome.{Outcome}
-use Rattle.query_core.specs.declared.outcome.QueueLine.{QueueLine}
-use Rattle.query_core.specs.declared.outcome.Start.{Start}
-use Rattle.query_core.specs.Outcome.{all_pairs, fates_from, line_of, start_of}
+use Rattle.search_machine.specs.declared.outcome.Fate.{Fate}
+use Rattle.search_machine.specs.declared.outcome.Outcome.{Outcome}
+use Rattle.search_machine.specs.declared.outcome.QueueLine.{QueueLine}
+use Rattle.search_machine.specs.declared.outcome.Start.{Start}
+use Rattle.search_machine.specs.Outcome.{all_pairs, fates_from, line_of}
+use Rattle.search_machine.specs.Basics.{start_of}
 use Rattle.query_core.specs.Teams.{IsTeam, TeamParts, searched}
 use Rattle.query_core.proofs.ListsMerged.{lists_shown}
 use Rattle.query_core.proofs.team.Team.ended.Goals as goal

@@ -1,8 +1,8 @@
 use Rattle.std.proofs.Common.{List, Option, Some, ap, arith, drop, length, subst, ℕ, ◌+◌, ◌∙◌, ◌≡◌}
 use Rattle.leaf_queues.specs.PlainQueue.{PlainQueue}
-use Rattle.query_core.specs.declared.outcome.Fate.{Fate}
+use Rattle.search_machine.specs.declared.outcome.Fate.{Fate}
 use Rattle.query_core.specs.Fates.{fate_queued, fate_unqueued, leaf_of}
-use Rattle.query_core.specs.Outcome.{fate}
+use Rattle.search_machine.specs.Outcome.{fate}
 use Rattle.query_core.specs.Teams.{IsTeam, TeamParts, searched}
 use Rattle.query_core.proofs.FatesWritten.{fates_listed, queued_fate}
 use Rattle.query_core.proofs.TeamEnds.{leaf_of_start}

@@ -1,7 +1,7 @@
 use Rattle.std.proofs.Common.{◌≡◌, ◌<◌, ◌≤◌, ℕ, Some, drop, length}
 use Rattle.std.specs.Prelude.{slice_get}
 use Rattle.query_core.specs.Fates.{fate_queued, fate_unqueued, leaf_of}
-use Rattle.query_core.specs.Machine.{State}
+use Rattle.search_machine.specs.Machine.{State}
 use Rattle.query_core.specs.Teams.{StandsAt, searched}
 use Rattle.query_core.proofs.team.Team.fates.Given as goal
 

@@ -2,8 +2,8 @@ use Rattle.std.proofs.Common.{List, Some, ap, arith, length, refl, subst, sym, â
 use Rattle.std.proofs.lemmas.Option.{slice_get_read}
 use Rattle.std.specs.Prelude.{slice_get}
 use Rattle.subtree_build.specs.Index.{IndexParts}
-use Rattle.query_core.specs.Machine.{Worker}
-use Rattle.query_core.specs.Sound.{scans}
+use Rattle.search_machine.specs.Workers.{Worker}
+use Rattle.search_machine.specs.Sound.{scans}
 use Rattle.query_core.specs.Teams.{TeamParts}
 use Rattle.query_core.specs.Working.{Shows, Working}
 use Rattle.query_core.proofs.TeamEnds.{first_scanner, no_scanner, none_more}

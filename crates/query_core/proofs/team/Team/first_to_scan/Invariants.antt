@@ -1,7 +1,7 @@
 use Rattle.std.proofs.Common.{◌≡◌, ◌<◌, ◌^◌, ℕ, Some, length}
 use Rattle.std.specs.Prelude.{slice_get}
-use Rattle.query_core.specs.Machine.{Worker}
-use Rattle.query_core.specs.Sound.{scans}
+use Rattle.search_machine.specs.Workers.{Worker}
+use Rattle.search_machine.specs.Sound.{scans}
 use Rattle.query_core.specs.Working.{Shows, Working}
 use Rattle.query_core.proofs.team.Team.first_to_scan.Given as goal
 

@@ -1,9 +1,9 @@
 use Rattle.std.proofs.Common.{ap, arith, ◌∙◌, ◌≡◌, ◌≤◌}
-use Rattle.query_core.specs.Ground.{Fits, last, start_limit}
-use Rattle.query_core.specs.OneThread.{Held}
+use Rattle.search_machine.specs.Ground.{Fits, last, start_limit}
+use Rattle.search_machine.specs.Shared.{Held}
 use Rattle.query_core.specs.Questions.{search_over}
 use Rattle.query_core.specs.Teams.{TeamParts, limit_of}
-use Rattle.query_core.proofs.Opening.{opening_sound}
+use Rattle.search_machine.proofs.Opening.{opening_sound}
 use Rattle.query_core.proofs.TeamOpening.{limit_same, limit_start, queues_same, team_opens}
 use Rattle.query_core.proofs.team.Team.open.Goals as goal
 

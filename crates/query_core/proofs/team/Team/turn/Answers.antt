@@ -2,11 +2,10 @@ use Rattle.std.proofs.Common.{Some, ap, arith, length, refl, set, subst, sym, �
 use Rattle.std.proofs.lemmas.Bool.{false≢true}
 use Rattle.std.proofs.lemmas.Option.{same_Some, slice_get_read}
 use Rattle.std.specs.Prelude.{slice_get}
-use Rattle.query_core.specs.declared.phase.Phase.TheVariants.{Done}
+use Rattle.search_machine.specs.declared.phase.Phase.TheVariants.{Done}
 use Rattle.subtree_build.specs.Index.{IndexParts}
 use Rattle.query_core.specs.Questions.{last_of}
-use Rattle.query_core.specs.Machine.{State, turn}
-use Rattle.query_core.specs.Sound.{Sound}
+use Rattle.search_machine.specs.Machine.{State, turn}
 use Rattle.query_core.specs.Working.{Working}
 use Rattle.query_core.specs.Teams.{StandsAt, TeamParts, searched}
 use Rattle.query_core.proofs.TeamTurns.{done_stands, turn_keeps, turn_stands}
@@ -17,9 +16,9 @@ returns-then-is_done-clause-turns g c =
     let many = ap (λ (t : TeamParts). length t.workers) c.self.view_is in
     let at : slice_get c.self.inside.workers.items c.args.i ≡ Some c.index.result.now =
     slice_get_read c.self.inside.workers.items _ c.args.i _ refl (omega arith) c.index.ensures in
-    subst (λ (t : TeamParts). (s : State) → Sound (searched t) s → StandsAt t s
+    subst (λ (t : TeamParts). (s : State) → StandsAt t s
     → StandsAt t (turn (searched t) c.args.i s)) c.self.view_is
-    (λ s sound stands. done_stands _ c.self.invariant c.args.i c.index.result.now at
+    (λ s stands. done_stands _ c.self.invariant c.args.i c.index.result.now at
     (c.is_done.ensures.0 c.if-is_done.true) s stands)
 
 pub turn-requires-clause-floor : goal.turn-requires-clause-floor
@@ -66,7 +65,7 @@ returns-clause-turns g c =
     let running : c.index_mut.result.now.phase ≢ Done = λ e.
     absurd (false≢true (sym c.if-is_done.false
     ∙ c.is_done.ensures.1 (ap (λ (w : Working). w.phase) same ∙ e))) in
-    subst (λ (t : TeamParts). (s : State) → Sound (searched t) s → StandsAt t s
+    subst (λ (t : TeamParts). (s : State) → StandsAt t s
     → StandsAt new (turn (searched t) c.args.i s)) c.self.view_is
-    (λ s sound stands. turn_stands _ c.self.invariant c.args.i c.index_mut.result.now at
-    c.turn.new.hand c.turn.new.self running c.turn.ensures.turns s sound stands)
+    (λ s stands. turn_stands _ c.self.invariant c.args.i c.index_mut.result.now at
+    c.turn.new.hand c.turn.new.self running c.turn.ensures.turns s stands)

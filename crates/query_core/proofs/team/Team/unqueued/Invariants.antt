@@ -1,6 +1,6 @@
 use Rattle.std.proofs.Common.{◌≡◌, ◌≤◌, vec_capacity, vec_len}
 use Rattle.query_core.specs.Fates.{AreUnqueued}
-use Rattle.query_core.specs.Machine.{State}
+use Rattle.search_machine.specs.Machine.{State}
 use Rattle.query_core.specs.Teams.{StandsAt, searched}
 use Rattle.query_core.proofs.team.Team.unqueued.Given as goal
 

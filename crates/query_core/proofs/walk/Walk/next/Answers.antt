@@ -2,7 +2,7 @@
 -- children come in its place.
 use Rattle.std.proofs.Common.{ℕ, ◌∷◌, List, Option, ap, sym, ◌∙◌, subst, arith}
 use Rattle.lower_bound.specs.Bound.{word_bound}
-use Rattle.query_core.specs.Machine.{skip, without}
+use Rattle.search_machine.specs.Workers.{skip, without}
 use Rattle.query_core.specs.Walks.{IsGiven, leaves_left, leaves_of_walk}
 use Rattle.query_core.proofs.Walking.{popped, fewer_popped, step_splits, room_between, both_visited}
 use Rattle.query_core.proofs.Advancing.{cut, entry_given, leaf_given, leaf_passed}

@@ -1,8 +1,8 @@
 -- The steps keep the facts of a walk, no root child is awaited, and where the leaves at the front are
 -- skipped, what remains of those that are left is what remains of those at the start.
 use Rattle.std.proofs.Common.{◌≡◌, ◌≤◌, None, vec_capacity}
-use Rattle.query_core.specs.Ground.{Ground}
-use Rattle.query_core.specs.Machine.{skip, without}
+use Rattle.search_machine.specs.Ground.{Ground}
+use Rattle.search_machine.specs.Workers.{skip, without}
 use Rattle.query_core.specs.Questions.{leaf_bound}
 use Rattle.query_core.specs.Walks.{IsWalk, leaves_left, most_steps}
 use Rattle.query_core.proofs.Walking.{nodes_left}

@@ -4,11 +4,11 @@ use Rattle.std.proofs.lemmas.List.{length-map}
 use Rattle.subtree_build.specs.Outline.{leaf_numbers}
 use Rattle.subtree_build.specs.Start.{node_at}
 use Rattle.query_core.specs.Walks.{Walked}
-use Rattle.query_core.proofs.TurnLaws.{claim_shows, root_there, turned}
+use Rattle.query_core.proofs.TurnLaws.{claim_shows, root_there, stays, turned}
 use Rattle.query_core.proofs.worker.Worker.claim.Goals as goal
 
-pub returns-in-Some-clause-turns : goal.returns-in-Some-clause-turns
-returns-in-Some-clause-turns g c =
+pub returns-in-Some : goal.returns-in-Some
+returns-in-Some g c =
     let inside = c.self.inside in
     let kept = c.self.invariant in
     let root = c.in-Some.root in
@@ -25,8 +25,12 @@ returns-in-Some-clause-turns g c =
     ∙ ap (λ ix. leaf_numbers (node_at ix root)) kept.walk_index in
     let there : slice_get (map leaf_numbers inside.index.now.nodes) root ≡ Some c.begin.new.self.leaves =
     root_there inside.index.now.nodes root real ∙ ap (λ (ls : List ℕ). Some ls) (sym left) in
-    turned g.S.Shared.did c.args.hand.now c.claim.new.self _ c.args.self.now _ _ _ c.self.view_is c.requires.phase
-    (λ workers m shows. c.in-Some.ensures.did)
-    (λ workers. subst (λ (n : ℕ). root < n) (sym (length-map inside.index.now.nodes leaf_numbers)) real)
-    tt
-    (λ workers m r shows. claim_shows workers _ m root c.begin.new.self.leaves inside.start shows there kept.start_is)
+    record {
+      turns = turned g.S.Shared.did c.args.hand.now c.claim.new.self _ c.args.self.now _ _ _ c.self.view_is c.requires.phase
+          (λ workers m shows. c.in-Some.ensures.did)
+          (λ workers. subst (λ (n : ℕ). root < n) (sym (length-map inside.index.now.nodes leaf_numbers)) real)
+          tt
+          (λ workers m shows. claim_shows workers _ m root c.begin.new.self.leaves inside.start shows there kept.start_is);
+      place = stays _ c.args.self.now _ _ c.self.view_is;
+      hand = (c.claim.ensures.floor, c.claim.ensures.roots);
+    }

@@ -1,7 +1,7 @@
 use Rattle.std.proofs.Common.{◌≡◌, List, [], refl, sym, ap, ◌∙◌, subst, arith}
 use Rattle.series_core.specs.Best.{Best}
 use Rattle.series_core.specs.declared.pair.Pair.{Pair}
-use Rattle.query_core.specs.Machine.{without}
+use Rattle.search_machine.specs.Workers.{without}
 use Rattle.query_core.specs.Questions.{CanBeSearched, search_over}
 use Rattle.query_core.specs.Walks.{Walked}
 use Rattle.query_core.specs.Working.{IsFound}

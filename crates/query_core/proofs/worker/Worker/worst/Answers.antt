@@ -1,6 +1,6 @@
 use Rattle.std.proofs.Common.{◌≡◌, ◌≤◌, ◌-◌, ap, ◌∙◌, subst, ℕ, arith}
 use Rattle.series_core.specs.Order.{distance_at}
-use Rattle.query_core.specs.Ground.{worst}
+use Rattle.search_machine.specs.Ground.{worst}
 use Rattle.query_core.specs.Questions.{last_of, search_over}
 use Rattle.query_core.proofs.Found.{found_worst}
 use Rattle.query_core.proofs.OfIndex.{last_is, search_fits}

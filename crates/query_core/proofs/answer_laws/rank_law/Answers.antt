@@ -1,8 +1,0 @@
-use Rattle.query_core.proofs.Ranks.{answer_rank, answer_size}
-use Rattle.query_core.proofs.answer_laws.rank_law.Goals as goal
-
-pub returns-clause-size : goal.returns-clause-size
-returns-clause-size c g = answer_size g
-
-pub returns-clause-rank : goal.returns-clause-rank
-returns-clause-rank c g n p e = answer_rank g n p e

@@ -1,5 +1,0 @@
-use Rattle.query_core.proofs.Examples.{two_fits}
-use Rattle.query_core.proofs.example_laws.one_worker_example.Goals as goal
-
-pub returns-clause-fits : goal.returns-clause-fits
-returns-clause-fits c = two_fits 0

@@ -1,8 +1,0 @@
-use Rattle.query_core.proofs.LegalFates.{queue_fate, start_fate}
-use Rattle.query_core.proofs.machine_laws.fate_law.Goals as goal
-
-pub returns : goal.returns
-returns c = record {
-  start = λ g o legal l low start. start_fate g o legal l low start;
-  queue = λ g o legal m l low there. queue_fate g o legal m l low there;
-}
