@@ -3,7 +3,8 @@ use Rattle.std.proofs.Common.{List, Some, [], ap, arith, inl, inr, refl, subst, 
 use Rattle.std.proofs.lemmas.Option.{none-some, same_Some}
 use Rattle.std.specs.Prelude.{slice_get}
 use Rattle.list_totals.specs.Totals.{times, total}
-use Rattle.series_core.specs.Order.{Ascending, Has}
+use Rattle.list_totals.specs.Standing.{In as Has}
+use Rattle.series_core.specs.Order.{Ascending}
 use Rattle.series_core.specs.Pairs.{ascending}
 use Rattle.series_core.specs.declared.pair.Pair.{Pair}
 use Rattle.query_core.specs.Ground.{Fits, Ground}

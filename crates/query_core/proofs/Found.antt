@@ -5,7 +5,7 @@ use Rattle.std.specs.Prelude.{slice_set}
 use Rattle.std.proofs.lemmas.Bool.{false≢true}
 use Rattle.std.proofs.lemmas.List.{get_or-set_same, get_or-set_other}
 use Rattle.list_totals.specs.Totals.{times}
-use Rattle.series_core.specs.Order.{Has}
+use Rattle.list_totals.specs.Standing.{In as Has}
 use Rattle.series_core.specs.declared.pair.Pair.{Pair}
 use Rattle.query_core.specs.Ground.{Ground, Fits, last, plain, scan, worst}
 use Rattle.query_core.specs.Sound.{ListUnder}

@@ -3,7 +3,8 @@ use Rattle.std.proofs.Common.{List, ap, arith, inl, inr, subst, suc, sym, take, 
 use Rattle.std.proofs.lemmas.Bool.{cases_eq}
 use Rattle.series_core.proofs.Parts.{ascending_insert, distance_last, distance_part, distance_small}
 use Rattle.series_core.proofs.Plain.{ascending_has, has_ascending}
-use Rattle.series_core.specs.Order.{AllNear, Among, Ascending, Has}
+use Rattle.list_totals.specs.Standing.{In as Has}
+use Rattle.series_core.specs.Order.{AllNear, Among, Ascending}
 use Rattle.series_core.specs.Pairs.{ascending}
 use Rattle.series_core.specs.declared.distance.TheConstants.{NONE}
 use Rattle.series_core.specs.declared.pair.Pair.{Pair}

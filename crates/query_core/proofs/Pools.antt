@@ -5,7 +5,8 @@ use Rattle.std.proofs.lemmas.Bool.{cond-false}
 use Rattle.series_core.proofs.Order.{not_after}
 use Rattle.series_core.proofs.Parts.{ascending_insert, ascending_take, has_take, kept, not_above, same_take}
 use Rattle.series_core.proofs.Plain.{ascending_has, has_ascending}
-use Rattle.series_core.specs.Order.{Above, Among, Ascending, Has}
+use Rattle.list_totals.specs.Standing.{In as Has}
+use Rattle.series_core.specs.Order.{Above, Among, Ascending}
 use Rattle.series_core.specs.Pairs.{ascending, insert, is_before, smallest}
 use Rattle.series_core.specs.declared.pair.Pair.{Pair}
 use Rattle.query_core.specs.Ground.{Ground, answer, plain}

@@ -5,7 +5,8 @@ use Rattle.std.proofs.lemmas.Bool.{cases_lt, cond-true, cond_both, le-leb, leb-f
 use Rattle.list_totals.specs.Totals.{times}
 use Rattle.series_core.proofs.Parts.{ascending_insert, has_take}
 use Rattle.series_core.proofs.Plain.{has_ascending}
-use Rattle.series_core.specs.Order.{Ascending, Has}
+use Rattle.list_totals.specs.Standing.{In as Has}
+use Rattle.series_core.specs.Order.{Ascending}
 use Rattle.series_core.specs.Pairs.{ascending, smallest}
 use Rattle.series_core.specs.declared.distance.TheConstants.{NONE}
 use Rattle.series_core.specs.declared.pair.Pair.{Pair}

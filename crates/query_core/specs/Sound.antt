@@ -1,7 +1,8 @@
 -- What holds of the state at each moment of each schedule.
 use Rattle.std.specs.Prelude.{◌≡◌, ◌≢◌, ℕ, ◌+◌, ◌<◌, ◌≤◌, List, [], ◌∷◌, ◌⊎◌, Some, true, false, is_some, length, drop, slice_get}
 use Rattle.list_totals.specs.Totals.{total, times, one_if_same}
-use Rattle.series_core.specs.Order.{Ascending, Has, Among}
+use Rattle.list_totals.specs.Standing.{In as Has}
+use Rattle.series_core.specs.Order.{Ascending, Among}
 use Rattle.series_core.specs.declared.pair.Pair.{Pair}
 use Rattle.series_core.specs.declared.queue_words.Entry.{Entry}
 use Rattle.leaf_queues.specs.PlainQueue.{PlainQueue, entry_before}

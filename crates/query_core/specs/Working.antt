@@ -1,7 +1,8 @@
 -- A worker as its own code keeps it: with one mark a leaf in place of the list of the leaves that it scanned.
 use Rattle.std.specs.Prelude.{◌≡◌, ℕ, zero, suc, ◌<◌, ◌≤◌, List, [], Option, Bool, true, false, not, length, slice_index_or}
 use Rattle.list_totals.specs.Totals.{times}
-use Rattle.series_core.specs.Order.{Ascending, Has}
+use Rattle.list_totals.specs.Standing.{In as Has}
+use Rattle.series_core.specs.Order.{Ascending}
 use Rattle.series_core.specs.Best.{Best}
 use Rattle.series_core.specs.declared.pair.Pair.{Pair}
 use Rattle.lower_bound.specs.Bound.{View}

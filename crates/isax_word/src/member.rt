@@ -1,5 +1,5 @@
 //! A series as the index keeps it: its number and its full word.
-use isax_word::Full;
+use crate::full::Full;
 
 /// A member of a leaf: the number of a series and its full word.
 #[derive(Clone, Copy)]
