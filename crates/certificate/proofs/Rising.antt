@@ -3,7 +3,8 @@ use Rattle.std.proofs.Common.{◌≡◌, ℕ, zero, suc, List, [], ◌∷◌, �
 use Rattle.std.specs.Prelude.{slice_get, ◌⊎◌}
 use Rattle.std.proofs.lemmas.Option.{same_Some, none-some}
 use Rattle.series_core.specs.Pairs.{is_before}
-use Rattle.series_core.specs.Order.{Has, Above, Ascending}
+use Rattle.list_totals.specs.Standing.{In}
+use Rattle.series_core.specs.Order.{Above, Ascending}
 use Rattle.series_core.specs.declared.pair.Pair.{Pair}
 use Rattle.series_core.proofs.Order.{before_trans}
 
@@ -56,18 +57,18 @@ ascending_more (p ∷ q ∷ qs) (suc n) last r up size here low =
     )
 
 -- what stands in a list and one more
-pub has_more : (p r : Pair) (ps : List Pair) → Has p (ps ++ r ∷ []) → Has p ps ⊎ (p ≡ r)
+pub has_more : (p r : Pair) (ps : List Pair) → In p (ps ++ r ∷ []) → In p ps ⊎ (p ≡ r)
 has_more p r [] has = ⊎_elim (λ (e : p ≡ r). inr e) (λ (t : ⊥). absurd t) has
 has_more p r (q ∷ qs) has =
     ⊎_elim
     (λ (e : p ≡ q). inl (inl e))
-    (λ (t : Has p (qs ++ r ∷ [])). ⊎_elim
-    (λ (u : Has p qs). inl (inr u))
+    (λ (t : In p (qs ++ r ∷ [])). ⊎_elim
+    (λ (u : In p qs). inl (inr u))
     (λ (e : p ≡ r). inr e)
     (has_more p r qs t))
     has
 
 -- the one more stands there
-pub has_last : (r : Pair) (ps : List Pair) → Has r (ps ++ r ∷ [])
+pub has_last : (r : Pair) (ps : List Pair) → In r (ps ++ r ∷ [])
 has_last r [] = inl refl
 has_last r (q ∷ qs) = inr (has_last r qs)

@@ -8,13 +8,14 @@ use Rattle.std.proofs.lemmas.Option.{same_Some, slice_get-get_or, get_or_from_sl
 use Rattle.series_core.specs.Collection.{Collection}
 use Rattle.series_core.specs.Distance.{squared_distance}
 use Rattle.series_core.specs.Pairs.{is_before, ascending}
-use Rattle.series_core.specs.Order.{Has, Among, Ascending}
+use Rattle.list_totals.specs.Standing.{In}
+use Rattle.list_totals.proofs.Standing.{in_place}
+use Rattle.series_core.specs.Order.{Among, Ascending}
 use Rattle.series_core.specs.Answer.{answer, pair_of, pairs_of, distance_or_none}
 use Rattle.series_core.specs.declared.pair.Pair.{Pair}
 use Rattle.series_core.proofs.Order.{same_pair}
 use Rattle.series_core.proofs.Parts.{has_take, kept, same_take}
 use Rattle.series_core.proofs.Plain.{has_ascending, ascending_has, strict_from, answer-smallest}
-use Rattle.series_core.proofs.Ranks.{get_has}
 use Rattle.isax_word.specs.declared.layout.Layout.{Layout}
 use Rattle.lower_bound.specs.Bound.{view_of}
 use Rattle.certificate.specs.declared.block.Block.{Block}
@@ -103,16 +104,16 @@ are_right rows labels k b q block none = record {
         (cases_lt (wanted rows k) (length ps))
 
 -- what stands in a list stands at a place of it
-has_place : (ps : List Pair) (p : Pair) → Has p ps → (i : ℕ) × (slice_get ps i ≡ Some p)
+has_place : (ps : List Pair) (p : Pair) → In p ps → (i : ℕ) × (slice_get ps i ≡ Some p)
 has_place [] p has = absurd has
 has_place (q ∷ qs) p has =
     ⊎_elim
     (λ (e : p ≡ q). (zero, ap Some (sym e)))
-    (λ (t : Has p qs). let place = has_place qs p t in (suc place.0, place.1))
+    (λ (t : In p qs). let place = has_place qs p t in (suc place.0, place.1))
     has
 
 -- where some pair of a list passes a test, one stands there that does
-any_has : (test : Pair → Bool) (ps : List Pair) → list_any test ps ≡ true → (p : Pair) × Has p ps × (test p ≡ true)
+any_has : (test : Pair → Bool) (ps : List Pair) → list_any test ps ≡ true → (p : Pair) × In p ps × (test p ≡ true)
 any_has test [] any = absurd (false≢true any)
 any_has test (p ∷ ps) any =
     ⊎_elim
@@ -126,15 +127,15 @@ right_among : (rows : Collection) (q : List ℤ) (k : ℕ) (ps : List Pair) → 
 right_among rows q k ps right p has =
     let place = has_place ps p has in
     let own = real_series rows q p (right.real place.0 p place.1) in
-    let stands : Has (pair_of q (0 + p.number) own.0) (pairs_of rows q) = series_has 0 rows.series q p.number own.0 own.1 in
+    let stands : In (pair_of q (0 + p.number) own.0) (pairs_of rows q) = series_has 0 rows.series q p.number own.0 own.1 in
     let same : pair_of q (0 + p.number) own.0 ≡ p =
     ap (λ n. pair_of q n own.0) (zero-add p.number) ∙ sym own.2 in
-    ascending_has p (pairs_of rows q) (subst (λ (x : Pair). Has x (pairs_of rows q)) same stands)
+    ascending_has p (pairs_of rows q) (subst (λ (x : Pair). In x (pairs_of rows q)) same stands)
 
 -- a series whose number is among right answers has its pair there
 among_has : (rows : Collection) (q : List ℤ) (k : ℕ) (ps : List Pair) → AreRight rows q k ps
     → (number : ℕ) (xs : List ℤ) → slice_get rows.series number ≡ Some xs → is_among ps number ≡ true
-    → Has (pair_of q number xs) ps
+    → In (pair_of q number xs) ps
 among_has rows q k ps right number xs here among =
     let found = any_has (λ p. p.number == number) ps among in
     let place = has_place ps found.0 found.1 in
@@ -144,18 +145,18 @@ among_has rows q k ps right number xs here among =
     (sym own.1 ∙ ap (slice_get rows.series) same ∙ here) in
     let pair : found.0 ≡ pair_of q number xs =
     own.2 ∙ ap (λ n. pair_of q n own.0) same ∙ ap (pair_of q number) series in
-    subst (λ (x : Pair). Has x ps) pair found.1
+    subst (λ (x : Pair). In x ps) pair found.1
 
 -- where no series is missed, a pair of a series is among the answers or not smaller than the last
 covered : (rows : Collection) (q : List ℤ) (k b : ℕ) (ps : List Pair) → AreRight rows q k ps
     → misses_refusal rows b q (last_answer rows k ps) ps ≡ None
-    → (p : Pair) → Has p (pairs_of rows q) → Has p ps ⊎ (is_before_last (last_answer rows k ps) p ≡ false)
+    → (p : Pair) → In p (pairs_of rows q) → In p ps ⊎ (is_before_last (last_answer rows k ps) p ≡ false)
 covered rows q k b ps right none p has =
     ⊎_elim
     (λ (far : is_before_last last own_pair ≡ false).
     inr (subst (λ (x : Pair). is_before_last last x ≡ false) (sym same) far))
     (λ (held : not (is_among ps own.0) ≡ false).
-    inl (subst (λ (x : Pair). Has x ps) (sym same)
+    inl (subst (λ (x : Pair). In x ps) (sym same)
     (among_has rows q k ps right own.0 own.1 own.2 (not-false (is_among ps own.0) held))))
     (and_cases (is_before_last last own_pair) (not (is_among ps own.0)) not_missed)
   where
@@ -195,13 +196,13 @@ last_pair rows k ps some size enough =
 
 -- a pair among the k smallest that is not smaller than the last answer is among the answers too
 not_smaller : (rows : Collection) (q : List ℤ) (k : ℕ) (ps : List Pair) → 0 < k → AreRight rows q k ps
-    → (p : Pair) → Has p (take k (ascending (pairs_of rows q))) → is_before_last (last_answer rows k ps) p ≡ false
-    → k ≤ length rows.series → Has p ps
+    → (p : Pair) → In p (take k (ascending (pairs_of rows q))) → is_before_last (last_answer rows k ps) p ≡ false
+    → k ≤ length rows.series → In p ps
 not_smaller rows q k ps some right p near far enough =
     ⊎_elim
     (λ (behind : is_before last p ≡ true). more behind)
     (λ (e : is_before last p ≡ false).
-    subst (λ (x : Pair). Has x ps) (sym (same_pair p last not_before e)) (get_has ps (k - 1) last here))
+    subst (λ (x : Pair). In x ps) (sym (same_pair p last not_before e)) (in_place ps (k - 1) last here))
     (cases_Bool (is_before last p))
   where
     whole : List Pair
@@ -220,17 +221,17 @@ not_smaller rows q k ps some right p near far enough =
     not_before : is_before p last ≡ false
     not_before = subst (λ (o : Option Pair). is_before_last o p ≡ false) found.2 far
 
-    more : is_before last p ≡ true → Has p ps
+    more : is_before last p ≡ true → In p ps
     more behind =
         let joined = ps ++ p ∷ [] in
         let up = ascending_more ps (k - 1) last p (rising_ascends ps right.rising) found.3 here behind in
         let among : Among joined whole =
         λ r has. ⊎_elim
-        (λ (t : Has r ps). right_among rows q k ps right r t)
-        (λ (e : r ≡ p). subst (λ (x : Pair). Has x whole) (sym e) (has_take k p whole near))
+        (λ (t : In r ps). right_among rows q k ps right r t)
+        (λ (e : r ≡ p). subst (λ (x : Pair). In x whole) (sym e) (has_take k p whole near))
         (has_more r p ps has) in
         let size : length ps ≡ k = let s = found.3 in omega arith in
-        subst (λ (rs : List Pair). Has p rs) (take_at ps (p ∷ []) k size)
+        subst (λ (rs : List Pair). In p rs) (take_at ps (p ∷ []) k size)
         (kept k joined whole up (strict_from 0 rows.series q) among p near (has_last p ps))
 
 -- a block that fails no test of answers and misses no series has the answer of its query
@@ -255,7 +256,7 @@ block_answer rows labels k b q block some tested complete =
     few : length ps ≤ k
     few = let size = right.size in omega arith
 
-    no_last : length rows.series < k → (p : Pair) → is_before_last (last_answer rows k ps) p ≡ false → Has p ps
+    no_last : length rows.series < k → (p : Pair) → is_before_last (last_answer rows k ps) p ≡ false → In p ps
     no_last small p far =
         let test : nat_le k (length rows.series) ≡ false = lt-leb k (length rows.series) small in
         let none : last_answer rows k ps ≡ None = cond-false (nat_le k (length rows.series)) (slice_get ps (k - 1)) None test in
@@ -264,7 +265,7 @@ block_answer rows labels k b q block some tested complete =
     back : Among (take k whole) ps
     back p near =
         ⊎_elim
-        (λ (t : Has p ps). t)
+        (λ (t : In p ps). t)
         (λ (far : is_before_last (last_answer rows k ps) p ≡ false).
         ⊎_elim
         (λ (small : length rows.series < k). no_last small p far)

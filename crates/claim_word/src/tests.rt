@@ -1,4 +1,6 @@
-//! Draws in one thread. One pass over 3 numbers draws 0, 1 and 2, and then ends.
+//! Draws in one thread, and in threads of their own. One pass over 3 numbers draws 0, 1 and 2, and then ends.
+mod threads;
+
 use super::*;
 use std::test::*;
 

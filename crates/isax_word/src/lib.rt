@@ -5,6 +5,7 @@
 mod full;
 mod laws;
 mod layout;
+mod member;
 mod symbol;
 #[cfg(test)]
 mod tests;
@@ -15,5 +16,6 @@ pub use laws::{
     child_is_within, one_child_contains, one_root_contains, symbol_bracket, symbols_of_a_prefix,
 };
 pub use layout::Layout;
+pub use member::Member;
 pub use symbol::symbol_of_sum;
 pub use word::{Part, Word, child, contains};

@@ -5,10 +5,11 @@ use Rattle.std.proofs.lemmas.List.Elements.{All-head}
 use Rattle.std.proofs.lemmas.List.Sorted.{IsPermutation-refl, IsPermutation-cons, IsPermutation-middle, IsPermutation-trans, IsPermutation-keeps, All-permutation}
 use Rattle.std.specs.List.{swap}
 use Rattle.std.specs.List.Sorted.{IsPermutation}
+use Rattle.series_core.specs.EntryOrder.{NotAfter, entry_before}
 use Rattle.series_core.specs.declared.queue_words.Entry.{Entry}
-use Rattle.leaf_queues.specs.PlainQueue.{entry_before, place}
-use Rattle.leaf_queues.specs.Heaps.{NotAfter, IsLeast, ascending}
-use Rattle.leaf_queues.proofs.Order.{before_one_way, before_along, before_neither}
+use Rattle.leaf_queues.specs.PlainQueue.{place}
+use Rattle.leaf_queues.specs.Heaps.{IsLeast, ascending}
+use Rattle.series_core.proofs.EntryOrder.{before_one_way, before_along, before_neither}
 
 -- a test is true or false
 either_way : (b : Bool) (P : Type 0) → (b ≡ true → P) → (b ≡ false → P) → P

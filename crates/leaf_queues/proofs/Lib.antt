@@ -1,4 +1,3 @@
-pub mod Order
 pub mod Sifting
 pub mod Ascending
 pub mod Waiting

@@ -4,10 +4,10 @@ use Rattle.std.proofs.lemmas.List.{get_or-take, get_or_append_left, get_or-set_o
 use Rattle.std.specs.List.{SwappedAt, swap_remove}
 use mathlib.Core.Logic.{dite}
 use native.Mathlib.Decide.{ℕ_discrete}
+use Rattle.series_core.specs.EntryOrder.{NotAfter, entry_before}
 use Rattle.series_core.specs.declared.queue_words.Entry.{Entry}
-use Rattle.leaf_queues.specs.PlainQueue.{entry_before}
-use Rattle.leaf_queues.specs.Heaps.{NotAfter, IsChild, Ordered, IsHeap, IsHeapButAbove, IsHeapButBelow, IsLesserChild, IsLeast}
-use Rattle.leaf_queues.proofs.Order.{before_itself, before_one_way, before_along}
+use Rattle.leaf_queues.specs.Heaps.{IsChild, Ordered, IsHeap, IsHeapButAbove, IsHeapButBelow, IsLesserChild, IsLeast}
+use Rattle.series_core.proofs.EntryOrder.{before_itself, before_one_way, before_along}
 
 -- a place has one parent
 one_parent : (p q k : ℕ) → IsChild p k → IsChild q k → p ≡ q

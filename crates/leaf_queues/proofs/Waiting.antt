@@ -4,13 +4,14 @@ use Rattle.std.proofs.lemmas.Bool.Decides.{nat_tests}
 use Rattle.std.proofs.lemmas.List.Elements.{All-tail}
 use Rattle.std.proofs.lemmas.List.Sorted.{All-permutation}
 use Rattle.std.specs.List.Sorted.{IsPermutation}
+use Rattle.series_core.specs.EntryOrder.{NotAfter}
 use Rattle.series_core.specs.declared.queue_words.Entry.{Entry}
 use Rattle.series_core.specs.declared.queue_words.PutReply.{PutReply}
 use Rattle.series_core.specs.declared.queue_words.PutReply.TheVariants.{Placed, Filled}
 use Rattle.series_core.specs.declared.queue_words.PopReply.{PopReply}
 use Rattle.series_core.specs.declared.queue_words.PopReply.TheVariants.{Leaf, Closed}
 use Rattle.leaf_queues.specs.PlainQueue.{PlainQueue, put, pop, pop_open, shut_with, taken_from}
-use Rattle.leaf_queues.specs.Heaps.{NotAfter, IsHeap, IsLeast, ascending, waits_within}
+use Rattle.leaf_queues.specs.Heaps.{IsHeap, IsLeast, ascending, waits_within}
 use Rattle.leaf_queues.proofs.Ascending.{ascending_permutation, ascending_least}
 use Rattle.leaf_queues.proofs.Sifting.{heap_least}
 

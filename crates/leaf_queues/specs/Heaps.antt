@@ -1,11 +1,8 @@
 -- How a heap keeps entries: no entry comes before its parent. No public clause cites it.
-use Rattle.std.specs.Prelude.{◌≡◌, ◌≢◌, ℕ, ◌+◌, ◌*◌, ◌<◌, ◌≤◌, Bool, false, nat_le, List, [], ◌∷◌, length, slice_index_or, All}
+use Rattle.std.specs.Prelude.{◌≢◌, ℕ, ◌+◌, ◌*◌, ◌<◌, ◌≤◌, Bool, false, nat_le, List, [], ◌∷◌, length, slice_index_or, All}
 use Rattle.series_core.specs.declared.queue_words.Entry.{Entry}
-use Rattle.leaf_queues.specs.PlainQueue.{entry_before, place}
-
--- e does not come before d
-abbrev pub NotAfter : Entry → Entry → Type 0
-NotAfter d e = entry_before e d ≡ false
+use Rattle.series_core.specs.EntryOrder.{NotAfter}
+use Rattle.leaf_queues.specs.PlainQueue.{place}
 
 -- place k is a child of place p
 abbrev pub IsChild : ℕ → ℕ → Type 0

@@ -1,6 +1,7 @@
 -- What a queue of leaves is, with no heap in it: an ascending list of waiting entries, and what was
 -- taken from it.
-use Rattle.std.specs.Prelude.{ℕ, ◌+◌, List, [], ◌∷◌, ◌++◌, Option, None, Some, Bool, true, false, cond, nat_lt}
+use Rattle.std.specs.Prelude.{ℕ, ◌+◌, List, [], ◌∷◌, ◌++◌, Option, None, Some, cond, nat_lt}
+pub use Rattle.series_core.specs.EntryOrder.{entry_before}
 use Rattle.series_core.specs.declared.queue_words.Entry.{Entry}
 use Rattle.series_core.specs.declared.queue_words.PutReply.{PutReply}
 use Rattle.series_core.specs.declared.queue_words.PutReply.TheVariants.{Placed, Shut, Filled}
@@ -19,11 +20,6 @@ pub record PlainQueue : Type 0 where
   pub placed : ℕ
   pub capacity : ℕ
   pub kept : Option ℕ
-
--- d has the lesser bound, or as great a bound and the lesser leaf
-abbrev pub entry_before : Entry → Entry → Bool
-entry_before d e =
-    cond (nat_lt d.bound e.bound) true (cond (nat_lt e.bound d.bound) false (nat_lt d.leaf e.leaf))
 
 -- the entry stands before the first of the list that does not come before it
 abbrev pub place : Entry → List Entry → List Entry

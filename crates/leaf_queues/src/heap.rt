@@ -1,7 +1,7 @@
 //! A heap of entries in a vector: no entry comes before its parent. The parent of place k is place (k - 1) / 2.
 ghost use Rattle.std.specs.Prelude.{◌≡◌, ◌+◌, ◌<◌, ◌∷◌, [], length, All, IfSome, IfNone, slice_index_or, vec_len, vec_capacity};
 ghost use Rattle.std.specs.List.Sorted.{IsPermutation};
-ghost use Rattle.leaf_queues.specs.PlainQueue.{entry_before};
+ghost use Rattle.series_core.specs.EntryOrder.{entry_before};
 ghost use Rattle.leaf_queues.specs.Heaps.{IsHeap, IsHeapButAbove, IsHeapButBelow, IsLesserChild, IsLeast, ascending, waits_within};
 
 use series_core::{Entry, far};

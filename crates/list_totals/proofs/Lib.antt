@@ -1,5 +1,7 @@
--- Laws of totals.
+-- Laws of totals and of what stands in a list.
 pub mod Totals
 pub mod Greatest
+pub mod Standing
 pub mod Places
+pub mod Below
 pub mod Pigeons

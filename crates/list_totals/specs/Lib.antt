@@ -1,2 +1,4 @@
--- Totals over lists.
+-- Totals over lists, sums over numbers, and what stands in a list.
 pub mod Totals
+pub mod Below
+pub mod Standing

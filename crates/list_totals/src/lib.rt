@@ -1,3 +1,3 @@
-//! Totals over lists, and how often a number stands in one: words and laws that records of threads share.
+//! Totals over lists, what stands in a list, and how often a number does: words and laws that many crates share.
 //! It has no code: what it holds is in `specs` and `proofs`.
 #![tactic(auto)]

@@ -5,7 +5,7 @@ use Rattle.std.specs.Prelude.{slice_set}
 use Rattle.std.proofs.lemmas.Bool.{false≢true}
 use Rattle.std.proofs.lemmas.List.{get_or-set_same, get_or-set_other}
 use Rattle.list_totals.specs.Totals.{times}
-use Rattle.series_core.specs.Order.{Has}
+use Rattle.list_totals.specs.Standing.{In}
 use Rattle.series_core.specs.declared.pair.Pair.{Pair}
 use Rattle.search_machine.specs.Ground.{Ground, Fits, last, plain, scan, worst}
 use Rattle.search_machine.specs.Sound.{ListUnder}
@@ -63,7 +63,7 @@ module _ (g : Ground) (fits : Fits g) (marks : List Bool) (ps : List Pair) (foun
     ascending = found.ascending;
     known = λ p h.
         let k = found.known p h in
-        subst (λ (q : Pair). Has q (plain g)) (sym k.1) (has_plain g p.number k.0);
+        subst (λ (q : Pair). In q (plain g)) (sym k.1) (has_plain g p.number k.0);
   }
 
   -- what a worker may offer is at least the last distance

@@ -15,7 +15,7 @@ use Rattle.series_core.specs.declared.pair.Pair.{Pair}
 use Rattle.isax_word.specs.FullWord.{full_word}
 use Rattle.lower_bound.proofs.Bounds.{full_bound_below_distance}
 use Rattle.lower_bound.specs.Bound.{view_of, word_bound, eight_bit_word}
-use Rattle.summary_phase.specs.declared.member.Member.{Member}
+use Rattle.isax_word.specs.declared.member.Member.{Member}
 use Rattle.subtree_build.proofs.Bounds.{length-full_word}
 use Rattle.subtree_build.specs.Index.{IndexParts}
 use Rattle.subtree_build.specs.Members.{numbers_of, series_at}

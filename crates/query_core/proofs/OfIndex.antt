@@ -11,7 +11,7 @@ use Rattle.series_core.proofs.Limits.{distance_each}
 use Rattle.series_core.specs.Collection.{IsSeries}
 use Rattle.series_core.specs.Distance.{squared_distance}
 use Rattle.series_core.specs.declared.distance.TheConstants.{NONE}
-use Rattle.summary_phase.specs.declared.member.Member.{Member}
+use Rattle.isax_word.specs.declared.member.Member.{Member}
 use Rattle.subtree_build.specs.Index.{IndexParts, leaf_at}
 use Rattle.subtree_build.specs.Members.{series_at, numbers_of}
 use Rattle.subtree_build.proofs.Bounds.{members_no_nearer}

@@ -8,7 +8,7 @@ use Rattle.series_core.specs.declared.distance.TheConstants.{NONE}
 use Rattle.series_core.specs.declared.pair.Pair.{Pair}
 use Rattle.subtree_build.specs.Index.{IndexParts, leaf_at}
 use Rattle.subtree_build.specs.Members.{numbers_of}
-use Rattle.summary_phase.specs.declared.member.Member.{Member}
+use Rattle.isax_word.specs.declared.member.Member.{Member}
 use Rattle.search_machine.specs.declared.outcome.Start.{Start}
 use Rattle.search_machine.specs.Ground.{opening, opening_of, scan, start_limit}
 use Rattle.search_machine.specs.Basics.{start_of}

@@ -9,7 +9,7 @@ use Rattle.series_core.specs.declared.best.TheConstants.{MAX_BEST}
 use Rattle.segment_sums.specs.Division.{IsDivision}
 use Rattle.isax_word.specs.declared.layout.Layout.{Layout}
 use Rattle.lower_bound.specs.Bound.{View, view_of, word_bound}
-use Rattle.summary_phase.specs.declared.member.Member.{Member}
+use Rattle.isax_word.specs.declared.member.Member.{Member}
 use Rattle.subtree_build.specs.Fits.{Fits as IndexFits, HasItsWord}
 use Rattle.subtree_build.specs.Index.{IndexParts, IsIndex, leaf_at}
 use Rattle.subtree_build.specs.Members.{series_at, numbers_of}

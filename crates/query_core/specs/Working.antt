@@ -1,7 +1,8 @@
 -- A worker as its own code keeps it: with one mark a leaf in place of the list of the leaves that it scanned.
 use Rattle.std.specs.Prelude.{◌≡◌, ℕ, zero, suc, ◌<◌, ◌≤◌, List, [], Option, Bool, true, false, not, length, slice_index_or}
 use Rattle.list_totals.specs.Totals.{times}
-use Rattle.series_core.specs.Order.{Ascending, Has}
+use Rattle.list_totals.specs.Standing.{In}
+use Rattle.series_core.specs.Order.{Ascending}
 use Rattle.series_core.specs.Best.{Best}
 use Rattle.series_core.specs.declared.pair.Pair.{Pair}
 use Rattle.lower_bound.specs.Bound.{View}
@@ -44,8 +45,8 @@ pub record Shows (w : Working) (m : Worker) : Type 0 where
 -- a list of pairs of different series, each with its distance, whose leaves have marks
 pub record IsFound (g : Ground) (marks : List Bool) (ps : List Pair) : Type 0 where
   pub ascending : Ascending ps
-  pub known : (p : Pair) → Has p ps → (p.number < g.count) × (p ≡ pair_of g p.number)
-  pub from : (p : Pair) (l : ℕ) → Has p ps → 0 < times p.number (g.members l)
+  pub known : (p : Pair) → In p ps → (p.number < g.count) × (p ≡ pair_of g p.number)
+  pub from : (p : Pair) (l : ℕ) → In p ps → 0 < times p.number (g.members l)
       → is_marked marks l ≡ true
 
 -- a queue at a place of a round, where there is one

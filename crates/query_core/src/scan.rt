@@ -9,9 +9,9 @@ ghost use Rattle.series_core.specs.Order.{distance_at};
 ghost use Rattle.query_core.specs.Questions.{search_over, IsMemberOf};
 
 use crate::task::Task;
+use isax_word::Member;
 use series_core::{KBest, NONE, Pair, Rows, far};
 use simd_distance::distance_within;
-use summary_phase::Member;
 
 impl<'a, R: Rows> Task<'a, R> {
     /// Scans members with this limit into a list, which then has the k smallest of its pairs and of the members' pairs with a

@@ -17,7 +17,7 @@ use Rattle.isax_word.specs.Word.{IsPart, IsWord, child_word}
 use Rattle.isax_word.proofs.Words.{IsWord-child_word}
 use Rattle.lower_bound.specs.Bound.{View, view_of, word_bound, eight_bit_word}
 use Rattle.lower_bound.proofs.Bounds.{child_bound, full_bound_below_distance}
-use Rattle.summary_phase.specs.declared.member.Member.{Member}
+use Rattle.isax_word.specs.declared.member.Member.{Member}
 use Rattle.subtree_build.specs.Tree.{Tree, absent, leaf, split, leaves_of}
 use Rattle.subtree_build.specs.Index.{IndexParts, StandsUnder, leaf_at}
 use Rattle.subtree_build.specs.Members.{series_at}

@@ -5,7 +5,7 @@ use Rattle.std.proofs.lemmas.List.{take_more, get_or_default}
 use Rattle.std.proofs.lemmas.List.Concat.{flat_map-append}
 use Rattle.series_core.specs.declared.pair.Pair.{Pair}
 use Rattle.lower_bound.specs.Bound.{View}
-use Rattle.summary_phase.specs.declared.member.Member.{Member}
+use Rattle.isax_word.specs.declared.member.Member.{Member}
 use Rattle.subtree_build.specs.Index.{IndexParts, leaf_at}
 use Rattle.subtree_build.proofs.Bounds.{member_is_series}
 use Rattle.range_query.specs.Near.{Asked, IsAsked, near_series, near_members}

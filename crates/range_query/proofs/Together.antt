@@ -15,7 +15,7 @@ use Rattle.series_core.specs.Answer.{pair_of, pairs_from, pairs_of, within}
 use Rattle.series_core.specs.Distance.{squared_distance}
 use Rattle.series_core.proofs.Plain.{within-ascending}
 use Rattle.claim_word.specs.Passes.{Pass, EachDrawnOnce}
-use Rattle.summary_phase.specs.declared.member.Member.{Member}
+use Rattle.isax_word.specs.declared.member.Member.{Member}
 use Rattle.summary_phase.proofs.Draws.{same_pieces, times_below, all_draws, times_all, all_drawn}
 use Rattle.lower_bound.specs.Bound.{View}
 use Rattle.subtree_build.specs.declared.node.Node.{Node, Leaf}

@@ -7,7 +7,7 @@ use Rattle.series_core.specs.Distance.{squared_distance}
 use Rattle.series_core.specs.declared.pair.Pair.{Pair}
 use Rattle.segment_sums.specs.Division.{IsDivision}
 use Rattle.lower_bound.specs.Bound.{View, IsView, view_of}
-use Rattle.summary_phase.specs.declared.member.Member.{Member}
+use Rattle.isax_word.specs.declared.member.Member.{Member}
 use Rattle.subtree_build.specs.declared.node.Node.{Node}
 use Rattle.subtree_build.specs.declared.leaf.TreeLeaf.{TreeLeaf}
 use Rattle.subtree_build.specs.Fits.{Fits}

@@ -11,13 +11,12 @@ ghost use Rattle.subtree_build.specs.Outline.{outline};
 ghost use Rattle.range_query.specs.Searches.{IsReady, asked_of};
 ghost use Rattle.range_query.specs.Near.{near_series, near_leaf, near_below};
 
-use isax_word::{Word, child};
+use isax_word::{Member, Word, child};
 use lower_bound::QueryView;
 use outside::NoMemory;
 use series_core::{Pair, Rows};
 use simd_distance::distance_within;
 use subtree_build::{Index, Node};
-use summary_phase::Member;
 
 /// One query over one index: all pairs with a distance of at most the radius are sought.
 #[derive(Drop)]

@@ -4,13 +4,17 @@ use Rattle.std.proofs.lemmas.List.{get_or_default}
 use Rattle.std.proofs.lemmas.List.Elements.{All-map}
 use mathlib.Core.Logic.{dite}
 use native.Mathlib.Decide.{ℕ_discrete}
+use Rattle.series_core.proofs.EntryOrder.{bounds_rise}
 use Rattle.series_core.specs.declared.queue_words.Entry.{Entry}
 use Rattle.claim_word.specs.Passes.{Pass, EachDrawnOnce}
+use Rattle.list_totals.specs.Standing.{In}
 use Rattle.list_totals.specs.Totals.{total, times, once_below}
+use Rattle.list_totals.proofs.Standing.{contains_in, in_contains}
 use Rattle.list_totals.proofs.Totals.{total_map, once_below_yes, once_below_most, total_le}
 use Rattle.list_totals.proofs.Greatest.{at_most_greatest, greatest_le, greatest_map}
 use Rattle.list_totals.proofs.Places.{total_some, total_two, times_at, times_contains}
-use Rattle.sealed_runs.specs.Entries.{Run, Before, IsAscending, no_entry, entry_at}
+use Rattle.series_core.specs.EntryOrder.{IsAscending}
+use Rattle.sealed_runs.specs.Entries.{Run, no_entry, entry_at}
 use Rattle.sealed_runs.specs.Visits.{Visit, handed, leaves, IsVisit, no_visit}
 use Rattle.sealed_runs.specs.Closed.{least_limit, IsLine}
 use Rattle.sealed_runs.specs.Tallied.{Refusals, reach_of, IsTally, Takes}
@@ -30,12 +34,6 @@ limit_of run v own x is = some_of v.closed (λ none. none_is_some x (sym ((own.g
   where
     none_is_some : (x : ℕ) → None ≡ Some x → ⊥
     none_is_some x e = grind arith
-
--- bounds rise with the order of entries
-bounds_rise : (e f : Entry) → Before e f → e.bound ≤ f.bound
-bounds_rise e f before =
-    ⊎_elim (λ (less : e.bound < f.bound). omega arith) (λ tied. let same = tied.0 in omega arith)
-    before
 
 -- a place is below another or not
 near_or_far : (x n : ℕ) → (x < n) ⊎ (n ≤ x)
@@ -102,7 +100,7 @@ module _ (run : Run) (vs : List Visit) (own : All (IsVisit run) vs) (some : 0 < 
     not_refused k x in_list there is =
         let mine = drawn_handed (visit k) x there in
         let who = refusals.from x is in
-        let theirs = (own who.0 no_visit who.1).refused x who.2 in
+        let theirs = in_contains (visit who.0).claim.draws x ((own who.0 no_visit who.1).refused x who.2) in
         dite (ℕ_discrete k who.0)
         (λ (same : k ≡ who.0). mine.1 (subst (λ j. (visit j).refused ≡ Some x) (sym same) who.2))
         (λ (differ : k ≢ who.0). apart k who.0 x in_list who.1 mine.0 theirs differ)
@@ -118,24 +116,31 @@ module _ (run : Run) (vs : List Visit) (own : All (IsVisit run) vs) (some : 0 < 
         (who.0, who.1, times_contains x (visit who.0).claim.draws who.2)
 
     -- what was taken, some visit handed out
-    taken_handed : (e : Entry) → Contains taken e → Any (λ v. Contains (leaves run.entries v) e) vs
+    taken_handed : (e : Entry) → In e taken → Any (λ v. In e (leaves run.entries v)) vs
     taken_handed e there =
-        let x = takes.from e there in
+        let x = takes.from e (in_contains taken e there) in
         let who = drawn_by x.0 x.1 in
         let v = visit who.0 in
         let mine = handed_drawn v x.0 who.2 (λ is. x.2 (refusals.all who.0 x.0 who.1 is)) in
         let leaf = subst (Contains (leaves run.entries v)) x.3
-        (contains_map (entry_at run.entries) (handed v) x.0 mine) in
-        (who.0, v, who.1, get_or_default vs who.0 v no_visit who.1, leaf)
+        (contains_map (entry_at run.entries) (handed v) x.0 mine) in (
+          who.0,
+          v,
+          who.1,
+          get_or_default vs who.0 v no_visit who.1,
+          contains_in (leaves run.entries v) e leaf,
+        )
 
     -- what some visit handed out was taken
-    handed_taken : (e : Entry) → Any (λ v. Contains (leaves run.entries v) e) vs → Contains taken e
+    handed_taken : (e : Entry) → Any (λ v. In e (leaves run.entries v)) vs → In e taken
     handed_taken e (k, v, in_list, is, leaf) =
-        let x = map_contains (entry_at run.entries) (handed v) e leaf in
+        let x = map_contains (entry_at run.entries) (handed v) e
+        (in_contains (leaves run.entries v) e leaf) in
         let same = sym is ∙ get_or_default vs k v no_visit in_list in
         let there = subst (λ (w : Visit). Contains (handed w) x.0) same x.1 in
         let low = drawn_low k x.0 in_list (drawn_handed (visit k) x.0 there).0 in
-        subst (Contains taken) x.2 (takes.all x.0 low (not_refused k x.0 in_list there))
+        contains_in taken e
+        (subst (Contains taken) x.2 (takes.all x.0 low (not_refused k x.0 in_list there)))
 
     -- no place was handed out twice
     handed_once : (x : ℕ) → total (λ (v : Visit). times x (handed v)) vs ≤ 1
@@ -170,7 +175,7 @@ module _ (run : Run) (vs : List Visit) (own : All (IsVisit run) vs) (some : 0 < 
         (λ (place : (visit 0).refused ≢ None).
         let y = some_of (visit 0).refused place in
         let least = least_limit_at vs 0 no_visit told.0 some told.1 in
-        let before = drawn_low 0 y.0 some (v.refused y.0 y.1) in
+        let before = drawn_low 0 y.0 some (in_contains (visit 0).claim.draws y.0 (v.refused y.0 y.1)) in
         let bound = v.above y.0 told.0 y.1 told.1 in
         let rises = bounds_rise (entry_at run.entries y.0) (entry_at run.entries x)
         (ascending y.0 x no_entry (omega arith) low) in
@@ -178,15 +183,16 @@ module _ (run : Run) (vs : List Visit) (own : All (IsVisit run) vs) (some : 0 < 
         (v.shut told.0 told.1)
 
     -- where each visit is closed, what was not taken is above the least limit
-    rest_above : All (λ v. v.closed ≢ None) vs → (e : Entry) → Contains run.entries e
-        → ¬ (Contains taken e)
+    rest_above : All (λ v. v.closed ≢ None) vs → (e : Entry) → In e run.entries
+        → ¬ (In e taken)
         → IfSome (least_limit vs) (λ least. least < e.bound)
-    rest_above closed e there not_taken =
+    rest_above closed e within not_taken =
+        let there = in_contains run.entries e within in
         let x = there.0 in
         let is : entry_at run.entries x ≡ e = get_or_default run.entries x no_entry e there.1
         ∙ there.2 in
         let at_x = place_above x there.1
-        (λ taken_there. not_taken (subst (Contains taken) is taken_there)) in
+        (λ taken_there. not_taken (contains_in taken e (subst (Contains taken) is taken_there))) in
         subst (λ (f : Entry). IfSome (least_limit vs) (λ least. least < f.bound)) is at_x
       where
         place_above : (x : ℕ) → x < length run.entries → ¬ (Contains taken (entry_at run.entries x))

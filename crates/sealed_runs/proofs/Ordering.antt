@@ -1,5 +1,5 @@
 -- Sorted entries whose leaves differ ascend, and so does each row of them.
-use Rattle.std.proofs.Common.{◌≡◌, ◌≢◌, ◌⊎◌, ℕ, zero, suc, ◌+◌, ◌<◌, ◌≤◌, List, length, get_or, is_lt, nat_cmp, true, false, IsPermutation, refl, sym, ◌∙◌, subst, inl, inr, ⊎_elim, arith}
+use Rattle.std.proofs.Common.{◌≡◌, ◌≢◌, ◌⊎◌, ℕ, zero, suc, ◌+◌, ◌<◌, ◌≤◌, List, length, get_or, is_lt, nat_cmp, true, false, IsPermutation, refl, sym, ◌∙◌, subst, ⊎_elim, arith}
 use Rattle.std.specs.Ordering.{ordering_then}
 use Rattle.std.specs.Prelude.{nat_eq}
 use Rattle.std.specs.List.{sum_by}
@@ -8,32 +8,20 @@ use Rattle.std.proofs.lemmas.List.Kept.{AllPairs-filter}
 use Rattle.std.proofs.lemmas.List.Recursion.{is_sum_by}
 use Rattle.std.proofs.lemmas.List.Sorted.{Contains-permutation, IsPermutation-sym, sum_by-IsPermutation}
 use Rattle.std.proofs.Math.Numerals.{add-one}
+use Rattle.series_core.proofs.EntryOrder.{before_all}
 use Rattle.series_core.specs.declared.queue_words.Entry.{Entry}
 use Rattle.list_totals.specs.Totals.{total, one_if_same}
+use Rattle.list_totals.proofs.Standing.{contains_in, in_contains}
 use Rattle.list_totals.proofs.Places.{total_two}
-use Rattle.sealed_runs.specs.Entries.{Before, IsAscending, LeavesDiffer, IsRun}
+use Rattle.series_core.specs.EntryOrder.{Before, IsAscending}
+use Rattle.sealed_runs.specs.Entries.{LeavesDiffer, IsRun}
 use Rattle.sealed_runs.specs.Sealing.{is_of, row_of}
 use Rattle.sealed_runs.proofs.Members.{contains_filter, filter_contains}
 
--- of two numbers of which neither is less, the pair by the first and then the second is not less the other way round
+-- of two entries whose leaves differ the first comes before the second where the second is not less
 ordered : (a b l m : ℕ) → is_lt (ordering_then (nat_cmp b a) (nat_cmp m l)) ≡ false → l ≢ m
-    → (a < b) ⊎ ((a ≡ b) × (l < m))
+    → Before (record { bound = a; leaf = l }) (record { bound = b; leaf = m })
 ordered a b l m not_less differ = grind (arith, nat_tests)
-
--- an entry that comes before a second comes before all that the second comes before
-before_trans : (e f g : Entry) → Before e f → Before f g → Before e g
-before_trans e f g first second = ⊎_elim
-    (λ (less : e.bound < f.bound). ⊎_elim
-    (λ (more : f.bound < g.bound). inl (omega arith))
-    (λ (tied : (f.bound ≡ g.bound) × (f.leaf < g.leaf)). let same = tied.0 in inl (omega arith))
-    second)
-    (λ (same : (e.bound ≡ f.bound) × (e.leaf < f.leaf)). ⊎_elim
-    (λ (more : f.bound < g.bound). let is = same.0 in inl (omega arith))
-    (λ (tied : (f.bound ≡ g.bound) × (f.leaf < g.leaf)).
-    let is = same.0 in let less = same.1 in let too = tied.0 in let more = tied.1 in
-    inr (omega arith, omega arith))
-    second)
-    first
 
 -- each entry of a list is not above the next
 abbrev pub InOrder : List Entry → Type 0
@@ -70,7 +58,7 @@ module _ (es : List Entry) (in_order : InOrder es) (once : LeavesDiffer es) wher
   rises zero i d less in_list = absurd (omega arith)
   rises (suc j) i d less in_list = ⊎_elim
       (λ (before : i < j).
-      before_trans (get_or es i d) (get_or es j d) (get_or es (suc j) d)
+      before_all (get_or es i d) (get_or es j d) (get_or es (suc j) d)
       (rises j i d before (omega arith)) (step j d in_list))
       (λ (same : i ≡ j). subst (λ (k : ℕ). Before (get_or es k d) (get_or es (suc j) d)) (sym same)
       (step j d in_list))
@@ -113,13 +101,17 @@ row_is_run es sorted queues m moved ascending = record {
   ascending = AllPairs-filter Before (is_of queues m) sorted ascending;
   exactly = λ e. (
     λ there.
-        let found = filter_contains (is_of queues m) sorted e there in (
-          Contains-permutation sorted es e (IsPermutation-sym es sorted moved) found.0,
-          of_queue _ m
-              found.1,
+        let found = filter_contains (is_of queues m) sorted e (in_contains row e there) in
+        let back = IsPermutation-sym es sorted moved in (
+          contains_in es e (Contains-permutation sorted es e back found.0),
+          of_queue _ m found.1,
         ),
     λ there.
-        contains_filter (is_of queues m) sorted e (Contains-permutation es sorted e moved there.0)
-        (queue_of _ m there.1),
+        let moves = Contains-permutation es sorted e moved (in_contains es e there.0) in
+        contains_in row e
+        (contains_filter (is_of queues m) sorted e moves (queue_of _ m there.1)),
   );
 }
+  where
+    row : List Entry
+    row = row_of queues sorted m

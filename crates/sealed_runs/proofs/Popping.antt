@@ -1,12 +1,14 @@
 -- A pop keeps what a visit is, and its reply says what the visit handed out or which limit closed it.
-use Rattle.std.proofs.Common.{◌≡◌, ℕ, ◌+◌, ◌<◌, ◌≤◌, [], ◌∷◌, ◌++◌, length, map, All, Contains, Option, Some, None, IfSome, true, false, refl, sym, ap, ◌∙◌, subst, inl, inr, arith}
+use Rattle.std.proofs.Common.{◌≡◌, ℕ, ◌+◌, ◌<◌, ◌≤◌, [], ◌∷◌, ◌++◌, length, map, All, Option, Some, None, IfSome, true, false, inl, refl, sym, ap, ◌∙◌, subst, inl, inr, arith}
 use Rattle.std.specs.Prelude.{nat_le}
 use Rattle.std.proofs.lemmas.Bool.{cond_both}
 use Rattle.std.proofs.lemmas.Bool.Decides.{nat_tests}
 use Rattle.std.proofs.lemmas.List.{map-append}
-use Rattle.std.proofs.lemmas.List.Elements.{All-push, Contains-push}
+use Rattle.std.proofs.lemmas.List.Elements.{All-push}
 use Rattle.series_core.specs.declared.queue_words.PopReply.{PopReply}
 use Rattle.series_core.specs.declared.queue_words.PopReply.TheVariants.{Leaf, Closed}
+use Rattle.list_totals.specs.Standing.{In}
+use Rattle.list_totals.proofs.Standing.{in_behind}
 use Rattle.sealed_runs.specs.Entries.{Run, entry_at}
 use Rattle.sealed_runs.specs.Visits.{Visit, handed, IsVisit}
 use Rattle.sealed_runs.specs.Popped.{IfLeaf, IfClosed, Gives, Shuts, drew, ended, popped, Pops}
@@ -85,8 +87,8 @@ module _ (run : Run) (limit : ℕ) (v : Visit) (own : IsVisit run v) (going : v.
           ended = λ e. absurd (not_both e (own.going going).0);
           going = λ e. absurd (some_none limit w.closed refl e);
           shut = λ l e. inr (λ none. some_none n w.refused refl none);
-          refused = λ x e. subst (Contains (v.claim.draws ++ n ∷ [])) (some_same n x e)
-              (Contains-push v.claim.draws n);
+          refused = λ x e. subst (λ y. In y (v.claim.draws ++ n ∷ [])) (some_same n x e)
+              (in_behind n v.claim.draws (n ∷ []) (inl refl));
           above = λ x l e f.
               let place = some_same n x e in
               let told = some_same limit l f in

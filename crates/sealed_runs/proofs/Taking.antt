@@ -3,7 +3,8 @@ use Rattle.std.proofs.Common.{◌≡◌, ◌⊎◌, ℕ, ◌+◌, ◌<◌, List,
 use Rattle.std.proofs.lemmas.List.Elements.{Contains-push, Contains-append_left, Contains-push_cases, Contains-get_or}
 use Rattle.std.proofs.lemmas.List.Quantifiers.{all_pairs_push}
 use Rattle.series_core.specs.declared.queue_words.Entry.{Entry}
-use Rattle.sealed_runs.specs.Entries.{Before, IsAscending, no_entry, entry_at}
+use Rattle.series_core.specs.EntryOrder.{Before, IsAscending}
+use Rattle.sealed_runs.specs.Entries.{no_entry, entry_at}
 use Rattle.sealed_runs.specs.Tallied.{Takes}
 use Rattle.sealed_runs.proofs.Members.{none_in}
 

@@ -1,8 +1,10 @@
 -- What the closed runs say: the rule is that a run's taken entries are those of its Leaf replies, and no others.
-use Rattle.std.specs.Prelude.{◌≡◌, ◌≢◌, ℕ, ◌<◌, ◌≤◌, ◌↔◌, min, List, [], ◌∷◌, Option, Some, None, IfSome, All, Any, Contains, length, slice_index_or}
+use Rattle.std.specs.Prelude.{◌≡◌, ◌≢◌, ℕ, ◌<◌, ◌≤◌, ◌↔◌, min, List, [], ◌∷◌, Option, Some, None, IfSome, All, Any, length, slice_index_or}
 use Rattle.series_core.specs.declared.queue_words.Entry.{Entry}
+use Rattle.list_totals.specs.Standing.{In}
 use Rattle.list_totals.specs.Totals.{total, times}
-use Rattle.sealed_runs.specs.Entries.{Run, IsAscending, run_at}
+use Rattle.series_core.specs.EntryOrder.{IsAscending}
+use Rattle.sealed_runs.specs.Entries.{Run, run_at}
 use Rattle.sealed_runs.specs.Visits.{Visit, column, handed, leaves}
 
 -- a closed run: the entries that were taken, and the limit that it keeps
@@ -34,11 +36,11 @@ least_limit (v ∷ vs) = lesser v.closed (least_limit vs)
 pub record IsLine (run : Run) (visits : List Visit) (line : Line) : Type 0 where
   pub ascending : IsAscending line.taken
   pub exactly : (e : Entry)
-      → Contains line.taken e ↔ Any (λ v. Contains (leaves run.entries v) e) visits
+      → In e line.taken ↔ Any (λ v. In e (leaves run.entries v)) visits
   pub once : (x : ℕ) → total (λ v. times x (handed v)) visits ≤ 1
   pub kept : line.kept ≡ least_limit visits
-  pub rest : All (λ v. v.closed ≢ None) visits → (e : Entry) → Contains run.entries e
-      → ¬ (Contains line.taken e) → IfSome line.kept (λ limit. limit < e.bound)
+  pub rest : All (λ v. v.closed ≢ None) visits → (e : Entry) → In e run.entries
+      → ¬ (In e line.taken) → IfSome line.kept (λ limit. limit < e.bound)
 
 -- one line for each run
 pub record AreLines (runs : List Run) (passes : List (List Visit)) (lines : List Line) : Type 0

@@ -1,17 +1,11 @@
--- Entries in ascending order, and the runs that they make: the rule is that run m has the leaves that leave m.
-use Rattle.std.specs.Prelude.{◌≡◌, ℕ, ◌<◌, ◌≤◌, ◌%◌, ◌⊎◌, ◌↔◌, List, [], slice_index_or, AllPairs, Contains}
+-- The runs that entries make: the rule is that run m has the leaves that leave m.
+use Rattle.std.specs.Prelude.{◌≡◌, ℕ, ◌≤◌, ◌%◌, ◌↔◌, List, [], slice_index_or}
 use Rattle.claim_word.specs.Seated.{TableId}
+use Rattle.series_core.specs.EntryOrder.{IsAscending}
 use Rattle.series_core.specs.declared.queue_words.Entry.{Entry}
 use Rattle.claim_word.specs.Passes.{Claim, claim_of}
+use Rattle.list_totals.specs.Standing.{In}
 use Rattle.list_totals.specs.Totals.{total, one_if_same}
-
--- e comes before f: its bound is less, or is the same and its leaf is less
-abbrev pub Before : Entry → Entry → Type 0
-Before e f = (e.bound < f.bound) ⊎ ((e.bound ≡ f.bound) × (e.leaf < f.leaf))
-
--- each entry comes before each later one
-abbrev pub IsAscending : List Entry → Type 0
-IsAscending es = AllPairs Before es
 
 -- no leaf has two entries
 abbrev pub LeavesDiffer : List Entry → Type 0
@@ -20,7 +14,7 @@ LeavesDiffer es = (leaf : ℕ) → total (λ e. one_if_same leaf e.leaf) es ≤ 
 -- the run of queue m: in ascending order, exactly those of the entries whose leaf leaves m
 pub record IsRun (entries : List Entry) (queues m : ℕ) (es : List Entry) : Type 0 where
   pub ascending : IsAscending es
-  pub exactly : (e : Entry) → Contains es e ↔ (Contains entries e × (e.leaf % queues ≡ m))
+  pub exactly : (e : Entry) → In e es ↔ (In e entries × (e.leaf % queues ≡ m))
 
 -- a sealed run: the counter from which its places are drawn, and its entries
 pub record Run : Type 0 where

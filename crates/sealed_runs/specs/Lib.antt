@@ -1,6 +1,8 @@
 -- What the contracts of sealed runs speak of.
 pub use Rattle.claim_word.specs.Passes
 pub use Rattle.list_totals.specs.Totals
+pub use Rattle.list_totals.specs.Standing
+pub use Rattle.series_core.specs.EntryOrder
 pub mod Entries
 pub mod Visits
 pub mod Popped

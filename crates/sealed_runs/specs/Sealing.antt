@@ -2,7 +2,8 @@
 use Rattle.std.specs.Prelude.{◌≡◌, ℕ, ◌%◌, List, Bool, map, length, nat_eq}
 use Rattle.std.specs.List.{filter}
 use Rattle.series_core.specs.declared.queue_words.Entry.{Entry}
-use Rattle.sealed_runs.specs.Entries.{Run, IsAscending}
+use Rattle.series_core.specs.EntryOrder.{IsAscending}
+use Rattle.sealed_runs.specs.Entries.{Run}
 use Rattle.sealed_runs.specs.Visits.{Visit, fresh_visit}
 
 -- a run that so many passes may pop: it ascends, and its counter has one place for each entry

@@ -3,7 +3,8 @@ use Rattle.std.specs.Prelude.{◌≡◌, ℕ, ◌<◌, List, [], ◌∷◌, ◌+
 use Rattle.series_core.specs.declared.queue_words.Entry.{Entry}
 use Rattle.claim_word.specs.Passes.{Pass}
 use Rattle.list_totals.specs.Totals.{greatest}
-use Rattle.sealed_runs.specs.Entries.{IsAscending, entry_at}
+use Rattle.series_core.specs.EntryOrder.{IsAscending}
+use Rattle.sealed_runs.specs.Entries.{entry_at}
 use Rattle.sealed_runs.specs.Visits.{Visit, no_visit}
 use Rattle.sealed_runs.specs.Closed.{least_limit}
 

@@ -1,7 +1,8 @@
 -- What one pass did at one run: the places that it drew, the one that it refused, and the limit that closed it.
-use Rattle.std.specs.Prelude.{◌≡◌, ◌≢◌, ℕ, ◌<◌, ◌≤◌, ◌⊎◌, List, Bool, true, false, not, All, Contains, Option, Some, None, filter, map, length, slice_index_or, nat_eq}
+use Rattle.std.specs.Prelude.{◌≡◌, ◌≢◌, ℕ, ◌<◌, ◌≤◌, ◌⊎◌, List, Bool, true, false, not, All, Option, Some, None, filter, map, length, slice_index_or, nat_eq}
 use Rattle.series_core.specs.declared.queue_words.Entry.{Entry}
 use Rattle.claim_word.specs.Passes.{Claim, Pass, fresh_pass}
+use Rattle.list_totals.specs.Standing.{In}
 use Rattle.sealed_runs.specs.Entries.{Run, entry_at, no_run, run_at}
 
 -- a visit: the record of its pass of the counter, the place whose entry was above the limit, and the limit of its
@@ -49,7 +50,7 @@ pub record IsVisit (run : Run) (v : Visit) : Type 0 where
   pub ended : v.claim.ended ≡ true → v.claim.met ≡ length run.entries
   pub going : v.closed ≡ None → (v.claim.ended ≡ false) × (v.refused ≡ None)
   pub shut : (limit : ℕ) → v.closed ≡ Some limit → (v.claim.ended ≡ true) ⊎ (v.refused ≢ None)
-  pub refused : (x : ℕ) → v.refused ≡ Some x → Contains v.claim.draws x
+  pub refused : (x : ℕ) → v.refused ≡ Some x → In x v.claim.draws
   pub above : (x limit : ℕ) → v.refused ≡ Some x → v.closed ≡ Some limit
       → limit < (entry_at run.entries x).bound
 

@@ -1,7 +1,7 @@
 //! Closed runs: which entries of each run were taken, and which limit it keeps.
 ghost use Rattle.std.specs.Prelude.{◌≡◌, ℕ, ◌+◌, ◌<◌, ◌≤◌, [], true, false, All, Contains};
 ghost use Rattle.std.specs.Prelude.{take, map, length, vec_len, vec_capacity};
-ghost use Rattle.sealed_runs.specs.Entries.{IsAscending};
+ghost use Rattle.series_core.specs.EntryOrder.{IsAscending};
 ghost use Rattle.sealed_runs.specs.Visits.{IsVisit, visit_at, column};
 ghost use Rattle.sealed_runs.specs.Closed.{IsLine, line_at};
 ghost use Rattle.sealed_runs.specs.Sealing.{IsReady};

@@ -2,7 +2,8 @@
 ghost use Rattle.std.specs.Prelude.{◌≡◌, ℕ, ◌+◌, ◌^◌, ◌%◌, ◌<◌, ◌≤◌, [], ◌∷◌, ◌++◌, List, All, IfOk, map};
 ghost use Rattle.std.specs.Prelude.{replicate, length, slice_index_or, vec_len};
 ghost use Rattle.claim_word.specs.Passes.{Claim, fresh_pass};
-ghost use Rattle.sealed_runs.specs.Entries.{Run as Seen, IsAscending};
+ghost use Rattle.series_core.specs.EntryOrder.{IsAscending};
+ghost use Rattle.sealed_runs.specs.Entries.{Run as Seen};
 ghost use Rattle.sealed_runs.specs.Visits.{fresh_visit};
 ghost use Rattle.sealed_runs.specs.Sealing.{IsReady, fresh_visits, row_of};
 

@@ -1,4 +1,8 @@
-//! Pops of sealed runs in one thread.
+//! Pops of sealed runs: by one pass, by a few in a random order, and in threads of their own.
+mod calls;
+mod plain;
+mod threads;
+
 use super::*;
 use series_core::{Entry, PopReply};
 use std::test::*;

@@ -3,7 +3,8 @@ use Rattle.std.proofs.Common.{List, Some, [], ap, arith, inl, inr, refl, subst, 
 use Rattle.std.proofs.lemmas.Option.{none-some, same_Some}
 use Rattle.std.specs.Prelude.{slice_get}
 use Rattle.list_totals.specs.Totals.{times, total}
-use Rattle.series_core.specs.Order.{Ascending, Has}
+use Rattle.list_totals.specs.Standing.{In}
+use Rattle.series_core.specs.Order.{Ascending}
 use Rattle.series_core.specs.Pairs.{ascending}
 use Rattle.series_core.specs.declared.pair.Pair.{Pair}
 use Rattle.search_machine.specs.Ground.{Fits, Ground}
@@ -14,21 +15,21 @@ use Rattle.search_machine.proofs.Places.{total_at}
 use Rattle.search_machine.proofs.Pools.{Apart, Pool, ascending_joined, has_either, has_joined}
 
 -- what stands in all lists stands in that of some worker
-pub all_from : (ws : List Worker) (p : Pair) → Has p (all_pairs ws)
-    → (i : ℕ) × (w : Worker) × (slice_get ws i ≡ Some w) × Has p w.list
+pub all_from : (ws : List Worker) (p : Pair) → In p (all_pairs ws)
+    → (i : ℕ) × (w : Worker) × (slice_get ws i ≡ Some w) × In p w.list
 all_from [] p h = absurd h
 all_from (w ∷ ws) p h = ⊎_elim
-    (λ (t : Has p w.list). (0, w, refl, t))
-    (λ (t : Has p (all_pairs ws)). let f = all_from ws p t in (suc f.0, f.1, f.2, f.3))
+    (λ (t : In p w.list). (0, w, refl, t))
+    (λ (t : In p (all_pairs ws)). let f = all_from ws p t in (suc f.0, f.1, f.2, f.3))
     (has_joined p w.list (all_pairs ws) h)
 
 -- what stands in a worker's list stands in all lists
 pub all_has : (ws : List Worker) (i : ℕ) (w : Worker) (p : Pair) → slice_get ws i ≡ Some w
-    → Has p w.list → Has p (all_pairs ws)
+    → In p w.list → In p (all_pairs ws)
 all_has [] i w p e h = absurd (none-some w e)
 all_has (x ∷ xs) zero w p e h =
     has_either p x.list (all_pairs xs)
-    (inl (subst (λ (y : Worker). Has p y.list) (sym (same_Some x w e)) h))
+    (inl (subst (λ (y : Worker). In p y.list) (sym (same_Some x w e)) h))
 all_has (x ∷ xs) (suc i) w p e h =
     has_either p x.list (all_pairs xs) (inr (all_has xs i w p e h))
 

@@ -11,14 +11,14 @@ use Rattle.leaf_queues.specs.PlainQueue.{PlainQueue}
 use Rattle.search_machine.specs.Closes.{Closes, claimed_by, final, placed_by, placed_of, popped_by, popped_of, puts_by}
 use Rattle.search_machine.specs.Ground.{Fits, Ground, last}
 use Rattle.search_machine.specs.Workers.{without}
-use Rattle.search_machine.specs.Members.{In}
+use Rattle.list_totals.specs.Standing.{In}
 use Rattle.search_machine.specs.OwnRecord.{Below, Far, Member, WasPut, claims_of, is_refused}
 use Rattle.search_machine.specs.Sound.{held, in_hand, places, scans, takes, unclaimed, waits}
 use Rattle.search_machine.specs.Stands.{OwnDrains, OwnPhase, in_late}
 use Rattle.search_machine.proofs.CallCounts.{not_refused, popped_is, scans_by}
 use Rattle.search_machine.proofs.ClosedQueues.{in_queue}
 use Rattle.search_machine.proofs.Counts.{counts_or_not, same_counts}
-use Rattle.search_machine.proofs.Members.{in_total, total_in}
+use Rattle.list_totals.proofs.Standing.{in_total, total_in}
 use Rattle.search_machine.proofs.Places.{get_some, total_at, total_none, total_some}
 use Rattle.search_machine.proofs.PutsOnce.{put_below}
 

@@ -10,7 +10,7 @@ use Rattle.search_machine.specs.OwnRecord.{Member, WasRefused, WasTaken, is_refu
 use Rattle.search_machine.specs.Sound.{takes, waits}
 use Rattle.search_machine.proofs.CallCounts.{both_of, placed_is, popped_some, refusals_by, refused_of}
 use Rattle.search_machine.proofs.Counts.{same_counts}
-use Rattle.search_machine.proofs.Members.{in_total, total_in}
+use Rattle.list_totals.proofs.Standing.{in_total, total_in}
 use Rattle.search_machine.proofs.Places.{at_most_one, get_some, total_at, total_most, total_some, total_two}
 use Rattle.search_machine.proofs.PutsOnce.{placed_put, put_below, puts_once}
 

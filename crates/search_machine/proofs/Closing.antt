@@ -11,7 +11,7 @@ use Rattle.search_machine.specs.Closes.{CameByPut, Closes, QueueCloses, final, p
 use Rattle.search_machine.specs.Ground.{Fits, Ground, start_limit}
 use Rattle.search_machine.specs.Legal.{Legal}
 use Rattle.search_machine.specs.Workers.{Worker, round_queue}
-use Rattle.search_machine.specs.Members.{In}
+use Rattle.list_totals.specs.Standing.{In}
 use Rattle.search_machine.specs.Outcome.{AllDone, outcome}
 use Rattle.search_machine.specs.OwnRecord.{Member, Near, PutRight, WasClosed, WasRefused, WasTaken}
 use Rattle.search_machine.specs.Sound.{IsShut, PhaseSound, QueueSound, Sound, WorkerSound, takes, waits}

@@ -12,7 +12,7 @@ use Rattle.search_machine.specs.Basics.{Between}
 use Rattle.search_machine.specs.Closes.{CameByPut, Closes, QueueCloses, claimed_by}
 use Rattle.search_machine.specs.Examples.{eleven_member, eleven_opening, eleven_queue, eleven_replies, entry, two_series}
 use Rattle.search_machine.specs.Ground.{Fits, Ground}
-use Rattle.search_machine.specs.Members.{In}
+use Rattle.list_totals.specs.Standing.{In}
 use Rattle.search_machine.specs.OwnRecord.{Member}
 use Rattle.search_machine.specs.Replies.{ReplyFits, after, after_all}
 use Rattle.search_machine.specs.Stands.{StandsFor}

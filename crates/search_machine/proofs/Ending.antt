@@ -21,13 +21,13 @@ use Rattle.search_machine.specs.Ground.{Fits, Ground, answer, last, plain, start
 use Rattle.search_machine.specs.Legal.{FateRight, Legal}
 use Rattle.search_machine.specs.Machine.{State}
 use Rattle.search_machine.specs.Workers.{round_queue, without}
-use Rattle.search_machine.specs.Members.{In}
+use Rattle.list_totals.specs.Standing.{In}
 use Rattle.search_machine.specs.Outcome.{AllDone, all_pairs, fate, first_place, is_start, kept_of, late_fate, line_of, outcome, taken_fate}
 use Rattle.search_machine.specs.Sound.{Drains, PhaseSound, Sound, held, in_hand, scans, takes, unclaimed, waits}
 use Rattle.search_machine.specs.Basics.{Between, EntryRight, entered}
 use Rattle.search_machine.proofs.AllLists.{all_has, all_pool}
 use Rattle.search_machine.proofs.Counts.{counts_or_not}
-use Rattle.search_machine.proofs.Members.{total_in}
+use Rattle.list_totals.proofs.Standing.{total_in}
 use Rattle.search_machine.proofs.Outcomes.{FirstPlace, found_none, found_some, get_fates, length_fates, line_at, start_false, start_true}
 use Rattle.search_machine.proofs.Places.{get_some, total_none, total_some}
 use Rattle.search_machine.proofs.PlainList.{answer_near, plain_has}

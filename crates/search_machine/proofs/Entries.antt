@@ -5,9 +5,9 @@ use Rattle.std.proofs.lemmas.Bool.Decides.{nat_tests}
 use Rattle.list_totals.specs.Totals.{one_if_same}
 use Rattle.series_core.specs.declared.queue_words.Entry.{Entry}
 use Rattle.leaf_queues.specs.PlainQueue.{entry_before, place}
-use Rattle.search_machine.specs.Members.{In}
+use Rattle.list_totals.specs.Standing.{In}
 use Rattle.search_machine.specs.Basics.{Ordered, entered}
-use Rattle.search_machine.proofs.Members.{in_front}
+use Rattle.list_totals.proofs.Standing.{in_front}
 
 -- what stands in the list after an entry was placed is that entry or stood there
 pub in_placed : (x e : Entry) (es : List Entry) → In x (place e es) → (x ≡ e) ⊎ In x es

@@ -14,7 +14,7 @@ use Rattle.search_machine.specs.declared.phase.Phase.TheVariants.{Give}
 use Rattle.search_machine.specs.Ground.{Ground, entry_of, queue_of}
 use Rattle.search_machine.specs.Machine.{State, capacity_of}
 use Rattle.search_machine.specs.Workers.{Worker}
-use Rattle.search_machine.specs.Members.{In}
+use Rattle.list_totals.specs.Standing.{In}
 use Rattle.search_machine.specs.Sound.{QueueSound, Sound, held, in_hand, places, takes, waits}
 use Rattle.search_machine.specs.Basics.{EntryRight, entered}
 use Rattle.search_machine.proofs.Counts.{counts_or_not, length_sum, same_counts, sum_below, sum_le}

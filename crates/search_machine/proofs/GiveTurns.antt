@@ -12,7 +12,7 @@ use Rattle.search_machine.specs.Ground.{Fits, Ground, start_limit, entry_of, que
 use Rattle.search_machine.specs.Machine.{State}
 use Rattle.search_machine.proofs.Rows.{give_turn, put_done, with_queue}
 use Rattle.search_machine.specs.Workers.{Worker, in_phase}
-use Rattle.search_machine.specs.Members.{In}
+use Rattle.list_totals.specs.Standing.{In}
 use Rattle.search_machine.specs.Sound.{PhaseSound, QueueSound, Sound, held, in_hand, takes, waits}
 use Rattle.search_machine.specs.Basics.{EntryRight}
 use Rattle.search_machine.proofs.Counts.{same_counts}

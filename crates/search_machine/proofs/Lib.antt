@@ -1,5 +1,4 @@
 -- The lemmas of this crate.
-pub mod Members
 pub mod Places
 pub mod Counts
 pub mod Entries

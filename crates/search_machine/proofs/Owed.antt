@@ -5,7 +5,7 @@ use Rattle.search_machine.specs.declared.phase.Phase.{Phase}
 use Rattle.search_machine.specs.declared.phase.Phase.TheVariants.{Aim, Claim, Done, Give, Late, Look, Offer, Pop}
 use Rattle.search_machine.specs.Ground.{Ground}
 use Rattle.search_machine.specs.Workers.{Worker, in_phase}
-use Rattle.search_machine.specs.Members.{In}
+use Rattle.list_totals.specs.Standing.{In}
 use Rattle.search_machine.specs.OwnRecord.{Below, Different, Far, Floored, OwnRecord, PopMade, PutMade, PutRight, WasPut, WasRefused, WasTaken, put_of}
 use Rattle.search_machine.specs.Sound.{ListUnder, held, in_hand}
 use Rattle.search_machine.specs.Stands.{OwnPhase, Stands, in_give, in_late, stands_in}

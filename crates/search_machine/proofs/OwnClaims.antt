@@ -10,7 +10,7 @@ use Rattle.search_machine.specs.declared.phase.Onward.TheVariants.{Aim as ToAim,
 use Rattle.search_machine.specs.declared.phase.Phase.TheVariants.{Aim, Claim, Offer, Pop}
 use Rattle.search_machine.specs.Ground.{Fits, Ground}
 use Rattle.search_machine.specs.Workers.{Worker, after_claim, in_phase, onward, without}
-use Rattle.search_machine.specs.Members.{In}
+use Rattle.list_totals.specs.Standing.{In}
 use Rattle.search_machine.specs.OwnRecord.{Below, Different, OfferMade, OwnRecord, PutMade, claims_of, put_of, with_claim, with_offer, with_read}
 use Rattle.search_machine.specs.Sound.{held, in_hand}
 use Rattle.search_machine.specs.Stands.{OwnOnward, OwnPhase, Stands, in_late, stands_in}

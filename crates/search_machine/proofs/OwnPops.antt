@@ -11,7 +11,7 @@ use Rattle.search_machine.specs.declared.phase.Phase.{Phase}
 use Rattle.search_machine.specs.declared.phase.Phase.TheVariants.{Aim, Done, Pop}
 use Rattle.search_machine.specs.Ground.{Fits, Ground, scan}
 use Rattle.search_machine.specs.Workers.{Worker, after_pop, after_scan, in_phase, is_new, scanned_by}
-use Rattle.search_machine.specs.Members.{In}
+use Rattle.list_totals.specs.Standing.{In}
 use Rattle.search_machine.specs.OwnRecord.{Floored, OwnRecord, PopMade, WasTaken, with_pop}
 use Rattle.search_machine.specs.Sound.{in_hand}
 use Rattle.search_machine.specs.Stands.{OwnDrains, OwnPhase, Stands, in_late}

@@ -8,7 +8,7 @@ use Rattle.search_machine.specs.declared.phase.Phase.{Phase}
 use Rattle.search_machine.specs.declared.phase.Phase.TheVariants.{Give, Late, Look}
 use Rattle.search_machine.specs.Ground.{Ground, entry_of}
 use Rattle.search_machine.specs.Workers.{Worker, after_look, after_put, in_phase, skip, stopped}
-use Rattle.search_machine.specs.Members.{In}
+use Rattle.list_totals.specs.Standing.{In}
 use Rattle.search_machine.specs.OwnRecord.{Below, OwnRecord, PutMade, PutRight, is_refused, with_put, with_read}
 use Rattle.search_machine.specs.Sound.{held, in_hand}
 use Rattle.search_machine.specs.Stands.{OwnPhase, Stands, in_give, in_late}

@@ -5,31 +5,32 @@ use Rattle.std.proofs.lemmas.Bool.{cond-false}
 use Rattle.series_core.proofs.Order.{not_after}
 use Rattle.series_core.proofs.Parts.{ascending_insert, ascending_take, has_take, kept, not_above, same_take}
 use Rattle.series_core.proofs.Plain.{ascending_has, has_ascending}
-use Rattle.series_core.specs.Order.{Above, Among, Ascending, Has}
+use Rattle.list_totals.specs.Standing.{In}
+use Rattle.series_core.specs.Order.{Above, Among, Ascending}
 use Rattle.series_core.specs.Pairs.{ascending, insert, is_before, smallest}
 use Rattle.series_core.specs.declared.pair.Pair.{Pair}
 use Rattle.search_machine.specs.Ground.{Ground, answer, plain}
 use Rattle.search_machine.proofs.PlainList.{Known, ascending_plain}
 
 -- what stands in one of two lists stands in both together
-pub has_either : (p : Pair) (ps qs : List Pair) → Has p ps ⊎ Has p qs → Has p (ps ++ qs)
-has_either p [] qs h = ⊎_elim (λ (t : ⊥). absurd t) (λ (t : Has p qs). t) h
+pub has_either : (p : Pair) (ps qs : List Pair) → In p ps ⊎ In p qs → In p (ps ++ qs)
+has_either p [] qs h = ⊎_elim (λ (t : ⊥). absurd t) (λ (t : In p qs). t) h
 has_either p (r ∷ rs) qs h = ⊎_elim
-    (λ (t : Has p (r ∷ rs)). ⊎_elim
+    (λ (t : In p (r ∷ rs)). ⊎_elim
     (λ (e : p ≡ r). inl e)
-    (λ (u : Has p rs). inr (has_either p rs qs (inl u)))
+    (λ (u : In p rs). inr (has_either p rs qs (inl u)))
     t)
-    (λ (t : Has p qs). inr (has_either p rs qs (inr t)))
+    (λ (t : In p qs). inr (has_either p rs qs (inr t)))
     h
 
 -- what stands in two lists together stands in one of them
-pub has_joined : (p : Pair) (ps qs : List Pair) → Has p (ps ++ qs) → Has p ps ⊎ Has p qs
+pub has_joined : (p : Pair) (ps qs : List Pair) → In p (ps ++ qs) → In p ps ⊎ In p qs
 has_joined p [] qs h = inr h
 has_joined p (r ∷ rs) qs h = ⊎_elim
     (λ (e : p ≡ r). inl (inl e))
-    (λ (t : Has p (rs ++ qs)). ⊎_elim
-    (λ (u : Has p rs). inl (inr u))
-    (λ (u : Has p qs). inr u)
+    (λ (t : In p (rs ++ qs)). ⊎_elim
+    (λ (u : In p rs). inl (inr u))
+    (λ (u : In p qs). inr u)
     (has_joined p rs qs t))
     h
 
@@ -46,7 +47,7 @@ ascending_still (p ∷ ps) up = ap (insert p) (ascending_still ps up.1) ∙ inse
 
 -- no pair stands in both lists
 abbrev pub Apart : List Pair → List Pair → Type 0
-Apart ps qs = (p : Pair) → Has p ps → Has p qs → ⊥
+Apart ps qs = (p : Pair) → In p ps → In p qs → ⊥
 
 -- two lists that ascend and have no pair in common ascend when they are put into order together
 pub ascending_joined : (ps qs : List Pair) → Ascending ps → Ascending (ascending qs) → Apart ps qs
@@ -56,10 +57,10 @@ ascending_joined (p ∷ ps) qs up rest apart =
     ascending_insert p (ascending (ps ++ qs)) new
     (ascending_joined ps qs up.1 rest (λ r h i. apart r (inr h) i))
   where
-    new : Has p (ascending (ps ++ qs)) → ⊥
+    new : In p (ascending (ps ++ qs)) → ⊥
     new h = ⊎_elim
-        (λ (t : Has p ps). not_above p ps up.0 t)
-        (λ (t : Has p qs). apart p (inl refl) t)
+        (λ (t : In p ps). not_above p ps up.0 t)
+        (λ (t : In p qs). apart p (inl refl) t)
         (has_joined p ps qs (has_ascending p (ps ++ qs) h))
 
 -- a pool: different pairs of the plain list, in any order
@@ -70,8 +71,8 @@ pub record Pool (g : Ground) (ps : List Pair) : Type 0 where
 -- what the k smallest pairs of a pool are
 pub record Best (g : Ground) (pool qs : List Pair) : Type 0 where
   pub known : Known g qs
-  pub from : (p : Pair) → Has p qs → Has p pool
-  pub full : (p : Pair) → Has p (answer g) → Has p pool → Has p qs
+  pub from : (p : Pair) → In p qs → In p pool
+  pub full : (p : Pair) → In p (answer g) → In p pool → In p qs
 
 -- the k smallest pairs of a pool have each pair of the answer that is in it
 pub best_of : (g : Ground) (pool : List Pair) → Pool g pool → Best g pool (smallest g.k pool)
@@ -86,7 +87,7 @@ best_of g pool ok = record {
       (ascending_has p pool h);
 }
   where
-    from : (p : Pair) → Has p (smallest g.k pool) → Has p pool
+    from : (p : Pair) → In p (smallest g.k pool) → In p pool
     from p h = has_ascending p pool (has_take g.k p (ascending pool) h)
 
     among : Among (ascending pool) (plain g)

@@ -16,13 +16,13 @@ use Rattle.search_machine.specs.Ground.{Fits, Ground, last, scan, start_limit}
 use Rattle.search_machine.specs.Machine.{State}
 use Rattle.search_machine.proofs.Rows.{pop_done, pop_turn, with_queue}
 use Rattle.search_machine.specs.Workers.{Worker, after_pop, in_phase, is_new, round_queue, scanned_by}
-use Rattle.search_machine.specs.Members.{In}
+use Rattle.list_totals.specs.Standing.{In}
 use Rattle.search_machine.specs.Sound.{Drains, IsShut, PhaseSound, QueueSound, Sound, WorkerSound, held, in_hand, scans, waits}
 use Rattle.search_machine.specs.Basics.{Between, EntryRight, Ordered, entered}
 use Rattle.search_machine.proofs.Counts.{same_counts}
 use Rattle.search_machine.proofs.Entries.{bound_order}
 use Rattle.search_machine.proofs.HandsAndScans.{scan_hand, waits_fresh, worker_scanned}
-use Rattle.search_machine.proofs.Members.{in_append}
+use Rattle.list_totals.proofs.Standing.{in_append}
 use Rattle.search_machine.proofs.Places.{get_set_same, total_at}
 use Rattle.search_machine.proofs.Turns.{drains_still, stay_shut, turned_together, worker_moves}
 

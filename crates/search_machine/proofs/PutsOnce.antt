@@ -5,7 +5,7 @@ use Rattle.std.specs.Prelude.{slice_get}
 use Rattle.list_totals.specs.Totals.{times, total}
 use Rattle.search_machine.specs.Closes.{claimed_by, placed_by, placed_of, puts_by}
 use Rattle.search_machine.specs.Ground.{Fits, Ground}
-use Rattle.search_machine.specs.Members.{In}
+use Rattle.list_totals.specs.Standing.{In}
 use Rattle.search_machine.specs.OwnRecord.{Below, Member, Near, put_of}
 use Rattle.search_machine.specs.Stands.{Stands}
 use Rattle.search_machine.proofs.CallCounts.{both_of, refusals_by, refused_of}

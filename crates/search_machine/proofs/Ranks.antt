@@ -4,7 +4,8 @@ use Rattle.std.proofs.Common.{List, Some, [], ap, arith, length, min, refl, suc,
 use Rattle.std.proofs.lemmas.Option.{none-some}
 use Rattle.std.specs.Prelude.{slice_get, ℤ}
 use Rattle.series_core.proofs.Plain.{answer-smallest, length-ascending}
-use Rattle.series_core.proofs.Ranks.{get_has, place_rank}
+use Rattle.list_totals.proofs.Standing.{in_place as get_has}
+use Rattle.series_core.proofs.Ranks.{place_rank}
 use Rattle.series_core.proofs.Tallies.{count_by-tally, tally-ascending}
 use Rattle.series_core.specs.Answer.{answer as collection_answer, distance_or_none, last as collection_last, pairs_from as collection_pairs}
 use Rattle.series_core.specs.Collection.{Collection}

@@ -6,7 +6,7 @@ use Rattle.search_machine.specs.declared.phase.Onward.TheVariants.{Aim as ToAim,
 use Rattle.search_machine.specs.declared.phase.Phase.{Phase}
 use Rattle.search_machine.specs.Ground.{Ground}
 use Rattle.search_machine.specs.Workers.{Worker, round_queue}
-use Rattle.search_machine.specs.Members.{In}
+use Rattle.list_totals.specs.Standing.{In}
 use Rattle.search_machine.specs.OwnRecord.{Below, Far, Floored, Near, OfferMade, OwnRecord, PopMade, PutMade, PutRight, WasClosed, WasPut, WasRefused, WasTaken, with_claim, with_offer, with_pop, with_put, with_read}
 use Rattle.search_machine.specs.Sound.{ListUnder}
 use Rattle.search_machine.specs.Stands.{OwnDrains, OwnOnward, OwnPhase, Stands}

@@ -11,7 +11,7 @@ use Rattle.search_machine.specs.Closes.{AllStand, ClaimedOnce, put_in, puts_by, 
 use Rattle.search_machine.specs.OwnRecord.{Member, PutMade, put_of}
 use Rattle.search_machine.proofs.Counts.{counts_or_not, length_sum, same_counts, sum_le}
 use Rattle.search_machine.proofs.Filling.{capacity_sum}
-use Rattle.search_machine.proofs.Members.{total_in}
+use Rattle.list_totals.proofs.Standing.{total_in}
 use Rattle.search_machine.proofs.OwnLate.{below_real}
 use Rattle.search_machine.proofs.Places.{total_most, total_some}
 use Rattle.search_machine.proofs.PutsOnce.{puts_once}

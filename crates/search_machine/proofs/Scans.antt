@@ -5,7 +5,8 @@ use Rattle.std.proofs.lemmas.Bool.{cases_lt, cond-true, cond_both, le-leb, leb-f
 use Rattle.list_totals.specs.Totals.{times}
 use Rattle.series_core.proofs.Parts.{ascending_insert, has_take}
 use Rattle.series_core.proofs.Plain.{has_ascending}
-use Rattle.series_core.specs.Order.{Ascending, Has}
+use Rattle.list_totals.specs.Standing.{In}
+use Rattle.series_core.specs.Order.{Ascending}
 use Rattle.series_core.specs.Pairs.{ascending, smallest}
 use Rattle.series_core.specs.declared.distance.TheConstants.{NONE}
 use Rattle.series_core.specs.declared.pair.Pair.{Pair}
@@ -17,13 +18,13 @@ use Rattle.search_machine.proofs.PlainList.{Known, answer_near, has_plain, last_
 use Rattle.search_machine.proofs.Pools.{Best, Pool, ascending_still, best_of, has_either, has_joined}
 
 -- the pairs that a scan takes are those of members that are near
-near_has : (g : Ground) (v : ℕ) (ss : List ℕ) (p : Pair) → Has p (near g v ss)
+near_has : (g : Ground) (v : ℕ) (ss : List ℕ) (p : Pair) → In p (near g v ss)
     → (0 < times p.number ss) × (p ≡ pair_of g p.number)
 near_has g v [] p = λ h. absurd h
 near_has g v (s ∷ ss) p =
     cond_both (leb (g.distance s) v) (pair_of g s ∷ near g v ss) (near g v ss)
-    (λ ps. Has p ps → (0 < times p.number (s ∷ ss)) × (p ≡ pair_of g p.number))
-    (λ _ h. ⊎_elim here (λ (t : Has p (near g v ss)). later (near_has g v ss p t)) h)
+    (λ ps. In p ps → (0 < times p.number (s ∷ ss)) × (p ≡ pair_of g p.number))
+    (λ _ h. ⊎_elim here (λ (t : In p (near g v ss)). later (near_has g v ss p t)) h)
     (λ _ h. later (near_has g v ss p h))
   where
     here : p ≡ pair_of g s → (0 < times p.number (s ∷ ss)) × (p ≡ pair_of g p.number)
@@ -38,11 +39,11 @@ near_has g v (s ∷ ss) p =
 
 -- each member that is near has its pair there
 has_near : (g : Ground) (v : ℕ) (ss : List ℕ) (s : ℕ) → 0 < times s ss → g.distance s ≤ v
-    → Has (pair_of g s) (near g v ss)
+    → In (pair_of g s) (near g v ss)
 has_near g v [] s member low = absurd (omega arith)
 has_near g v (t ∷ ts) s member low =
     cond_both (leb (g.distance t) v) (pair_of g t ∷ near g v ts) (near g v ts)
-    (Has (pair_of g s))
+    (In (pair_of g s))
     (λ _. ⊎_elim
     (λ (e : s ≡ t). inl (ap (pair_of g) e))
     (λ (u : 0 < times s ts). inr (has_near g v ts s u low))
@@ -71,19 +72,19 @@ near_none g fits (s ∷ ss) real =
 record Fresh (g : Ground) (ss : List ℕ) (ps : List Pair) : Type 0 where
   real : (s : ℕ) → 0 < times s ss → s < g.count
   distinct : (s : ℕ) → times s ss ≤ 1
-  new : (p : Pair) → Has p ps → times p.number ss ≡ 0
+  new : (p : Pair) → In p ps → times p.number ss ≡ 0
 
 -- one more member's pair is none of those of the other members and of the list
 new_near : (g : Ground) (v s : ℕ) (ss : List ℕ) (ps : List Pair) → Fresh g (s ∷ ss) ps
-    → Has (pair_of g s) (ascending (near g v ss ++ ps)) → ⊥
+    → In (pair_of g s) (ascending (near g v ss ++ ps)) → ⊥
 new_near g v s ss ps fresh h =
     let counts = same_counts s in
     ⊎_elim
-    (λ (t : Has (pair_of g s) (near g v ss)).
+    (λ (t : In (pair_of g s) (near g v ss)).
     let more = (near_has g v ss (pair_of g s) t).0 in
     let most = fresh.distinct s in
     omega arith)
-    (λ (t : Has (pair_of g s) ps).
+    (λ (t : In (pair_of g s) ps).
     let none : times s (s ∷ ss) ≡ 0 = fresh.new (pair_of g s) t in omega arith)
     (has_joined (pair_of g s) (near g v ss) ps
     (has_ascending (pair_of g s) (near g v ss ++ ps) h))
@@ -115,11 +116,11 @@ scan_pool : (g : Ground) (v : ℕ) (ss : List ℕ) (ps : List Pair) → Fresh g 
 scan_pool g v ss ps fresh k = record {
   different = different_near g v ss ps fresh k.ascending;
   known = λ p h. ⊎_elim
-      (λ (t : Has p (near g v ss)).
+      (λ (t : In p (near g v ss)).
       let r = near_has g v ss p t in
-      subst (λ (q : Pair). Has q (plain g)) (sym r.1)
+      subst (λ (q : Pair). In q (plain g)) (sym r.1)
       (has_plain g p.number (fresh.real p.number r.0)))
-      (λ (t : Has p ps). k.known p t)
+      (λ (t : In p ps). k.known p t)
       (has_joined p (near g v ss) ps h);
 }
 
@@ -131,9 +132,9 @@ list_scanned g fits P l v scanned ps real unscanned enough sound = record {
   ascending = best.known.ascending;
   known = best.known.known;
   from = λ p h. ⊎_elim
-      (λ (t : Has p (near g v (g.members l))).
+      (λ (t : In p (near g v (g.members l))).
       let one = same_counts l in (l, omega arith, (near_has g v (g.members l) p t).0))
-      (λ (t : Has p ps).
+      (λ (t : In p ps).
       let f = sound.from p t in let some = f.1 in (f.0, omega arith, f.2))
       (has_joined p (near g v (g.members l)) ps (best.from p h));
   full = λ t p m a there member.
@@ -144,7 +145,7 @@ list_scanned g fits P l v scanned ps real unscanned enough sound = record {
       (times_cons m l scanned there)));
 }
   where
-    apart : (p : Pair) → Has p ps → 0 < times p.number (g.members l) → ⊥
+    apart : (p : Pair) → In p ps → 0 < times p.number (g.members l) → ⊥
     apart p h member =
         let f = sound.from p h in
         let same = fits.one_home l f.0 p.number member f.2 in
@@ -166,14 +167,14 @@ list_scanned g fits P l v scanned ps real unscanned enough sound = record {
     best = best_of g (near g v (g.members l) ++ ps) (scan_pool g v (g.members l) ps fresh
         (record { ascending = sound.ascending; known = sound.known }))
 
-    taken : P → (p : Pair) → Has p (answer g) → 0 < times p.number (g.members l)
-        → Has p (near g v (g.members l))
+    taken : P → (p : Pair) → In p (answer g) → 0 < times p.number (g.members l)
+        → In p (near g v (g.members l))
     taken t p a member =
         let is = (plain_has g p (has_take g.k p (plain g) a)).1 in
         let distance : p.distance ≡ g.distance p.number = ap (λ (q : Pair). q.distance) is in
         let low = answer_near g fits p a in
         let high = enough t in
-        subst (λ (q : Pair). Has q (near g v (g.members l))) (sym is)
+        subst (λ (q : Pair). In q (near g v (g.members l))) (sym is)
         (has_near g v (g.members l) p.number member (omega arith))
 
 -- the empty list of a worker that scanned nothing

@@ -6,7 +6,7 @@ use Rattle.list_totals.specs.Totals.{total, one_if_same}
 use Rattle.series_core.specs.declared.queue_words.Entry.{Entry}
 use Rattle.leaf_queues.specs.PlainQueue.{entry_before}
 use Rattle.search_machine.specs.declared.outcome.Start.{Start}
-use Rattle.search_machine.specs.Members.{In}
+use Rattle.list_totals.specs.Standing.{In}
 use Rattle.search_machine.specs.Ground.{Ground, last, start_limit, queue_of}
 
 -- a limit that some worker may read: at least the last distance, and at most the starting limit

@@ -6,7 +6,7 @@ use Rattle.series_core.specs.declared.queue_words.PopReply.{PopReply}
 use Rattle.series_core.specs.declared.queue_words.PopReply.TheVariants.{Leaf, Closed}
 use Rattle.leaf_queues.specs.PlainQueue.{PlainQueue}
 use Rattle.search_machine.specs.declared.phase.Phase.TheVariants.{Done}
-use Rattle.search_machine.specs.Members.{In}
+use Rattle.list_totals.specs.Standing.{In}
 use Rattle.search_machine.specs.Ground.{Ground, start_limit}
 use Rattle.search_machine.specs.Machine.{State, capacity_of}
 use Rattle.search_machine.specs.Sound.{waits, takes}

@@ -7,7 +7,7 @@ use Rattle.search_machine.specs.declared.outcome.Fate.{Fate}
 use Rattle.search_machine.specs.declared.outcome.Fate.TheVariants.{Start as StartFate, Queue as QueueFate, Late as LateFate, Bound as BoundFate}
 use Rattle.search_machine.specs.declared.outcome.QueueLine.{QueueLine}
 use Rattle.search_machine.specs.declared.outcome.Outcome.{Outcome}
-use Rattle.search_machine.specs.Members.{In}
+use Rattle.list_totals.specs.Standing.{In}
 use Rattle.search_machine.specs.Ground.{Ground, answer, last, start_limit}
 use Rattle.search_machine.specs.Basics.{Between, EntryRight, Ordered, entered, start_of}
 

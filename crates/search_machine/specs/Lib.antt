@@ -1,5 +1,4 @@
 -- What an outcome is and when it is legal.
-pub mod Members
 pub mod Ground
 pub mod Measures
 pub mod Basics
@@ -23,6 +22,7 @@ pub mod Examples
 pub mod Straight
 -- The definitions of the crates below that the public clauses cite.
 pub use Rattle.list_totals.specs.Totals
+pub use Rattle.list_totals.specs.Standing
 pub use Rattle.series_core.specs.Collection
 pub use Rattle.series_core.specs.Pairs
 pub use Rattle.series_core.specs.Order

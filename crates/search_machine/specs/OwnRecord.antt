@@ -6,7 +6,7 @@ use Rattle.series_core.specs.declared.queue_words.PutReply.{PutReply}
 use Rattle.series_core.specs.declared.queue_words.PutReply.TheVariants.{Placed, Shut, Filled}
 use Rattle.series_core.specs.declared.queue_words.PopReply.{PopReply}
 use Rattle.series_core.specs.declared.queue_words.PopReply.TheVariants.{Leaf, Closed}
-use Rattle.search_machine.specs.Members.{In}
+use Rattle.list_totals.specs.Standing.{In}
 use Rattle.search_machine.specs.Ground.{Ground, last, queue_of, entry_of}
 use Rattle.search_machine.specs.Workers.{Worker}
 

@@ -1,7 +1,7 @@
 -- What holds of the state at each moment of each schedule.
 use Rattle.std.specs.Prelude.{◌≡◌, ℕ, ◌+◌, ◌<◌, ◌≤◌, List, [], ◌⊎◌, Some, true, is_some, length, drop, slice_get}
 use Rattle.list_totals.specs.Totals.{total, times, one_if_same}
-use Rattle.series_core.specs.Order.{Ascending, Has, Among}
+use Rattle.series_core.specs.Order.{Ascending, Among}
 use Rattle.series_core.specs.declared.pair.Pair.{Pair}
 use Rattle.series_core.specs.declared.queue_words.Entry.{Entry}
 use Rattle.leaf_queues.specs.PlainQueue.{PlainQueue}
@@ -9,7 +9,7 @@ use Rattle.search_machine.specs.declared.phase.Phase.{Phase}
 use Rattle.search_machine.specs.declared.phase.Phase.TheVariants.{Claim, Look, Give, Late, Aim, Pop, Offer, Done}
 use Rattle.search_machine.specs.declared.phase.Onward.{Onward}
 use Rattle.search_machine.specs.declared.phase.Onward.TheVariants.{Look as ToLook, Aim as ToAim}
-use Rattle.search_machine.specs.Members.{In}
+use Rattle.list_totals.specs.Standing.{In}
 use Rattle.search_machine.specs.Basics.{Between, EntryRight, Ordered, entered}
 use Rattle.search_machine.specs.Ground.{Ground, plain, answer, last, start_limit}
 use Rattle.search_machine.specs.Machine.{State, capacity_of}
@@ -58,11 +58,11 @@ pub record ListUnder (g : Ground) (P : Type 0) (scanned : List ℕ) (ps : List P
   pub ascending : Ascending ps
   pub known : Among ps (plain g)
   -- each pair is that of a member of a leaf that was scanned
-  pub from : (p : Pair) → Has p ps
+  pub from : (p : Pair) → In p ps
       → (l : ℕ) × (0 < times l scanned) × (0 < times p.number (g.members l))
   -- each pair of the answer whose leaf was scanned is in the list
-  pub full : P → (p : Pair) (l : ℕ) → Has p (answer g) → 0 < times l scanned
-      → 0 < times p.number (g.members l) → Has p ps
+  pub full : P → (p : Pair) (l : ℕ) → In p (answer g) → 0 < times l scanned
+      → 0 < times p.number (g.members l) → In p ps
 
 -- the list of a worker that scanned these leaves, each with a limit of at least the last distance
 abbrev pub ListSound : Ground → List ℕ → List Pair → Type 0

@@ -8,3 +8,4 @@ pub mod Ranks
 pub mod Plain
 pub mod Room
 pub mod Limits
+pub mod EntryOrder

@@ -1,6 +1,5 @@
 -- The order of pairs is total: what follows from one test, from two, and where neither of two pairs is smaller.
-use Rattle.std.proofs.Common.{◌≡◌, ℕ, ◌≤◌, ◌<◌, ◌⊎◌, true, false, refl, ap, ◌∙◌, inl, inr, ⊎_elim, arith}
-use Rattle.std.proofs.lemmas.Bool.{cases_Bool}
+use Rattle.std.proofs.Common.{◌≡◌, ℕ, ◌≤◌, true, false, ap, ◌∙◌, arith}
 use Rattle.std.proofs.lemmas.Bool.Decides.{nat_tests}
 use Rattle.series_core.specs.Pairs.{is_before}
 use Rattle.series_core.specs.declared.pair.Pair.{Pair}

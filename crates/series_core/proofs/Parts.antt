@@ -2,22 +2,23 @@
 use Rattle.std.proofs.Common.{◌≡◌, ℕ, zero, suc, ◌≤◌, List, [], ◌∷◌, ◌⊎◌, true, false, take, sym, refl, ap, ◌∙◌, subst, inl, inr, ⊎_elim, arith}
 use Rattle.std.proofs.lemmas.Bool.{cond_both, cases_Bool}
 use Rattle.series_core.specs.Pairs.{is_before, insert}
-use Rattle.series_core.specs.Order.{Has, Among, Above, Ascending, AllNear, distance_at}
+use Rattle.list_totals.specs.Standing.{In}
+use Rattle.series_core.specs.Order.{Among, Above, Ascending, AllNear, distance_at}
 use Rattle.series_core.specs.declared.pair.Pair.{Pair}
 use Rattle.series_core.specs.declared.distance.TheConstants.{NONE}
 use Rattle.series_core.proofs.Order.{not_self, not_both, before_trans, same_pair, before_distance}
 
 -- what stands in a list above p is greater than p
-pub above_has : (p : Pair) (qs : List Pair) → Above p qs → (q : Pair) → Has q qs → is_before p q ≡ true
+pub above_has : (p : Pair) (qs : List Pair) → Above p qs → (q : Pair) → In q qs → is_before p q ≡ true
 above_has p [] above q has = absurd has
 above_has p (r ∷ rs) above q has =
     ⊎_elim
     (λ (e : q ≡ r). subst (λ (x : Pair). is_before p x ≡ true) (sym e) above.0)
-    (λ (t : Has q rs). above_has p rs above.1 q t)
+    (λ (t : In q rs). above_has p rs above.1 q t)
     has
 
 -- no pair stands in a list above itself
-pub not_above : (p : Pair) (qs : List Pair) → Above p qs → Has p qs → ⊥
+pub not_above : (p : Pair) (qs : List Pair) → Above p qs → In p qs → ⊥
 not_above p qs above has = not_self p (above_has p qs above p has)
 
 above_trans : (p q : Pair) (rs : List Pair) → is_before p q ≡ true → Above q rs → Above p rs
@@ -40,7 +41,7 @@ other_before p q differ h =
     (cases_Bool (is_before p q))
 
 -- a new pair keeps an ascending list ascending
-pub ascending_insert : (x : Pair) (qs : List Pair) → (Has x qs → ⊥) → Ascending qs → Ascending (insert x qs)
+pub ascending_insert : (x : Pair) (qs : List Pair) → (In x qs → ⊥) → Ascending qs → Ascending (insert x qs)
 ascending_insert x [] new up = (tt, tt)
 ascending_insert x (q ∷ qs) new up =
     cond_both (is_before q x) (q ∷ insert x qs) (x ∷ q ∷ qs) Ascending
@@ -50,39 +51,39 @@ ascending_insert x (q ∷ qs) new up =
     ((low, above_trans x q qs low up.0), up))
 
 -- what stands in the list after an insert
-pub has_insert : (p x : Pair) (qs : List Pair) → Has p (insert x qs) → (p ≡ x) ⊎ Has p qs
+pub has_insert : (p x : Pair) (qs : List Pair) → In p (insert x qs) → (p ≡ x) ⊎ In p qs
 has_insert p x [] = λ has. ⊎_elim (λ (e : p ≡ x). inl e) (λ (t : ⊥). absurd t) has
 has_insert p x (q ∷ qs) =
     cond_both (is_before q x) (q ∷ insert x qs) (x ∷ q ∷ qs)
-    (λ rs. Has p rs → (p ≡ x) ⊎ Has p (q ∷ qs))
+    (λ rs. In p rs → (p ≡ x) ⊎ In p (q ∷ qs))
     (λ _ has. ⊎_elim
     (λ (e : p ≡ q). inr (inl e))
-    (λ (t : Has p (insert x qs)). ⊎_elim
+    (λ (t : In p (insert x qs)). ⊎_elim
     (λ (e : p ≡ x). inl e)
-    (λ (u : Has p qs). inr (inr u))
+    (λ (u : In p qs). inr (inr u))
     (has_insert p x qs t))
     has)
     (λ _ has. has)
 
-pub insert_has : (p x : Pair) (qs : List Pair) → (p ≡ x) ⊎ Has p qs → Has p (insert x qs)
+pub insert_has : (p x : Pair) (qs : List Pair) → (p ≡ x) ⊎ In p qs → In p (insert x qs)
 insert_has p x [] has = ⊎_elim (λ (e : p ≡ x). inl e) (λ (t : ⊥). absurd t) has
 insert_has p x (q ∷ qs) has =
-    cond_both (is_before q x) (q ∷ insert x qs) (x ∷ q ∷ qs) (Has p)
+    cond_both (is_before q x) (q ∷ insert x qs) (x ∷ q ∷ qs) (In p)
     (λ _. ⊎_elim
     (λ (e : p ≡ x). inr (insert_has p x qs (inl e)))
-    (λ (t : Has p (q ∷ qs)). ⊎_elim
+    (λ (t : In p (q ∷ qs)). ⊎_elim
     (λ (e : p ≡ q). inl e)
-    (λ (u : Has p qs). inr (insert_has p x qs (inr u)))
+    (λ (u : In p qs). inr (insert_has p x qs (inr u)))
     t)
     has)
     (λ _. has)
 
 -- what stands among the first n stands in the list
-pub has_take : (n : ℕ) (p : Pair) (qs : List Pair) → Has p (take n qs) → Has p qs
+pub has_take : (n : ℕ) (p : Pair) (qs : List Pair) → In p (take n qs) → In p qs
 has_take zero p qs has = absurd has
 has_take (suc n) p [] has = absurd has
 has_take (suc n) p (q ∷ qs) has =
-    ⊎_elim (λ (e : p ≡ q). inl e) (λ (t : Has p (take n qs)). inr (has_take n p qs t)) has
+    ⊎_elim (λ (e : p ≡ q). inl e) (λ (t : In p (take n qs)). inr (has_take n p qs t)) has
 
 above_take : (n : ℕ) (p : Pair) (qs : List Pair) → Above p qs → Above p (take n qs)
 above_take zero p qs above = tt
@@ -94,11 +95,11 @@ ascending_take zero qs up = tt
 ascending_take (suc n) [] up = tt
 ascending_take (suc n) (q ∷ qs) up = (above_take n q qs up.0, ascending_take n qs up.1)
 
-take_more : (n : ℕ) (p : Pair) (qs : List Pair) → Has p (take n qs) → Has p (take (suc n) qs)
+take_more : (n : ℕ) (p : Pair) (qs : List Pair) → In p (take n qs) → In p (take (suc n) qs)
 take_more zero p qs has = absurd has
 take_more (suc n) p [] has = absurd has
 take_more (suc n) p (q ∷ qs) has =
-    ⊎_elim (λ (e : p ≡ q). inl e) (λ (t : Has p (take n qs)). inr (take_more n p qs t)) has
+    ⊎_elim (λ (e : p ≡ q). inl e) (λ (t : In p (take n qs)). inr (take_more n p qs t)) has
 
 -- where a part and the whole begin with the same pair, so do their rests stand to each other
 tails_among : (x y : Pair) (xs ys : List Pair) → x ≡ y → Above x xs → Among (x ∷ xs) (y ∷ ys) → Among xs ys
@@ -106,27 +107,27 @@ tails_among x y xs ys e above among q has =
     ⊎_elim
     (λ (f : q ≡ y). absurd (not_self x
     (subst (λ (r : Pair). is_before x r ≡ true) (f ∙ sym e) (above_has x xs above q has))))
-    (λ (t : Has q ys). t)
+    (λ (t : In q ys). t)
     (among q (inr has))
 
 -- where the whole begins lower, the part stands in its rest
-rest_among : (x y : Pair) (xs ys : List Pair) → Above x xs → Above y ys → Has x ys
+rest_among : (x y : Pair) (xs ys : List Pair) → Above x xs → Above y ys → In x ys
     → Among (x ∷ xs) (y ∷ ys) → Among (x ∷ xs) ys
 rest_among x y xs ys a b low among q has =
     ⊎_elim
     (λ (f : q ≡ y). absurd (not_self y (subst (λ (r : Pair). is_before y r ≡ true) f (higher has))))
-    (λ (t : Has q ys). t)
+    (λ (t : In q ys). t)
     (among q has)
   where
-    higher : Has q (x ∷ xs) → is_before y q ≡ true
+    higher : In q (x ∷ xs) → is_before y q ≡ true
     higher h = ⊎_elim
         (λ (e : q ≡ x). subst (λ (r : Pair). is_before y r ≡ true) (sym e) (above_has y ys b x low))
-        (λ (t : Has q xs). before_trans y x q (above_has y ys b x low) (above_has x xs a q t))
+        (λ (t : In q xs). before_trans y x q (above_has y ys b x low) (above_has x xs a q t))
         h
 
 -- what is among the k smallest of the whole and stands in the part is among the k smallest of the part
 pub kept : (k : ℕ) (xs ys : List Pair) → Ascending xs → Ascending ys → Among xs ys
-    → (p : Pair) → Has p (take k ys) → Has p xs → Has p (take k xs)
+    → (p : Pair) → In p (take k ys) → In p xs → In p (take k xs)
 kept zero xs ys a b among p near has = absurd near
 kept (suc k) xs [] a b among p near has = absurd near
 kept (suc k) [] (y ∷ ys) a b among p near has = absurd has
@@ -134,18 +135,18 @@ kept (suc k) (x ∷ xs) (y ∷ ys) a b among p near has =
     ⊎_elim
     (λ (e : x ≡ y). ⊎_elim
     (λ (f : p ≡ x). inl f)
-    (λ (t : Has p xs). ⊎_elim
+    (λ (t : In p xs). ⊎_elim
     (λ (f : p ≡ y). inl (f ∙ sym e))
-    (λ (u : Has p (take k ys)).
+    (λ (u : In p (take k ys)).
     inr (kept k xs ys a.1 b.1 (tails_among x y xs ys e a.0 among) p u t))
     near)
     has)
-    (λ (low : Has x ys).
+    (λ (low : In x ys).
     let rest : Among (x ∷ xs) ys = rest_among x y xs ys a.0 b.0 low among in
     ⊎_elim
     (λ (f : p ≡ y). absurd (not_self y
     (subst (λ (r : Pair). is_before y r ≡ true) f (above_has y ys b.0 p (rest p has)))))
-    (λ (u : Has p (take k ys)).
+    (λ (u : In p (take k ys)).
     take_more k p (x ∷ xs) (kept k (x ∷ xs) ys a b.1 rest p u has))
     near)
     (among x (inl refl))
@@ -165,9 +166,9 @@ same_take (suc k) (x ∷ xs) (y ∷ ys) a b among back =
     heads : x ≡ y
     heads = ⊎_elim
         (λ (e : x ≡ y). e)
-        (λ (low : Has x ys). ⊎_elim
+        (λ (low : In x ys). ⊎_elim
         (λ (e : y ≡ x). sym e)
-        (λ (high : Has y xs).
+        (λ (high : In y xs).
         absurd (not_both x y (above_has x xs a.0 y high) (above_has y ys b.0 x low)))
         (back y (inl refl)))
         (among x (inl refl))
@@ -177,7 +178,7 @@ same_take (suc k) (x ∷ xs) (y ∷ ys) a b among back =
         (λ (e : q ≡ x). absurd (not_self y
         (subst (λ (r : Pair). is_before y r ≡ true) (e ∙ heads)
         (above_has y ys b.0 q (has_take k q ys has)))))
-        (λ (u : Has q xs). u)
+        (λ (u : In q xs). u)
         (back q (inr has))
 
 -- past the end or not, no place is farther than NONE
@@ -202,12 +203,12 @@ distance_part n (x ∷ xs) [] a b small among = absurd (among x (inl refl))
 distance_part zero (x ∷ xs) (y ∷ ys) a b small among =
     ⊎_elim
     (λ (e : x ≡ y). let d : x.distance ≡ y.distance = ap (λ (p : Pair). p.distance) e in omega arith)
-    (λ (low : Has x ys). before_distance y x (above_has y ys b.0 x low))
+    (λ (low : In x ys). before_distance y x (above_has y ys b.0 x low))
     (among x (inl refl))
 distance_part (suc n) (x ∷ xs) (y ∷ ys) a b small among =
     ⊎_elim
     (λ (e : x ≡ y). distance_part n xs ys a.1 b.1 small_rest (tails_among x y xs ys e a.0 among))
-    (λ (low : Has x ys).
+    (λ (low : In x ys).
     let rest : Among (x ∷ xs) ys = rest_among x y xs ys a.0 b.0 low among in
     let one : distance_at n ys ≤ distance_at n (x ∷ xs) =
     distance_part n (x ∷ xs) ys a b.1 small_rest rest in
@@ -221,7 +222,7 @@ distance_part (suc n) (x ∷ xs) (y ∷ ys) a b small among =
 
 -- no pair of the n + 1 smallest is farther than the one at place n
 pub distance_last : (n : ℕ) (ps : List Pair) → Ascending ps → AllNear ps
-    → (p : Pair) → Has p (take (suc n) ps) → p.distance ≤ distance_at n ps
+    → (p : Pair) → In p (take (suc n) ps) → p.distance ≤ distance_at n ps
 distance_last n [] up small p has = absurd has
 distance_last zero (q ∷ qs) up small p has =
     ⊎_elim
@@ -235,5 +236,5 @@ distance_last (suc n) (q ∷ qs) up small p has =
     let one : distance_at n (q ∷ qs) ≤ distance_at n qs = distance_rises n q qs up small in
     let two : q.distance ≤ distance_at n (q ∷ qs) = distance_last n (q ∷ qs) up small q (inl refl) in
     omega arith)
-    (λ (t : Has p (take (suc n) qs)). distance_last n qs up.1 (λ r i. small r (inr i)) p t)
+    (λ (t : In p (take (suc n) qs)). distance_last n qs up.1 (λ r i. small r (inr i)) p t)
     has

@@ -1,51 +1,53 @@
 -- The pairs of a whole collection: different series, so that their order is strict.
-use Rattle.std.proofs.Common.{◌≡◌, ℕ, zero, suc, ◌+◌, ◌≤◌, ◌<◌, ◌⊎◌, List, [], ◌∷◌, take, Bool, Some, length, refl, sym, ap, ◌∙◌, subst, inl, inr, ⊎_elim, arith}
+use Rattle.std.proofs.Common.{◌≡◌, ℕ, zero, suc, ◌+◌, ◌≤◌, ◌<◌, List, [], ◌∷◌, take, Bool, Some, length, refl, sym, ap, ◌∙◌, subst, inl, inr, ⊎_elim, arith}
 use Rattle.std.specs.Prelude.{ℤ, slice_get, nat_le}
 use Rattle.std.specs.List.{filter}
 use Rattle.std.proofs.lemmas.Bool.{cond_both}
 use Rattle.std.proofs.lemmas.List.{take_all}
 use Rattle.series_core.specs.Collection.{Collection}
-use Rattle.series_core.specs.Pairs.{is_before, insert, ascending, smallest, by_rank, rank_of}
-use Rattle.series_core.specs.Order.{Has, Ascending}
+use Rattle.series_core.specs.Pairs.{is_before, ascending, smallest, rank_of}
+use Rattle.list_totals.specs.Standing.{In}
+use Rattle.list_totals.proofs.Standing.{in_place}
+use Rattle.series_core.specs.Order.{Ascending}
 use Rattle.series_core.specs.Answer.{pair_of, pairs_from, pairs_of, answer, within}
 use Rattle.series_core.specs.Distance.{squared_distance}
 use Rattle.series_core.specs.declared.pair.Pair.{Pair}
 use Rattle.series_core.proofs.Parts.{ascending_insert, has_insert, insert_has}
-use Rattle.series_core.proofs.Ranks.{by_rank_smallest, place_rank, get_has}
+use Rattle.series_core.proofs.Ranks.{by_rank_smallest, place_rank}
 use Rattle.series_core.proofs.Tallies.{count_by-tally, tally-ascending}
 use Rattle.std.proofs.lemmas.Option.{none-some}
 use Rattle.series_core.proofs.Room.{length-insert}
 
 -- the numbers begin with the first
-number_from : (s : ℕ) (rows : List (List ℤ)) (q : List ℤ) (p : Pair) → Has p (pairs_from s rows q) → s ≤ p.number
+number_from : (s : ℕ) (rows : List (List ℤ)) (q : List ℤ) (p : Pair) → In p (pairs_from s rows q) → s ≤ p.number
 number_from s [] q p has = absurd has
 number_from s (row ∷ rows) q p has =
     ⊎_elim
     (λ (e : p ≡ pair_of q s row). let n : p.number ≡ s = ap (λ (x : Pair). x.number) e in omega arith)
-    (λ (t : Has p (pairs_from (s + 1) rows q)). let low = number_from (s + 1) rows q p t in omega arith)
+    (λ (t : In p (pairs_from (s + 1) rows q)). let low = number_from (s + 1) rows q p t in omega arith)
     has
 
 -- putting a list into order changes nothing in what stands in it
-pub has_ascending : (p : Pair) (ps : List Pair) → Has p (ascending ps) → Has p ps
+pub has_ascending : (p : Pair) (ps : List Pair) → In p (ascending ps) → In p ps
 has_ascending p [] has = absurd has
 has_ascending p (q ∷ qs) has =
     ⊎_elim
     (λ (e : p ≡ q). inl e)
-    (λ (t : Has p (ascending qs)). inr (has_ascending p qs t))
+    (λ (t : In p (ascending qs)). inr (has_ascending p qs t))
     (has_insert p q (ascending qs) has)
 
-pub ascending_has : (p : Pair) (ps : List Pair) → Has p ps → Has p (ascending ps)
+pub ascending_has : (p : Pair) (ps : List Pair) → In p ps → In p (ascending ps)
 ascending_has p [] has = absurd has
 ascending_has p (q ∷ qs) has =
     insert_has p q (ascending qs)
-    (⊎_elim (λ (e : p ≡ q). inl e) (λ (t : Has p qs). inr (ascending_has p qs t)) has)
+    (⊎_elim (λ (e : p ≡ q). inl e) (λ (t : In p qs). inr (ascending_has p qs t)) has)
 
 -- what passes a test stands in the list
-has_filter : (test : Pair → Bool) (p : Pair) (qs : List Pair) → Has p (filter test qs) → Has p qs
+has_filter : (test : Pair → Bool) (p : Pair) (qs : List Pair) → In p (filter test qs) → In p qs
 has_filter test p [] = λ has. has
 has_filter test p (q ∷ qs) =
-    cond_both (test q) (q ∷ filter test qs) (filter test qs) (λ rs. Has p rs → Has p (q ∷ qs))
-    (λ _ has. ⊎_elim (λ (e : p ≡ q). inl e) (λ (t : Has p (filter test qs)). inr (has_filter test p qs t)) has)
+    cond_both (test q) (q ∷ filter test qs) (filter test qs) (λ rs. In p rs → In p (q ∷ qs))
+    (λ _ has. ⊎_elim (λ (e : p ≡ q). inl e) (λ (t : In p (filter test qs)). inr (has_filter test p qs t)) has)
     (λ _ has. inr (has_filter test p qs has))
 
 -- putting a list into order keeps its length
@@ -59,7 +61,7 @@ strict_from s [] q = tt
 strict_from s (row ∷ rows) q =
     ascending_insert (pair_of q s row) (ascending (pairs_from (s + 1) rows q)) new (strict_from (s + 1) rows q)
   where
-    new : Has (pair_of q s row) (ascending (pairs_from (s + 1) rows q)) → ⊥
+    new : In (pair_of q s row) (ascending (pairs_from (s + 1) rows q)) → ⊥
     new has =
         let low = number_from (s + 1) rows q (pair_of q s row)
         (has_ascending (pair_of q s row) (pairs_from (s + 1) rows q) has) in
@@ -78,7 +80,7 @@ strict_within r s (row ∷ rows) q =
     near : List Pair
     near = filter (λ p. nat_le p.distance r) (pairs_from (s + 1) rows q)
 
-    new : Has (pair_of q s row) (ascending near) → ⊥
+    new : In (pair_of q s row) (ascending near) → ⊥
     new has =
         let low = number_from (s + 1) rows q (pair_of q s row)
         (has_filter (λ p. nat_le p.distance r) (pair_of q s row) (pairs_from (s + 1) rows q)
@@ -109,7 +111,7 @@ answer-smallest c q k = by_rank_smallest (pairs_of c q) k (strict_from 0 c.serie
 
 -- the place of a pair in the answer is its rank among all, and it is the pair of a series
 pub answer-rank : (c : Collection) (q : List ℤ) (k n : ℕ) (p : Pair) → slice_get (answer c q k) n ≡ Some p
-    → (n < k) × (rank_of (pairs_of c q) p ≡ n) × Has p (pairs_of c q)
+    → (n < k) × (rank_of (pairs_of c q) p ≡ n) × In p (pairs_of c q)
 answer-rank c q k n p e =
     let all : List Pair = pairs_of c q in
     let found : slice_get (take k (ascending all)) n ≡ Some p =
@@ -118,5 +120,5 @@ answer-rank c q k n p e =
       place.0,
       count_by-tally (λ r. is_before r p) all ∙ sym (tally-ascending (λ r. is_before r p) all)
           ∙ place_rank (ascending all) n p (strict_from 0 c.series q) place.1,
-      has_ascending p all (get_has (ascending all) n p place.1),
+      has_ascending p all (in_place (ascending all) n p place.1),
     )

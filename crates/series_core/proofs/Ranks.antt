@@ -1,14 +1,15 @@
 -- Ranks: in an ascending list the place of a pair is its rank, so the pairs by rank are the smallest ones.
-use Rattle.std.proofs.Common.{◌≡◌, ℕ, zero, suc, ◌+◌, ◌≤◌, ◌<◌, List, [], ◌∷◌, ◌++◌, take, Bool, true, false, cond, Some, None, Option, length, refl, sym, ap, ◌∙◌, subst, inl, inr, ⊎_elim, arith, zero-add}
+use Rattle.std.proofs.Common.{◌≡◌, ℕ, zero, suc, ◌+◌, ◌≤◌, List, [], ◌∷◌, ◌++◌, take, Bool, true, false, cond, Some, None, Option, length, refl, sym, ap, ◌∙◌, subst, arith, zero-add}
 use Rattle.std.specs.Prelude.{slice_get, nat_eq}
 use Rattle.std.specs.List.{filter}
 use Rattle.std.specs.Option.{option_to_list}
-use Rattle.std.proofs.lemmas.Bool.{cases_Bool, cond-true, cond-false}
+use Rattle.std.proofs.lemmas.Bool.{cond-true, cond-false}
 use Rattle.std.proofs.lemmas.Bool.Decides.{nat_tests}
 use Rattle.std.proofs.lemmas.Option.{same_Some, none-some}
 use Rattle.std.proofs.lemmas.List.Sums.{length-filter}
-use Rattle.series_core.specs.Pairs.{is_before, insert, ascending, smallest, rank_of, at_rank, by_rank}
-use Rattle.series_core.specs.Order.{Has, Above, Ascending}
+use Rattle.series_core.specs.Pairs.{is_before, ascending, smallest, rank_of, at_rank, by_rank}
+use Rattle.list_totals.proofs.Standing.{in_place}
+use Rattle.series_core.specs.Order.{Above, Ascending}
 use Rattle.series_core.specs.declared.pair.Pair.{Pair}
 use Rattle.series_core.proofs.Order.{before_self, not_after}
 use Rattle.series_core.proofs.Parts.{above_has}
@@ -21,12 +22,6 @@ none_smaller p (q ∷ qs) above =
     let rest = none_smaller p qs above.1 in
     let none : one_if (is_before q p) ≡ 0 = one_if_false (is_before q p) (not_after p q above.0) in
     omega arith
-
--- what a place holds stands in the list
-pub get_has : (qs : List Pair) (n : ℕ) (p : Pair) → slice_get qs n ≡ Some p → Has p qs
-get_has [] n p e = absurd (none-some p e)
-get_has (q ∷ qs) zero p e = inl (sym (same_Some q p e))
-get_has (q ∷ qs) (suc n) p e = inr (get_has qs n p e)
 
 -- in an ascending list as many pairs are smaller as stand before
 pub place_rank : (qs : List Pair) (n : ℕ) (p : Pair) → Ascending qs → slice_get qs n ≡ Some p
@@ -41,7 +36,7 @@ place_rank (q ∷ qs) zero p up e =
 place_rank (q ∷ qs) (suc n) p up e =
     let rest = place_rank qs n p up.1 e in
     let one : one_if (is_before q p) ≡ 1 =
-    one_if_true (is_before q p) (above_has q qs up.0 p (get_has qs n p e)) in
+    one_if_true (is_before q p) (above_has q qs up.0 p (in_place qs n p e)) in
     omega arith
 
 -- where no place of the list passes, nothing passes

@@ -1,5 +1,5 @@
 -- The list of the k best: what an insert does while there is room, and what it pushes out once there is none.
-use Rattle.std.proofs.Common.{◌≡◌, ℕ, zero, suc, ◌+◌, ◌-◌, ◌≤◌, ◌<◌, ◌⊎◌, List, [], ◌∷◌, ◌++◌, length, take, drop, get_or, Bool, true, false, Some, refl, sym, ap, ◌∙◌, subst, inl, inr, ⊎_elim, arith}
+use Rattle.std.proofs.Common.{◌≡◌, ℕ, zero, suc, ◌+◌, ◌-◌, ◌≤◌, ◌<◌, List, [], ◌∷◌, ◌++◌, length, take, drop, get_or, true, false, Some, refl, sym, ap, ◌∙◌, subst, ⊎_elim, arith}
 use Rattle.std.specs.Prelude.{slice_get}
 use Rattle.std.specs.List.{AllWithin}
 use Rattle.std.specs.List.Sorted.{IsPartitionedBy, IsPartitionPoint}
@@ -9,7 +9,7 @@ use Rattle.std.proofs.lemmas.List.{take_all, nil_from_length}
 use Rattle.std.proofs.lemmas.Option.{same_Some, none-some, slice_get-get_or}
 use Rattle.series_core.specs.Pairs.{is_before, insert, ascending, smallest}
 use Rattle.series_core.specs.declared.pair.Pair.{Pair}
-use Rattle.series_core.proofs.Order.{not_after, before_not_after, same_pair}
+use Rattle.series_core.proofs.Order.{not_after, same_pair}
 use Rattle.series_core.proofs.Sorting.{NoneBefore, IsSorted, insert_front, insert_behind, insert_first, sorted_ascending, sorted_take, sorted_insert, ascending_sorted}
 
 -- what is its own ascending order is in order

@@ -1,12 +1,12 @@
 -- The k smallest pairs: what is cut off may be cut off before or after an insert, and the order of adding says nothing.
-use Rattle.std.proofs.Common.{◌≡◌, ℕ, zero, suc, ◌+◌, ◌≤◌, ◌<◌, ◌⊎◌, List, [], ◌∷◌, ◌++◌, length, take, drop, true, false, cond, refl, sym, ap, ◌∙◌, subst, inl, inr, ⊎_elim, arith, append_assoc, append-nil, get_or}
+use Rattle.std.proofs.Common.{◌≡◌, ℕ, zero, suc, ◌+◌, ◌<◌, List, [], ◌∷◌, ◌++◌, length, take, true, false, refl, sym, ap, ◌∙◌, ⊎_elim, arith, append_assoc, append-nil, get_or}
 use Rattle.std.proofs.lemmas.List.{take_more}
-use Rattle.std.proofs.lemmas.Bool.{cond_both, cases_Bool, cond-true, cond-false}
+use Rattle.std.proofs.lemmas.Bool.{cases_Bool}
 use Rattle.std.proofs.lemmas.Bool.Decides.{nat_tests}
 use Rattle.series_core.specs.Pairs.{is_before, insert, ascending, smallest}
 use Rattle.series_core.specs.declared.pair.Pair.{Pair}
-use Rattle.series_core.proofs.Order.{before_self, not_after, before_trans, not_before_trans, before_not_after, same_pair}
-use Rattle.series_core.proofs.Sorting.{NoneBefore, IsSorted, insert_front, insert_behind, insert_first, sorted_insert, sorted_ascending, ascending_sorted, ascending_smallest}
+use Rattle.series_core.proofs.Order.{not_after, same_pair}
+use Rattle.series_core.proofs.Sorting.{insert_front, insert_behind, ascending_smallest}
 
 -- the first k of the first k
 take_twice : (k : ℕ) (ps : List Pair) → take k (take k ps) ≡ take k ps

@@ -1,9 +1,9 @@
 -- Lists put into ascending order, and their k smallest pairs: what a change of the list changes in them.
-use Rattle.std.proofs.Common.{◌≡◌, ℕ, zero, suc, ◌+◌, ◌≤◌, ◌<◌, ◌⊎◌, List, [], ◌∷◌, ◌++◌, length, take, drop, true, false, cond, refl, sym, ap, ◌∙◌, subst, inl, inr, ⊎_elim, arith, append_assoc}
-use Rattle.std.proofs.lemmas.Bool.{cond_both, cases_Bool, cond-true, cond-false}
+use Rattle.std.proofs.Common.{◌≡◌, ℕ, zero, suc, List, [], ◌∷◌, take, true, false, refl, ap, ◌∙◌}
+use Rattle.std.proofs.lemmas.Bool.{cond_both, cond-true, cond-false}
 use Rattle.series_core.specs.Pairs.{is_before, insert, ascending, smallest}
 use Rattle.series_core.specs.declared.pair.Pair.{Pair}
-use Rattle.series_core.proofs.Order.{before_self, not_after, before_trans, not_before_trans, before_not_after, same_pair}
+use Rattle.series_core.proofs.Order.{not_after, not_before_trans}
 
 -- no pair of the list is smaller than p
 abbrev pub NoneBefore : Pair → List Pair → Type 0

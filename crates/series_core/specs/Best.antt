@@ -1,5 +1,5 @@
 -- What a list of the k best pairs holds.
-use Rattle.std.specs.Prelude.{◌≡◌, ℕ, ◌<◌, ◌≤◌, true, false, List, [], ◌∷◌, length}
+use Rattle.std.specs.Prelude.{◌≡◌, ℕ, ◌<◌, ◌≤◌, true, false, List, length}
 use Rattle.std.specs.List.Sorted.{IsPartitionPoint}
 use Rattle.series_core.specs.Pairs.{is_before, ascending}
 use Rattle.series_core.specs.declared.pair.Pair.{Pair}

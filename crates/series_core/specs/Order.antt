@@ -1,17 +1,13 @@
--- What stands in a list of pairs, and lists in ascending order.
-use Rattle.std.specs.Prelude.{◌≡◌, ℕ, ◌≤◌, ◌⊎◌, true, List, [], ◌∷◌, zero, suc}
+-- Lists of pairs: what is among another list, and ascending order.
+use Rattle.std.specs.Prelude.{◌≡◌, ℕ, ◌≤◌, true, List, [], ◌∷◌, zero, suc}
+use Rattle.list_totals.specs.Standing.{In}
 use Rattle.series_core.specs.Pairs.{is_before}
 use Rattle.series_core.specs.declared.pair.Pair.{Pair}
 use Rattle.series_core.specs.declared.distance.TheConstants.{NONE}
 
--- p stands in the list
-abbrev pub Has : Pair → List Pair → Type 0
-Has p [] = ⊥
-Has p (q ∷ qs) = (p ≡ q) ⊎ Has p qs
-
 -- each pair of the first list stands in the second
 abbrev pub Among : List Pair → List Pair → Type 0
-Among ps qs = (p : Pair) → Has p ps → Has p qs
+Among ps qs = (p : Pair) → In p ps → In p qs
 
 -- each pair of the list is greater than p
 abbrev pub Above : Pair → List Pair → Type 0
@@ -31,4 +27,4 @@ distance_at (suc n) (p ∷ ps) = distance_at n ps
 
 -- each distance of the list is at most NONE
 abbrev pub AllNear : List Pair → Type 0
-AllNear ps = (p : Pair) → Has p ps → p.distance ≤ NONE
+AllNear ps = (p : Pair) → In p ps → p.distance ≤ NONE

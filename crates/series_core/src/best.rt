@@ -6,7 +6,8 @@ ghost use Rattle.series_core.specs.Pairs.{ascending, insert, smallest};
 ghost use Rattle.series_core.specs.Best.{IsBest, IsPlaceOf};
 
 use crate::pair::Pair;
-use std::alloc::{AllocError as NoMemory, Global};
+use outside::NoMemory;
+use std::alloc::Global;
 use std::marker::Model;
 
 /// The greatest number of pairs that a search may be asked for.

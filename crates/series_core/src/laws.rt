@@ -8,7 +8,8 @@ ghost use Rattle.series_core.specs.declared.distance.TheConstants.{NONE};
 ghost use Rattle.series_core.specs.Collection.{Collection};
 ghost use Rattle.series_core.specs.Distance.{squared_distance};
 ghost use Rattle.series_core.specs.Pairs.{rank_of, ascending, smallest};
-ghost use Rattle.series_core.specs.Order.{Has, Among, Ascending, AllNear, distance_at};
+ghost use Rattle.list_totals.specs.Standing.{In};
+ghost use Rattle.series_core.specs.Order.{Among, Ascending, AllNear, distance_at};
 ghost use Rattle.series_core.specs.Answer.{pairs_of, answer, within};
 
 /// The k smallest pairs of two lists together are the k smallest of their own k smallest.
@@ -26,14 +27,14 @@ pub fn answer_law()
 /// The place of a pair in the answer is the number of smaller pairs among the pairs of all series.
 pub fn rank_law()
     ensures { (c : Collection) (q : List ℤ) (k n : ℕ) (p : Pair) → slice_get (answer c q k) n ≡ Some p
-        → (n < k) × (rank_of (pairs_of c q) p ≡ n) × Has p (pairs_of c q) }
+        → (n < k) × (rank_of (pairs_of c q) p ≡ n) × In p (pairs_of c q) }
 {}
 
 /// What is among the k smallest of a list is among the k smallest of each part of it that has the pair.
 /// A part that has the k smallest of the list has the same k smallest.
 pub fn part_law()
     ensures kept { (k : ℕ) (part whole : List Pair) → Ascending part → Ascending whole → Among part whole
-        → (p : Pair) → Has p (take k whole) → Has p part → Has p (take k part) }
+        → (p : Pair) → In p (take k whole) → In p part → In p (take k part) }
     ensures same { (k : ℕ) (part whole : List Pair) → Ascending part → Ascending whole → Among part whole
         → Among (take k whole) part → take k part ≡ take k whole }
 {}
@@ -44,7 +45,7 @@ pub fn last_law()
     ensures part { (n : ℕ) (part whole : List Pair) → Ascending part → Ascending whole → AllNear whole
         → Among part whole → distance_at n whole ≤ distance_at n part }
     ensures farthest { (n : ℕ) (whole : List Pair) → Ascending whole → AllNear whole
-        → (p : Pair) → Has p (take (n + 1) whole) → p.distance ≤ distance_at n whole }
+        → (p : Pair) → In p (take (n + 1) whole) → p.distance ≤ distance_at n whole }
 {}
 
 /// Two series of 16-bit values are at most so far apart: with 65536 values, at most 281466386841600.

@@ -1,13 +1,8 @@
 -- Lists of members that strictly ascend by number: two with the same members are one list (`same_members`).
 use Rattle.std.proofs.Common.{◌≡◌, ℕ, zero, suc, ◌+◌, ◌<◌, ◌≤◌, ◌⊎◌, List, [], ◌∷◌, length, get_or, refl, sym, ap, ◌∙◌, inl, inr, arith}
-use Rattle.std.specs.Prelude.{Contains}
 use Rattle.std.specs.List.Sorted.{IsNonDecreasingBy}
-use Rattle.summary_phase.specs.declared.member.Member.{Member}
-
--- m stands in the list
-abbrev pub Has : Member → List Member → Type 0
-Has m [] = ⊥
-Has m (x ∷ xs) = (m ≡ x) ⊎ Has m xs
+use Rattle.list_totals.specs.Standing.{In}
+use Rattle.isax_word.specs.declared.member.Member.{Member}
 
 -- each member of the list has at least this number
 abbrev pub AllFrom : ℕ → List Member → Type 0
@@ -25,7 +20,7 @@ IsAscending [] = Unit {0}
 IsAscending (x ∷ xs) = AllFrom (x.number + 1) xs × IsAscending xs
 
 -- what stands in a list of numbers from n on has such a number
-pub from_there : (n : ℕ) (m : Member) (xs : List Member) → AllFrom n xs → Has m xs → n ≤ m.number
+pub from_there : (n : ℕ) (m : Member) (xs : List Member) → AllFrom n xs → In m xs → n ≤ m.number
 from_there n m [] all h = absurd h
 from_there n m (x ∷ xs) all (inl same) = omega (arith, all.0, ap (λ (y : Member). y.number) same)
 from_there n m (x ∷ xs) all (inr behind) = from_there n m xs all.1 behind
@@ -37,11 +32,11 @@ from_less n k (x ∷ xs) less all = (omega (arith, all.0), from_less n k xs less
 
 -- each member of a list is in another
 abbrev pub Among : List Member → List Member → Type 0
-Among xs ys = (m : Member) → Has m xs → Has m ys
+Among xs ys = (m : Member) → In m xs → In m ys
 
 -- the least members of two ascending lists with the same members are one
 first_same : (x y : Member) (xs ys : List Member) → IsAscending (x ∷ xs) → IsAscending (y ∷ ys)
-    → Has x (y ∷ ys) → Has y (x ∷ xs) → x ≡ y
+    → In x (y ∷ ys) → In y (x ∷ xs) → x ≡ y
 first_same x y xs ys up_x up_y (inl same) h = same
 first_same x y xs ys up_x up_y (inr behind) (inl same) = sym same
 first_same x y xs ys up_x up_y (inr behind) (inr there) =
@@ -56,7 +51,7 @@ rest_among : (x y : Member) (xs ys : List Member) → AllFrom (x.number + 1) xs 
     → Among (x ∷ xs) (y ∷ ys) → Among xs ys
 rest_among x y xs ys above same all m h = by_place (all m (inr h))
   where
-    by_place : Has m (y ∷ ys) → Has m ys
+    by_place : In m (y ∷ ys) → In m ys
     by_place (inl first) =
         absurd (omega (
           arith,
@@ -79,24 +74,6 @@ same_members (x ∷ xs) (y ∷ ys) up_x up_y into from =
     (rest_among x y xs ys up_x.0 same into)
     (rest_among y x ys xs up_y.0 (sym same) from) in
     ap (λ (z : Member). z ∷ xs) same ∙ ap (λ (zs : List Member). y ∷ zs) rest
-
--- what stands at a place stands there
-has_at : (xs : List Member) (m : Member) (k : ℕ) → k < length xs → get_or xs k m ≡ m → Has m xs
-has_at [] m k inside is = absurd (omega arith)
-has_at (x ∷ xs) m zero inside is = inl (sym is)
-has_at (x ∷ xs) m (suc k) inside is = inr (has_at xs m k (omega arith) is)
-
--- what is contained stands there
-pub has_from_contains : (xs : List Member) (m : Member) → Contains xs m → Has m xs
-has_from_contains xs m h = has_at xs m h.0 h.1 h.2
-
--- what stands in a list is contained
-pub contains_from_has : (xs : List Member) (m : Member) → Has m xs → Contains xs m
-contains_from_has [] m h = absurd h
-contains_from_has (x ∷ xs) m (inl same) = (0, omega arith, sym same)
-contains_from_has (x ∷ xs) m (inr behind) =
-    let place = contains_from_has xs m behind in
-    (suc place.0, omega (arith, place.1), place.2)
 
 -- a list whose numbers do not fall is ordered
 pub ordered_from_sort : (xs : List Member) → IsNonDecreasingBy (λ (m : Member). m.number) xs → IsOrdered xs

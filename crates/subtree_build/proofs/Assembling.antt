@@ -13,7 +13,7 @@ use Rattle.series_core.specs.Collection.{Collection, IsCollection}
 use Rattle.segment_sums.specs.Division.{IsDivision}
 use Rattle.isax_word.specs.declared.layout.Layout.{Layout}
 use Rattle.isax_word.specs.Word.{one_bit_word}
-use Rattle.summary_phase.specs.declared.member.Member.{Member}
+use Rattle.isax_word.specs.declared.member.Member.{Member}
 use Rattle.summary_phase.specs.Members.{members_of}
 use Rattle.summary_phase.specs.Roots.{has_root, of_root, root_of_all}
 use Rattle.subtree_build.specs.declared.leaf.TreeLeaf.{TreeLeaf}

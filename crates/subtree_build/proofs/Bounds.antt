@@ -20,7 +20,7 @@ use Rattle.isax_word.specs.Word.{IsWord, IsPart, word_contains, child_word}
 use Rattle.isax_word.proofs.Words.{IsWord-child_word}
 use Rattle.lower_bound.specs.Bound.{View, IsView, view_of, word_bound}
 use Rattle.lower_bound.proofs.Bounds.{child_bound, bound_below_distance}
-use Rattle.summary_phase.specs.declared.member.Member.{Member}
+use Rattle.isax_word.specs.declared.member.Member.{Member}
 use Rattle.subtree_build.specs.declared.leaf.TreeLeaf.{TreeLeaf}
 use Rattle.subtree_build.specs.Tree.{Tree, absent, leaf, split, leaves_of}
 use Rattle.subtree_build.specs.Index.{IndexParts, StandsUnder, leaf_at, no_leaf}

@@ -8,10 +8,12 @@ use Rattle.std.proofs.lemmas.Bool.Decides.{nat_tests}
 use Rattle.std.proofs.lemmas.List.Sums.{sum_by-cons}
 use Rattle.std.proofs.lemmas.List.Sorted.{IsPermutation-sym, Contains-permutation, sum_by-IsPermutation}
 use Rattle.list_totals.specs.Totals.{total, times, one_if_same}
+use Rattle.list_totals.specs.Standing.{In}
+use Rattle.list_totals.proofs.Standing.{contains_in, in_contains}
 use Rattle.list_totals.proofs.Totals.{total_map}
-use Rattle.summary_phase.specs.declared.member.Member.{Member}
+use Rattle.isax_word.specs.declared.member.Member.{Member}
 use Rattle.subtree_build.specs.Members.{numbers_of, insert_by_number, by_number, NumbersDiffer}
-use Rattle.subtree_build.proofs.Ascending.{Has, AllFrom, IsOrdered, IsAscending, Among, from_less, same_members, has_from_contains, contains_from_has, ordered_from_sort}
+use Rattle.subtree_build.proofs.Ascending.{AllFrom, IsOrdered, IsAscending, Among, from_less, same_members, ordered_from_sort}
 
 -- a total over the members is that of the list with one of them put in front
 total_insert : (f : Member → ℕ) (m : Member) (xs : List Member)
@@ -116,35 +118,35 @@ ascending_from_ordered (x ∷ xs) up differ = (
 )
 
 -- what stands in a list stands in it after an insert, and so does what is inserted
-into_insert : (m x : Member) (xs : List Member) → Has m (x ∷ xs) → Has m (insert_by_number x xs)
+into_insert : (m x : Member) (xs : List Member) → In m (x ∷ xs) → In m (insert_by_number x xs)
 into_insert m x [] h = h
 into_insert m x (y ∷ ys) h =
-    cond_both (nat_lt y.number x.number) (y ∷ insert_by_number x ys) (x ∷ y ∷ ys) (Has m)
+    cond_both (nat_lt y.number x.number) (y ∷ insert_by_number x ys) (x ∷ y ∷ ys) (In m)
     (λ _. moved h (λ k. into_insert m x ys k))
     (λ _. h)
   where
-    moved : Has m (x ∷ y ∷ ys) → (Has m (x ∷ ys) → Has m (insert_by_number x ys))
-        → Has m (y ∷ insert_by_number x ys)
+    moved : In m (x ∷ y ∷ ys) → (In m (x ∷ ys) → In m (insert_by_number x ys))
+        → In m (y ∷ insert_by_number x ys)
     moved (inl first) goes = inr (goes (inl first))
     moved (inr (inl second)) goes = inl second
     moved (inr (inr behind)) goes = inr (goes (inr behind))
 
 -- what stands in a list after an insert stood in it, or is what was inserted
-from_the_insert : (m x : Member) (xs : List Member) → Has m (insert_by_number x xs) → Has m (x ∷ xs)
+from_the_insert : (m x : Member) (xs : List Member) → In m (insert_by_number x xs) → In m (x ∷ xs)
 from_the_insert m x [] h = h
 from_the_insert m x (y ∷ ys) h =
     cond_both (nat_lt y.number x.number) (y ∷ insert_by_number x ys) (x ∷ y ∷ ys)
-    (λ (zs : List Member). Has m zs → Has m (x ∷ y ∷ ys))
+    (λ (zs : List Member). In m zs → In m (x ∷ y ∷ ys))
     (λ _ k. back k (λ j. from_the_insert m x ys j))
     (λ _ k. k)
     h
   where
-    back : Has m (y ∷ insert_by_number x ys) → (Has m (insert_by_number x ys) → Has m (x ∷ ys))
-        → Has m (x ∷ y ∷ ys)
+    back : In m (y ∷ insert_by_number x ys) → (In m (insert_by_number x ys) → In m (x ∷ ys))
+        → In m (x ∷ y ∷ ys)
     back (inl first) goes = inr (inl first)
     back (inr behind) goes = place (goes behind)
       where
-        place : Has m (x ∷ ys) → Has m (x ∷ y ∷ ys)
+        place : In m (x ∷ ys) → In m (x ∷ y ∷ ys)
         place (inl inserted) = inl inserted
         place (inr there) = inr (inr there)
 
@@ -160,7 +162,7 @@ pub from_by_number : (xs : List Member) → Among (by_number xs) xs
 from_by_number [] m h = h
 from_by_number (x ∷ xs) m h = place (from_the_insert m x (by_number xs) h) (λ k. from_by_number xs m k)
   where
-    place : Has m (x ∷ by_number xs) → (Has m (by_number xs) → Has m xs) → Has m (x ∷ xs)
+    place : In m (x ∷ by_number xs) → (In m (by_number xs) → In m xs) → In m (x ∷ xs)
     place (inl first) goes = inl first
     place (inr behind) goes = inr (goes behind)
 
@@ -175,7 +177,7 @@ differ_permuted xs ys moved differ i =
 -- a permutation has the same members
 among_permuted : (xs ys : List Member) → IsPermutation xs ys → Among xs ys
 among_permuted xs ys moved m h =
-    has_from_contains ys m (Contains-permutation xs ys m moved (contains_from_has xs m h))
+    contains_in ys m (Contains-permutation xs ys m moved (in_contains xs m h))
 
 -- members of different numbers in the order of their numbers strictly ascend
 pub ascending_by_number : (xs : List Member) → NumbersDiffer xs → IsAscending (by_number xs)

@@ -7,7 +7,7 @@ use Rattle.std.proofs.lemmas.List.Elements.{All-nil, All-cons, All-append, All-f
 use Rattle.isax_word.specs.declared.word.Part.{Part}
 use Rattle.isax_word.specs.Word.{word_contains, child_word, part_at, next_bit_at, first_bits}
 use Rattle.isax_word.proofs.Words.{child_contains}
-use Rattle.summary_phase.specs.declared.member.Member.{Member}
+use Rattle.isax_word.specs.declared.member.Member.{Member}
 use Rattle.subtree_build.specs.declared.leaf.TreeLeaf.{TreeLeaf}
 use Rattle.subtree_build.specs.Tree.{Tree, leaf, split, leaves_of}
 use Rattle.subtree_build.specs.Division.{bits_left, leaf_with, divide}

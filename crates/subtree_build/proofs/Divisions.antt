@@ -7,13 +7,14 @@ use Rattle.std.proofs.lemmas.Bool.{cond-true, cond-false, le-leb, lt-leb, cond_b
 use Rattle.std.proofs.lemmas.List.Filters.{length-filter_both}
 use Rattle.isax_word.specs.declared.word.Part.{Part}
 use Rattle.isax_word.specs.Word.{part_at, child_word}
-use Rattle.summary_phase.specs.declared.member.Member.{Member}
+use Rattle.isax_word.specs.declared.member.Member.{Member}
 use Rattle.subtree_build.specs.declared.leaf.TreeLeaf.{TreeLeaf}
 use Rattle.subtree_build.specs.declared.split.Triple.{Triple}
 use Rattle.subtree_build.specs.Tree.{Tree, leaf, split, leaves_of, numbered, IsBuilt}
 use Rattle.subtree_build.specs.Division.{bits_left, leaf_with, divide, node_of}
 use Rattle.subtree_build.specs.Members.{by_number}
-use Rattle.subtree_build.specs.Splitting.{goes_high, goes_low, apart, triple_of, is_less, is_divisible, is_better, is_best, split_segment, IsSplitOf}
+use Rattle.series_core.specs.Distance.{apart}
+use Rattle.subtree_build.specs.Splitting.{goes_high, goes_low, triple_of, is_less, is_divisible, is_better, is_best, split_segment, IsSplitOf}
 use Rattle.subtree_build.proofs.Ranges.{list_all_agree, find_agree}
 use Rattle.subtree_build.proofs.ByNumber.{count_by_number, length-by_number, filter_by_number}
 

@@ -13,7 +13,7 @@ use Rattle.segment_sums.specs.Division.{IsDivision}
 use Rattle.isax_word.specs.declared.layout.Layout.{Layout}
 use Rattle.isax_word.specs.Word.{one_bit_word}
 use Rattle.isax_word.proofs.Roots.{IsWord-one_bit_word}
-use Rattle.summary_phase.specs.declared.member.Member.{Member}
+use Rattle.isax_word.specs.declared.member.Member.{Member}
 use Rattle.summary_phase.specs.Members.{members_from, members_of}
 use Rattle.summary_phase.specs.Roots.{has_root, of_root}
 use Rattle.subtree_build.specs.declared.leaf.TreeLeaf.{TreeLeaf}

@@ -14,7 +14,7 @@ use Rattle.isax_word.specs.FullWord.{full_word, root_number}
 use Rattle.isax_word.specs.Word.{word_contains, one_bit_word}
 use Rattle.isax_word.proofs.Symbols.{IsFullWord-full_word}
 use Rattle.isax_word.proofs.Roots.{root_number-lt, root_contains_own}
-use Rattle.summary_phase.specs.declared.member.Member.{Member}
+use Rattle.isax_word.specs.declared.member.Member.{Member}
 use Rattle.summary_phase.specs.Members.{members_from, members_of}
 use Rattle.summary_phase.specs.Roots.{has_root, of_root}
 use Rattle.subtree_build.specs.Members.{numbers_of, series_at, NumbersDiffer, HaveSegments}

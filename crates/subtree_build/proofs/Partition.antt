@@ -9,7 +9,7 @@ use Rattle.list_totals.proofs.Totals.{total_append}
 use Rattle.isax_word.specs.declared.word.Part.{Part}
 use Rattle.isax_word.specs.Word.{child_word}
 use Rattle.isax_word.specs.FullWord.{root_number}
-use Rattle.summary_phase.specs.declared.member.Member.{Member}
+use Rattle.isax_word.specs.declared.member.Member.{Member}
 use Rattle.summary_phase.specs.Roots.{of_root}
 use Rattle.subtree_build.specs.declared.leaf.TreeLeaf.{TreeLeaf}
 use Rattle.subtree_build.specs.Tree.{Tree, leaf, split, leaves_of}

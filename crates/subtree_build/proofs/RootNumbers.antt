@@ -11,7 +11,7 @@ use Rattle.std.proofs.lemmas.List.FromFn.{length-range_with_len}
 use Rattle.std.proofs.lemmas.List.Elements.{All-nil, All-cons, All-filter}
 use Rattle.list_totals.specs.Totals.{times, one_if_same}
 use Rattle.isax_word.specs.FullWord.{root_number}
-use Rattle.summary_phase.specs.declared.member.Member.{Member}
+use Rattle.isax_word.specs.declared.member.Member.{Member}
 use Rattle.summary_phase.specs.Roots.{has_root}
 use Rattle.subtree_build.proofs.Partition.{times_root}
 

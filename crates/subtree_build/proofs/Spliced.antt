@@ -7,7 +7,7 @@ use Rattle.std.proofs.lemmas.List.{map-append, take_more}
 use Rattle.std.proofs.lemmas.List.Concat.{flat_map-append}
 use Rattle.std.proofs.lemmas.List.Elements.{filter-append, All-map}
 use Rattle.std.proofs.Math.ListN.{length-set}
-use Rattle.summary_phase.specs.declared.member.Member.{Member}
+use Rattle.isax_word.specs.declared.member.Member.{Member}
 use Rattle.summary_phase.specs.Roots.{root_of_all}
 use Rattle.subtree_build.specs.Splicing.{emptied, kept_if}
 

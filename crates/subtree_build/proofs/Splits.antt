@@ -6,7 +6,7 @@ use Rattle.std.proofs.lemmas.Bool.{cases_lt, and_from, and_left, and_right, not_
 use Rattle.std.proofs.lemmas.Bool.Decides.{nat_tests}
 use Rattle.isax_word.specs.declared.word.Part.{Part}
 use Rattle.isax_word.specs.Word.{part_at}
-use Rattle.summary_phase.specs.declared.member.Member.{Member}
+use Rattle.isax_word.specs.declared.member.Member.{Member}
 use Rattle.subtree_build.specs.declared.split.Triple.{Triple}
 use Rattle.subtree_build.specs.Splitting.{is_less, triple_of, is_divisible, is_better, is_best, split_segment, IsBestOf, NoneDivisible, lesser_of}
 use Rattle.subtree_build.specs.Division.{bits_left}

@@ -7,7 +7,7 @@ use Rattle.std.proofs.lemmas.List.Filters.{length-filter_both}
 use Rattle.isax_word.specs.declared.word.Part.{Part}
 use Rattle.isax_word.specs.Word.{IsWord, part_at, child_word}
 use Rattle.isax_word.proofs.Words.{IsWord-child_word}
-use Rattle.summary_phase.specs.declared.member.Member.{Member}
+use Rattle.isax_word.specs.declared.member.Member.{Member}
 use Rattle.subtree_build.specs.declared.leaf.TreeLeaf.{TreeLeaf}
 use Rattle.subtree_build.specs.declared.split.Triple.{Triple}
 use Rattle.subtree_build.specs.Tree.{Tree, absent, leaf, split, is_absent, leaves_of, numbered}

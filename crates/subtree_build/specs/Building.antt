@@ -6,7 +6,7 @@ use Rattle.series_core.specs.Collection.{Collection, IsCollection}
 use Rattle.segment_sums.specs.Division.{IsDivision}
 use Rattle.isax_word.specs.declared.layout.Layout.{Layout}
 use Rattle.isax_word.specs.Word.{one_bit_word}
-use Rattle.summary_phase.specs.declared.member.Member.{Member}
+use Rattle.isax_word.specs.declared.member.Member.{Member}
 use Rattle.summary_phase.specs.Members.{members_of}
 use Rattle.summary_phase.specs.Roots.{of_root}
 use Rattle.subtree_build.specs.declared.building.Builder.{Builder}

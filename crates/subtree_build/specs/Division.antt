@@ -5,7 +5,7 @@ use Rattle.series_core.specs.Collection.{Collection}
 use Rattle.isax_word.specs.declared.layout.Layout.{Layout}
 use Rattle.isax_word.specs.declared.word.Part.{Part}
 use Rattle.isax_word.specs.Word.{child_word, one_bit_word}
-use Rattle.summary_phase.specs.declared.member.Member.{Member}
+use Rattle.isax_word.specs.declared.member.Member.{Member}
 use Rattle.subtree_build.specs.declared.leaf.TreeLeaf.{TreeLeaf}
 use Rattle.subtree_build.specs.Tree.{Tree, absent, leaf, split, leaves_of}
 use Rattle.summary_phase.specs.Members.{members_of}

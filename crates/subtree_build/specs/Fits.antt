@@ -7,7 +7,7 @@ use Rattle.series_core.specs.Collection.{Collection}
 use Rattle.isax_word.specs.declared.layout.Layout.{Layout}
 use Rattle.isax_word.specs.FullWord.{full_word}
 use Rattle.isax_word.specs.Word.{word_contains}
-use Rattle.summary_phase.specs.declared.member.Member.{Member}
+use Rattle.isax_word.specs.declared.member.Member.{Member}
 use Rattle.subtree_build.specs.declared.leaf.TreeLeaf.{TreeLeaf}
 use Rattle.subtree_build.specs.Tree.{all_numbered}
 use Rattle.subtree_build.specs.Members.{series_at, numbers_of}

@@ -2,7 +2,7 @@
 use Rattle.std.specs.Prelude.{◌≡◌, ℕ, ◌≤◌, ℤ, length, All, List, [], ◌∷◌, slice_index_or, nat_lt, cond, map}
 use Rattle.list_totals.specs.Totals.{times}
 use Rattle.series_core.specs.Collection.{Collection}
-use Rattle.summary_phase.specs.declared.member.Member.{Member}
+use Rattle.isax_word.specs.declared.member.Member.{Member}
 
 -- the series of a number, and no values where the collection has none of that number
 abbrev pub series_at : Collection → ℕ → List ℤ

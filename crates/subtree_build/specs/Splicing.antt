@@ -1,6 +1,6 @@
 -- Lists of members taken out of the buffers.
 use Rattle.std.specs.Prelude.{ℕ, Bool, true, false, List, [], ◌∷◌, ◌++◌, slice_set}
-use Rattle.summary_phase.specs.declared.member.Member.{Member}
+use Rattle.isax_word.specs.declared.member.Member.{Member}
 
 -- whether there is a member
 abbrev pub has_members : List Member → Bool

@@ -1,10 +1,11 @@
 -- In which segment a node is split: that of the least triple of unevenness, number of bits and segment number,
 -- among the segments of fewer than eight bits. The triples are compared in that order.
-use Rattle.std.specs.Prelude.{◌≡◌, ℕ, ◌<◌, ◌≤◌, false, Option, Some, None, if◌then◌else◌, ◌+◌, ◌-◌, ◌*◌, ◌==◌, ◌&&◌, ◌||◌, not, Bool, List, length, nat_lt, count_by, unwrap_or, find}
+use Rattle.std.specs.Prelude.{◌≡◌, ℕ, ◌<◌, ◌≤◌, false, Option, Some, None, if◌then◌else◌, ◌*◌, ◌==◌, ◌&&◌, ◌||◌, not, Bool, List, length, nat_lt, count_by, unwrap_or, find}
 use Rattle.std.specs.List.{list_all, range_with_len}
 use Rattle.isax_word.specs.declared.word.Part.{Part}
 use Rattle.isax_word.specs.Word.{part_at, next_bit_at}
-use Rattle.summary_phase.specs.declared.member.Member.{Member}
+use Rattle.series_core.specs.Distance.{apart}
+use Rattle.isax_word.specs.declared.member.Member.{Member}
 use Rattle.subtree_build.specs.declared.split.Triple.{Triple}
 
 -- whether the next bit of a member's symbol in segment j, behind those that the word has, is 1
@@ -14,10 +15,6 @@ goes_high word j m = next_bit_at word m.full j == 1
 -- whether that bit is not 1
 abbrev pub goes_low : List Part → ℕ → Member → Bool
 goes_low word j m = not (goes_high word j m)
-
--- how far two numbers are apart
-abbrev pub apart : ℕ → ℕ → ℕ
-apart a b = (a - b) + (b - a)
 
 -- how unevenly a split in segment j divides the members: twice the members of the high child against all
 abbrev pub unevenness : List Part → List Member → ℕ → ℕ

@@ -4,7 +4,7 @@ use Rattle.std.specs.List.{All}
 use Rattle.claim_word.specs.Passes.{Claim, fresh_pass}
 use Rattle.series_core.specs.Collection.{Collection}
 use Rattle.isax_word.specs.declared.layout.Layout.{Layout}
-use Rattle.summary_phase.specs.declared.member.Member.{Member}
+use Rattle.isax_word.specs.declared.member.Member.{Member}
 use Rattle.summary_phase.specs.Members.{members_of}
 use Rattle.summary_phase.specs.Roots.{of_root, buffers_of, root_of_all}
 use Rattle.subtree_build.specs.declared.summaries.Summarist.{Summarist}

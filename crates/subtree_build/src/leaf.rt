@@ -12,7 +12,7 @@ pub struct MemberList {
 
 impl Model for MemberList {
     ghost use Rattle.std.specs.Prelude.{List};
-    ghost use Rattle.summary_phase.specs.declared.member.Member.{Member};
+    ghost use Rattle.isax_word.specs.declared.member.Member.{Member};
 
     ghost Value = { List Member };
 

@@ -7,7 +7,7 @@ use Rattle.series_core.specs.Collection.{Collection, IsCollection}
 use Rattle.isax_word.specs.declared.layout.Layout.{Layout}
 use Rattle.isax_word.specs.FullWord.{full_word, segment_symbol}
 use Rattle.summary_phase.specs.Members.{member_of, members_from, members_of}
-use Rattle.summary_phase.specs.declared.member.Member.{Member}
+use Rattle.isax_word.specs.declared.member.Member.{Member}
 
 module _ (layout : Layout) where
   -- there are as many members as series

@@ -8,7 +8,7 @@ use Rattle.series_core.specs.Collection.{Collection}
 use Rattle.isax_word.specs.declared.layout.Layout.{Layout}
 use Rattle.summary_phase.specs.Chunks.{chunk_count, members_between, chunk_of, members_drawn}
 use Rattle.summary_phase.specs.Members.{member_of, members_of}
-use Rattle.summary_phase.specs.declared.member.Member.{Member}
+use Rattle.isax_word.specs.declared.member.Member.{Member}
 use Rattle.summary_phase.specs.declared.chunk.TheConstants.{CHUNK}
 use Rattle.summary_phase.proofs.Members.{length-members_of, get_or-members_of}
 

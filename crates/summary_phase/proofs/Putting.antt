@@ -7,7 +7,7 @@ use Rattle.isax_word.specs.FullWord.{full_word, root_number}
 use Rattle.summary_phase.specs.Chunks.{members_between}
 use Rattle.summary_phase.specs.Members.{members_of}
 use Rattle.summary_phase.specs.Roots.{by_root}
-use Rattle.summary_phase.specs.declared.member.Member.{Member}
+use Rattle.isax_word.specs.declared.member.Member.{Member}
 use Rattle.summary_phase.proofs.Pieces.{between_more}
 use Rattle.summary_phase.proofs.Roots.{by_root-push}
 

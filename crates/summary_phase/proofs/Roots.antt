@@ -7,7 +7,7 @@ use Rattle.std.proofs.lemmas.List.Elements.{filter-append}
 use Rattle.std.proofs.lemmas.List.FromFn.{length-map-range_with_len, get_or-map-range_with_len}
 use Rattle.isax_word.specs.FullWord.{root_number}
 use Rattle.summary_phase.specs.Roots.{has_root, of_root, by_root}
-use Rattle.summary_phase.specs.declared.member.Member.{Member}
+use Rattle.isax_word.specs.declared.member.Member.{Member}
 
 -- there is one list for each root
 pub length-by_root : (roots : ℕ) (ms : List Member) → length (by_root roots ms) ≡ roots

@@ -2,7 +2,7 @@
 use Rattle.std.specs.Prelude.{ℕ, ◌+◌, ◌-◌, ◌*◌, ◌/◌, List, take, drop}
 use Rattle.std.specs.List.{flat_map}
 use Rattle.summary_phase.specs.declared.chunk.TheConstants.{CHUNK}
-use Rattle.summary_phase.specs.declared.member.Member.{Member}
+use Rattle.isax_word.specs.declared.member.Member.{Member}
 
 -- the number of chunks of so many series
 abbrev pub chunk_count : ℕ → ℕ

@@ -6,7 +6,7 @@ use Rattle.isax_word.specs.declared.layout.Layout.{Layout}
 use Rattle.isax_word.specs.FullWord.{root_number}
 use Rattle.summary_phase.specs.Chunks.{members_between, members_drawn}
 use Rattle.summary_phase.specs.Members.{members_of}
-use Rattle.summary_phase.specs.declared.member.Member.{Member}
+use Rattle.isax_word.specs.declared.member.Member.{Member}
 
 -- whether a member belongs to this root
 abbrev pub has_root : ℕ → Member → Bool

@@ -1,8 +1,8 @@
 //! The buffers of one worker: a list of members for each root number.
 ghost use Rattle.std.specs.Prelude.{◌≡◌, ◌<◌, ◌≤◌, [], ◌∷◌, ◌++◌, IfOk, OnOk, length, replicate, slice_index_or, slice_set};
 
-use crate::member::Member;
 use block_list::BlockList;
+use isax_word::Member;
 use outside::NoMemory;
 use std::alloc::Global;
 use std::marker::Model;
@@ -16,7 +16,7 @@ pub struct Buffers {
 
 impl Model for Buffers {
     ghost use Rattle.std.specs.Prelude.{List};
-    ghost use Rattle.summary_phase.specs.declared.member.Member.{Member};
+    ghost use Rattle.isax_word.specs.declared.member.Member.{Member};
 
     ghost Value = { List (List Member) };
 

@@ -5,13 +5,12 @@
 mod buffers;
 mod chunk;
 mod laws;
-mod member;
 mod summary;
 
 pub use buffers::Buffers;
 pub use chunk::{CHUNK, chunks};
+pub use isax_word::Member;
 pub use laws::root_law;
-pub use member::Member;
 pub use summary::summarise;
 
 #[cfg(test)]

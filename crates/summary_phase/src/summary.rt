@@ -8,9 +8,8 @@ ghost use Rattle.summary_phase.specs.Roots.{buffers_of, HasPut};
 
 use crate::buffers::Buffers;
 use crate::chunk::numbers;
-use crate::member::Member;
 use claim_word::{ClaimPass, Claims};
-use isax_word::{Full, Layout, root_of};
+use isax_word::{Full, Layout, Member, root_of};
 use outside::{Gate, NoMemory};
 use series_core::Rows;
 use std::alloc::Global;

@@ -12,7 +12,7 @@ use Rattle.turn_lock.specs.declared.plays.Role.TheVariants.{Dealer, Idle, Turn, 
 use Rattle.turn_lock.specs.declared.plays.Knowing.{Knowing}
 use Rattle.turn_lock.specs.declared.plays.View.{View}
 use Rattle.turn_lock.specs.History.{calls_by}
-use Rattle.turn_lock.specs.Rule.{Has, HasPass, Knows}
+use Rattle.turn_lock.specs.Rule.{HasNoTurn, HasPass, Knows}
 
 -- one element more is at the end, and the others are where they were
 pub at_push : {A : Type 0} (l : List A) (a b : A) (j : ℕ) → get_elem? (l ++ a ∷ []) j ≡ some b
@@ -49,8 +49,8 @@ module _ {C R : Type 0} (callers w w' : ℕ) (f : ℕ → ℕ) (log log' : List 
     (apart : (m : ℕ) → f m ≡ j
     → (w ≢ suc m) × (w' ≢ suc m) × (calls_by m log' ≡ calls_by m log)) where
   -- a number that the seat has stays without the turn
-  has_still : (m : ℕ) (seen mine : List (Entry C R)) → Has callers w f log j m seen mine
-      → Has callers w' f log' j m seen mine
+  has_still : (m : ℕ) (seen mine : List (Entry C R)) → HasNoTurn callers w f log j m seen mine
+      → HasNoTurn callers w' f log' j m seen mine
   has_still m seen mine h = (h.0, (apart m h.0).1, longer seen h.2, (apart m h.0).2 ∙ h.3)
 
   -- the passes that were handed in to the seat stay so
@@ -73,8 +73,8 @@ module _ {C R : Type 0} (callers w w' : ℕ) (f : ℕ → ℕ) (log log' : List 
 module _ {C R : Type 0} (callers w : ℕ) (f f' : ℕ → ℕ) (log : List (Entry C R)) (j j' : ℕ)
     (moved : (m : ℕ) → f m ≡ j → f' m ≡ j') where
   -- a number of the one seat is the other's
-  pub has_moved : (m : ℕ) (seen mine : List (Entry C R)) → Has callers w f log j m seen mine
-      → Has callers w f' log j' m seen mine
+  pub has_moved : (m : ℕ) (seen mine : List (Entry C R)) → HasNoTurn callers w f log j m seen mine
+      → HasNoTurn callers w f' log j' m seen mine
   has_moved m seen mine h = (moved m h.0, h.1, h.2, h.3)
 
   -- the passes that were handed in to the one seat are the other's

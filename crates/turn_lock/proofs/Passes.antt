@@ -1,9 +1,10 @@
 -- The passes that are handed in at the end, and lemmas on passes for callers.
-use Rattle.std.proofs.Common.{ℕ, ◌<◌, length, ◌≡◌, zero, suc, List, [], ◌∷◌, ◌++◌, map, refl, sym, ap, ◌∙◌, subst, append_assoc, arith}
-use Rattle.std.proofs.lemmas.List.{length-map, map-append}
+use Rattle.std.proofs.Common.{ℕ, ◌<◌, length, ◌≡◌, zero, suc, List, [], ◌∷◌, ◌++◌, map, inl, inr, refl, sym, ap, ◌∙◌, subst, append_assoc, arith}
+use Rattle.std.proofs.lemmas.List.{map-append}
 use Rattle.std.proofs.lemmas.List.Elements.{All-head, All-tail, All-nil, All-cons}
 use Rattle.std.specs.Prelude.{All, slice_index_or}
 use mathlib.Core.List.{IsPrefix}
+use Rattle.list_totals.specs.Standing.{In}
 use Rattle.turn_lock.specs.declared.plays.Knowing.{Knowing}
 use Rattle.turn_lock.specs.declared.object.Entry.{Entry}
 use Rattle.turn_lock.specs.declared.plays.Role.TheVariants.{Idle}
@@ -60,13 +61,13 @@ module _ {O C R : Type 0} where
       (each_agrees k log ps (All-tail (λ x. IsPassOf k x) p ps ok)
       (All-tail Told (known_by p) (map known_by ps) all))
 
-  -- the number at a place of a list of passes
-  number_at : (ps : List (Pass O C R)) (n m e : ℕ) → n < length ps
+  -- the number of a pass stands among the numbers of the list that has it
+  number_in : (ps : List (Pass O C R)) (n m : ℕ) → n < length ps
       → ((d : Pass O C R) → (slice_index_or ps n d).number ≡ m)
-      → slice_index_or (map (λ (p : Pass O C R). p.number) ps) n e ≡ m
-  number_at [] n m e l h = absurd (omega arith)
-  number_at (p ∷ ps) zero m e l h = h p
-  number_at (p ∷ ps) (suc n) m e l h = number_at ps n m e (omega arith) h
+      → In m (map (λ (p : Pass O C R). p.number) ps)
+  number_in [] n m l h = absurd (omega arith)
+  number_in (p ∷ ps) zero m l h = inl (sym (h p))
+  number_in (p ∷ ps) (suc n) m l h = inr (number_in ps n m (omega arith) h)
 
   -- passes in the order of their numbers are all there, where there are as many as callers
   pub all_in_order : {P : Type 0} (k : Lock O C R P) (ps : List (Pass O C R))
@@ -74,8 +75,4 @@ module _ {O C R : Type 0} where
       → ((i : ℕ) (d : Pass O C R) → i < length ps → (slice_index_or ps i d).number ≡ i)
       → AreAll k ps
   all_in_order k ps long in_order n below =
-      let l : n < length ps = omega arith in (
-        n,
-        omega (arith, length-map ps (λ (p : Pass O C R). p.number)),
-        number_at ps n n n l (λ d. in_order n d l),
-      )
+      let l : n < length ps = omega arith in number_in ps n n l (λ d. in_order n d l)

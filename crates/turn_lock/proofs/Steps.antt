@@ -17,7 +17,7 @@ use Rattle.turn_lock.specs.declared.plays.Role.{Role}
 use Rattle.turn_lock.specs.declared.plays.Role.TheVariants.{Idle, Turn}
 use Rattle.turn_lock.specs.declared.plays.View.{View}
 use Rattle.turn_lock.specs.History.{entry, state_after}
-use Rattle.turn_lock.specs.Rule.{caller_view, Has, HasTurn, Knows, Kept, took, learnt, gave, released}
+use Rattle.turn_lock.specs.Rule.{caller_view, HasNoTurn, HasTurn, Knows, Kept, took, learnt, gave, released}
 use Rattle.turn_lock.proofs.Histories.{prefix_self, prefix_none, prefix_then, state_after-snoc, IsLegal-snoc, calls_by-own, calls_by-other}
 use Rattle.turn_lock.proofs.Frames.{each_set, knows_still}
 
@@ -62,7 +62,7 @@ module _ {O C R : Type 0} (next : O → ℕ → C → O × R) (o : O) (callers :
   -- the seat of the number n gets the turn, and the object that was at home
   grants : (s : St) (r : Rule s) (id n : ℕ) (h : Held O C R) (cs : List (ℕ × Held O C R))
       (mine : List (Entry C R)) → word s ≡ 0 → n < callers
-      → Has callers (word s) r.seat_of r.log id n r.log mine
+      → HasNoTurn callers (word s) r.seat_of r.log id n r.log mine
       → Rule (stepped s 0 (suc n) id cs (caller_view Turn (Some o) n r.log mine) (takes 0 h))
   grants s r id n h cs mine free below has =
       let one = r.one_word in

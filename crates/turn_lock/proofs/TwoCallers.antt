@@ -1,9 +1,10 @@
 -- A history in which two callers made one call each has the two calls, in one order or the other.
 use Rattle.std.proofs.Common.{◌≡◌, ◌≢◌, ℕ, ◌<◌, ◌⊎◌, Bool, List, [], ◌∷◌, ◌++◌, length, refl, sym, ap, ◌∙◌, inl, inr, arith, eq-eqb, ne_eqb, length-append}
-use Rattle.std.specs.Prelude.{All, Contains, cond}
+use Rattle.std.specs.Prelude.{All, cond}
 use Rattle.std.proofs.lemmas.List.Elements.{All-head, All-tail}
 use mathlib.Core.Logic.{dite}
 use native.Mathlib.Decide.{ℕ_discrete}
+use Rattle.list_totals.specs.Standing.{In}
 use Rattle.turn_lock.specs.declared.object.Entry.{Entry}
 use Rattle.turn_lock.specs.History.{calls_by}
 
@@ -102,6 +103,6 @@ two_back xs ys zs us vs one two one' two' p q l r s =
     )
 
 -- 0 and 1 are all numbers of two callers
-pub both_numbered : (a b n : ℕ) → a ≡ 0 → b ≡ 1 → n < 2 → Contains (a ∷ b ∷ []) n
-both_numbered a b n e f l = dite (ℕ_discrete n 0) (λ z. (0, omega arith, e ∙ sym z))
-    (λ z. (1, omega arith, f ∙ sym (not_first n l z)))
+pub both_numbered : (a b n : ℕ) → a ≡ 0 → b ≡ 1 → n < 2 → In n (a ∷ b ∷ [])
+both_numbered a b n e f l = dite (ℕ_discrete n 0) (λ z. inl (z ∙ sym e))
+    (λ z. inr (inl (not_first n l z ∙ sym f)))

@@ -1,6 +1,7 @@
 -- What a clause says of a lock and its passes.
-use Rattle.std.specs.Prelude.{◌≡◌, ℕ, ◌<◌, List, Some, length, slice_index_or, map, [], All, Contains}
+use Rattle.std.specs.Prelude.{◌≡◌, ℕ, ◌<◌, List, Some, length, slice_index_or, map, [], All}
 use mathlib.Core.List.{IsPrefix}
+use Rattle.list_totals.specs.Standing.{In}
 use Rattle.turn_lock.specs.declared.object.Entry.{Entry}
 use Rattle.turn_lock.specs.declared.lock.PassOf.{PassOf}
 use Rattle.turn_lock.specs.declared.lock.LockOf.{LockOf}
@@ -61,7 +62,7 @@ module _ {O C R : Type 0} where
 
   -- each of the lock's numbers is there
   abbrev pub AreAll : {P : Type 0} → Lock O C R P → List (Pass O C R) → Type 0
-  AreAll k ps = (n : ℕ) → n < callers_of k → Contains (map (λ p. p.number) ps) n
+  AreAll k ps = (n : ℕ) → n < callers_of k → In n (map (λ p. p.number) ps)
 
   -- what the pass has seen begins the history, whose calls by its number are just its own
   abbrev pub AgreesWith : List (Entry C R) → Pass O C R → Type 0

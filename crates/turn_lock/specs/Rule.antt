@@ -98,8 +98,8 @@ MayGather _ = ⊥
 
 module _ {C R : Type 0} (callers word : ℕ) (seat_of : ℕ → ℕ) (log : List (Entry C R)) (j : ℕ) where
   -- the seat j has the number n, which does not have the turn
-  abbrev pub Has : ℕ → List (Entry C R) → List (Entry C R) → Type 0
-  Has n seen mine = (seat_of n ≡ j) × (word ≢ suc n) × IsPrefix seen log × (calls_by n log ≡ mine)
+  abbrev pub HasNoTurn : ℕ → List (Entry C R) → List (Entry C R) → Type 0
+  HasNoTurn n seen mine = (seat_of n ≡ j) × (word ≢ suc n) × IsPrefix seen log × (calls_by n log ≡ mine)
 
   -- the seat j has the number n, which has the turn and has seen the whole history
   abbrev pub HasTurn : ℕ → List (Entry C R) → List (Entry C R) → Type 0
@@ -107,13 +107,13 @@ module _ {C R : Type 0} (callers word : ℕ) (seat_of : ℕ → ℕ) (log : List
 
   -- the seat j has the number of a pass that is told of here
   abbrev pub HasPass : Knowing C R → Type 0
-  HasPass k = (k.number < callers) × Has k.number k.seen k.mine
+  HasPass k = (k.number < callers) × HasNoTurn k.number k.seen k.mine
 
   -- what the seat j knows in each role
   abbrev pub Knows : {O : Type 0} → O → View O C R → Role → Type 0
-  Knows o v Dealer = (v.opening ≡ Some o) × ((n : ℕ) → v.number ≤ n → Has n [] [])
+  Knows o v Dealer = (v.opening ≡ Some o) × ((n : ℕ) → v.number ≤ n → HasNoTurn n [] [])
   Knows o v Idle =
-      (v.opening ≡ Some o) × (v.number < callers) × Has v.number v.seen v.mine × IsPrefix v.told log
+      (v.opening ≡ Some o) × (v.number < callers) × HasNoTurn v.number v.seen v.mine × IsPrefix v.told log
   Knows o v Turn = (v.opening ≡ Some o) × (v.number < callers) × HasTurn v.number v.seen v.mine
   Knows o v Note = IsPrefix v.seen log
   Knows o v Closer = All HasPass v.handed

@@ -4,11 +4,12 @@ use Rattle.std.specs.List.{list_all, IsDistinct}
 use Rattle.std.specs.Option.{option_to_list}
 use Rattle.series_core.specs.Collection.{Collection}
 use Rattle.series_core.specs.Answer.{answer}
+use Rattle.series_core.specs.Distance.{apart}
 use Rattle.series_core.specs.declared.pair.Pair.{Pair}
 
 -- the two numbers differ by at least so much
 abbrev pub is_apart : ℕ → ℕ → ℕ → Bool
-is_apart far a b = nat_le far ((a - b) + (b - a))
+is_apart far a b = nat_le far (apart a b)
 
 -- the number of the pair differs by at least so much from the numbers of all these pairs
 abbrev pub is_apart_from : ℕ → List Pair → Pair → Bool

@@ -1,4 +1,4 @@
-use Rattle.std.proofs.Common.{◌≡◌, List, [], ◌∷◌, ◌++◌, length, slice_index_or, refl, sym, ap, ◌∙◌, subst, arith, length-append}
+use Rattle.std.proofs.Common.{◌≡◌, List, [], ◌∷◌, ◌++◌, length, slice_index_or, inl, refl, sym, ap, ◌∙◌, subst, arith, length-append}
 use Rattle.turn_lock.specs.Passes.{AreAll}
 use Rattle.leaf_queues.proofs.tests.answers_the_same_through_a_lock.Goals as goal
 
@@ -24,4 +24,4 @@ close-requires-clause-all g c =
     (begun.passes 0 old (omega arith)).1 in
     subst (AreAll lock) (sym after) (λ n below.
     let only : n ≡ 0 = omega (arith, begun.callers) in
-    (0, omega arith, c.loop-call.invariant.1 ∙ (first ∙ sym only)))
+    inl (only ∙ sym (c.loop-call.invariant.1 ∙ first)))

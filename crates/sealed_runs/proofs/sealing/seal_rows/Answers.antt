@@ -3,7 +3,8 @@ use Rattle.std.proofs.lemmas.List.{map-append}
 use Rattle.std.proofs.lemmas.List.Elements.{All-push}
 use Rattle.std.proofs.Math.Seq.{get_or-append_seam}
 use Rattle.series_core.specs.declared.queue_words.Entry.{Entry}
-use Rattle.sealed_runs.specs.Entries.{Run, IsAscending}
+use Rattle.series_core.specs.EntryOrder.{IsAscending}
+use Rattle.sealed_runs.specs.Entries.{Run}
 use Rattle.sealed_runs.specs.Visits.{Visit, fresh_visit}
 use Rattle.sealed_runs.specs.Sealing.{IsReady, fresh_visits}
 use Rattle.sealed_runs.proofs.Columns.{map_replicate}

@@ -1,6 +1,6 @@
 -- What was spliced out of buffers that together hold all members holds the members of each root.
 use Rattle.std.proofs.Common.{List, sym, subst}
-use Rattle.summary_phase.specs.declared.member.Member.{Member}
+use Rattle.isax_word.specs.declared.member.Member.{Member}
 use Rattle.subtree_build.specs.Summaries.{HoldAllMembers}
 use Rattle.subtree_build.proofs.Assembling.{holds_roots}
 use Rattle.subtree_build.proofs.phases.gather_roots.Goals as goal

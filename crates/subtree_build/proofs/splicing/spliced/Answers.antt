@@ -1,7 +1,7 @@
 -- The next buffer's list goes behind, and the buffer is emptied.
 use Rattle.std.proofs.Common.{◌≡◌, ◌<◌, List, ◌++◌, length, get_or, [], set, ap, ◌∙◌, arith}
 use Rattle.std.specs.Prelude.{slice_index_or}
-use Rattle.summary_phase.specs.declared.member.Member.{Member}
+use Rattle.isax_word.specs.declared.member.Member.{Member}
 use Rattle.subtree_build.specs.Splicing.{emptied}
 use Rattle.subtree_build.proofs.Spliced.{Lists, list_grows, one_emptied}
 use Rattle.subtree_build.proofs.splicing.spliced.Goals as goal

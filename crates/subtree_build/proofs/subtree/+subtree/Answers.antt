@@ -1,7 +1,7 @@
 -- A leaf is the node of its members; a split's children are the nodes of theirs.
 use Rattle.std.proofs.Common.{◌≡◌, ℕ, ◌≤◌, ◌⊎◌, length, vec_len, IfOk, true, false, List, ap, sym, subst, arith}
 use Rattle.std.proofs.lemmas.Bool.{eqb-true}
-use Rattle.summary_phase.specs.declared.member.Member.{Member}
+use Rattle.isax_word.specs.declared.member.Member.{Member}
 use Rattle.subtree_build.specs.declared.leaf.TreeLeaf.{TreeLeaf}
 use Rattle.subtree_build.specs.Division.{node_of, bits_left}
 use Rattle.subtree_build.specs.Members.{by_number}

@@ -1,7 +1,7 @@
 -- A sort by number puts members of different numbers into their one order.
 use Rattle.std.proofs.Common.{rules}
 use Rattle.std.proofs.lemmas.List.Sorted.{IsNonDecreasingBy-from_sort_by_key}
-use Rattle.summary_phase.specs.declared.member.Member.{Member}
+use Rattle.isax_word.specs.declared.member.Member.{Member}
 use Rattle.subtree_build.proofs.ByNumber.{sorted_is_by_number}
 use Rattle.subtree_build.proofs.subtree.sort_members.Goals as goal
 

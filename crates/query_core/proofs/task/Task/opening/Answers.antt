@@ -1,7 +1,7 @@
 use Rattle.std.proofs.Common.{◌≡◌, sym, ◌∙◌, ap, subst, ℕ, List, [], All}
 use Rattle.std.specs.Prelude.{Some}
 use Rattle.lower_bound.specs.Bound.{View}
-use Rattle.summary_phase.specs.declared.member.Member.{Member}
+use Rattle.isax_word.specs.declared.member.Member.{Member}
 use Rattle.subtree_build.specs.Start.{start_leaf_of}
 use Rattle.query_core.specs.Questions.{CanBeSearched, IsMemberOf, view_in}
 use Rattle.query_core.proofs.Homes.{leaf_is_members}

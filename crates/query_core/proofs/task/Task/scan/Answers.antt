@@ -1,6 +1,6 @@
 use Rattle.std.proofs.Common.{◌∙◌, ap, List}
 use Rattle.std.proofs.lemmas.List.{take_all}
-use Rattle.summary_phase.specs.declared.member.Member.{Member}
+use Rattle.isax_word.specs.declared.member.Member.{Member}
 use Rattle.subtree_build.specs.Members.{numbers_of}
 use Rattle.search_machine.specs.Ground.{scan}
 use Rattle.query_core.specs.Questions.{search_over}

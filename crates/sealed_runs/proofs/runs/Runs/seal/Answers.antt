@@ -4,7 +4,8 @@ use Rattle.std.proofs.lemmas.List.Elements.{All-replicate}
 use Rattle.std.proofs.lemmas.List.Sums.{length-filter, count_by-le-length}
 use Rattle.series_core.specs.declared.queue_words.Entry.{Entry}
 use Rattle.list_totals.proofs.Pigeons.{at_most_holes}
-use Rattle.sealed_runs.specs.Entries.{Run, IsAscending, LeavesDiffer, IsRun, no_run}
+use Rattle.series_core.specs.EntryOrder.{IsAscending}
+use Rattle.sealed_runs.specs.Entries.{Run, LeavesDiffer, IsRun, no_run}
 use Rattle.sealed_runs.specs.Visits.{IsPass}
 use Rattle.sealed_runs.specs.Sealing.{fresh_visits, is_of, row_of}
 use Rattle.sealed_runs.proofs.Ordering.{sorted_ascend, differ_sorted, row_is_run}

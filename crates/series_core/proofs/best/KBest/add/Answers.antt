@@ -1,6 +1,6 @@
-use Rattle.std.proofs.Common.{arith, ap, sym, ◌∙◌, ◌≡◌, ◌≤◌, ◌<◌, ◌-◌, length, vec_len, Some, List, true, false, take, refl}
+use Rattle.std.proofs.Common.{arith, ap, sym, ◌∙◌, ◌≡◌, ◌-◌, length, Some, List, true, false, take, refl}
 use Rattle.std.specs.Prelude.{slice_get}
-use Rattle.series_core.specs.Pairs.{is_before, ascending, smallest, insert}
+use Rattle.series_core.specs.Pairs.{is_before, insert}
 use Rattle.series_core.specs.declared.pair.Pair.{Pair}
 use Rattle.series_core.proofs.Room.{ascending_take, smallest_near, smallest_far, get_last}
 use Rattle.series_core.proofs.best.KBest.add.Goals as goal

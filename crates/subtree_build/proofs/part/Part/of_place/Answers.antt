@@ -1,7 +1,7 @@
 -- A one-bit word has as many parts as there are segments, and so has each member's full word symbols.
 use Rattle.std.proofs.Common.{◌≡◌, ℕ, List, length, sym, ap, ◌∙◌, subst}
 use Rattle.isax_word.proofs.Roots.{length-one_bit_word}
-use Rattle.summary_phase.specs.declared.member.Member.{Member}
+use Rattle.isax_word.specs.declared.member.Member.{Member}
 use Rattle.subtree_build.specs.Members.{HaveSegments}
 use Rattle.subtree_build.proofs.part.Part.of_place.Goals as goal
 

@@ -2,6 +2,7 @@ use Rattle.std.proofs.Common.{◌≡◌, ◌∙◌, map, ap, sym, subst}
 use mathlib.Core.List.{IsPrefix}
 use Rattle.std.proofs.lemmas.List.Elements.{All-pop}
 use Rattle.std.specs.Prelude.{All, Contains, Some}
+use Rattle.list_totals.proofs.Standing.{in_contains}
 use Rattle.turn_lock.specs.History.{calls_by}
 use Rattle.turn_lock.specs.Rule.{gathered}
 use Rattle.turn_lock.specs.Passes.{IsPassOf, known_by, opening_of, callers_of}
@@ -26,7 +27,8 @@ returns g c =
     let ended : Ended g.O.Object.next (opening_of lock) (callers_of lock) (gathered v)
     c.take-object.result
     = ends _ _ _ _ _ _ _ _ c.take_in.ensures.gathers c.close_with-closed.ensures.values.2
-    (λ n below. subst (λ l. Contains l n) (sym numbers) (c.requires.all n below))
+    (λ n below. subst (λ l. Contains l n) (sym numbers)
+    (in_contains (map (λ p. p.number) ps) n (c.requires.all n below)))
     c.take-object.ensures.value in
     record {
       log = ended.log;

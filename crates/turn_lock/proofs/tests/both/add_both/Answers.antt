@@ -1,6 +1,7 @@
 use Rattle.std.proofs.Common.{◌≡◌, ℕ, ◌<◌, ◌⊎◌, Option, Some, None, inl, inr, ⊎_elim, sym, ap, ◌∙◌, subst, length, map, [], ◌∷◌, ◌++◌, nat_lt, arith, List}
-use Rattle.std.specs.Prelude.{All, Contains, slice_index_or, if◌then◌else◌}
+use Rattle.std.specs.Prelude.{All, slice_index_or, if◌then◌else◌}
 use Rattle.std.proofs.lemmas.List.Elements.{All-head, All-tail}
+use Rattle.list_totals.specs.Standing.{In}
 use Rattle.turn_lock.specs.declared.object.Entry.{Entry}
 use Rattle.turn_lock.specs.Passes.{AgreesWith}
 use Rattle.turn_lock.specs.History.{entry, calls_by, state_after}
@@ -37,7 +38,7 @@ close-requires-clause-all g c =
     (begun.passes 1 two (omega arith)).1 in
     let from_first = c.meet.ensures.from.1.0 ∙ (c.join-one.ensures.first.1 ∙ first) in
     let into_second = c.meet.ensures.into.1 ∙ (c.join-one.ensures.second.1 ∙ second) in
-    λ n below. subst (λ vs. Contains (map (λ p. p.number) vs) n) (sym t.1)
+    λ n below. subst (λ vs. In n (map (λ p. p.number) vs)) (sym t.1)
     (both_numbered c.meet.new.from.number c.meet.new.into.number n from_first into_second
     (subst (λ (z : ℕ). n < z) begun.callers below))
 
