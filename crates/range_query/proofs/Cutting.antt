@@ -1,14 +1,11 @@
 -- What a bound above the radius rules out: of a member's word that member, and of a node's word all below it
 -- (`far_below`).
-use Rattle.std.proofs.Common.{◌≡◌, ℕ, ℤ, ◌+◌, ◌<◌, ◌≤◌, List, [], ◌∷◌, ◌++◌, All, Some, length, get_or, refl, sym, ap, ◌∙◌, subst, true, false, arith}
-use Rattle.std.specs.Prelude.{slice_get, nat_le}
-use Rattle.std.specs.List.{flat_map}
+use Rattle.std.proofs.Common.{◌≡◌, ℕ, ℤ, ◌<◌, ◌≤◌, List, [], ◌∷◌, ◌++◌, All, Some, length, refl, sym, ap, ◌∙◌, subst, true, false, arith}
+use Rattle.std.specs.Prelude.{slice_get}
 use Rattle.std.proofs.lemmas.Bool.{cond-true, cond-false, le-leb, lt-leb}
 use Rattle.std.proofs.lemmas.List.Concat.{flat_map-append}
-use Rattle.std.proofs.lemmas.List.Elements.{All-get_or, All-head, All-tail}
+use Rattle.std.proofs.lemmas.List.Elements.{All-head, All-tail}
 use Rattle.std.proofs.lemmas.Option.{get_or_from_slice_get}
-use Rattle.series_core.specs.Answer.{pair_of}
-use Rattle.series_core.specs.Collection.{IsSeries}
 use Rattle.series_core.specs.Distance.{squared_distance}
 use Rattle.series_core.specs.declared.pair.Pair.{Pair}
 use Rattle.isax_word.specs.declared.word.Part.{Part}

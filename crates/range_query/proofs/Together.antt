@@ -1,10 +1,9 @@
 -- What all workers find together is what the collection has within the radius (`all_found`).
-use Rattle.std.proofs.Common.{◌≡◌, ℕ, ℤ, zero, suc, ◌+◌, ◌<◌, ◌≤◌, Bool, true, false, cond, List, [], ◌∷◌, ◌++◌, All, length, get_or, map, drop, IsPermutation, refl, sym, ap, ◌∙◌, subst, arith}
+use Rattle.std.proofs.Common.{◌≡◌, ℕ, ℤ, ◌+◌, ◌<◌, Bool, true, false, cond, List, [], ◌∷◌, ◌++◌, All, length, get_or, map, drop, IsPermutation, refl, sym, ap, ◌∙◌, subst, arith}
 use Rattle.std.specs.Prelude.{nat_le}
 use Rattle.std.specs.List.{range_with_len, flat_map, filter}
-use Rattle.std.proofs.lemmas.List.{length-map, ext_get_or, get_or-drop, drop-drop}
+use Rattle.std.proofs.lemmas.List.{ext_get_or, get_or-drop, drop-drop}
 use Rattle.std.proofs.lemmas.List.Concat.{flat_map-append}
-use Rattle.std.proofs.lemmas.List.Elements.{All-head, All-tail, All-map}
 use Rattle.std.proofs.lemmas.List.Folds.{flat_map-map}
 use Rattle.std.proofs.lemmas.List.FromFn.{length-map-range_with_len, get_or-map-range_with_len}
 use Rattle.std.proofs.lemmas.List.Sorted.{IsPermutation-trans}
@@ -20,12 +19,14 @@ use Rattle.summary_phase.proofs.Draws.{same_pieces, times_below, all_draws, time
 use Rattle.lower_bound.specs.Bound.{View}
 use Rattle.subtree_build.specs.declared.node.Node.{Node, Leaf}
 use Rattle.subtree_build.specs.declared.leaf.TreeLeaf.{TreeLeaf}
-use Rattle.subtree_build.specs.Fits.{Fits, times_in}
-use Rattle.subtree_build.specs.Index.{IndexParts, IsIndex, leaf_at, no_leaf}
+use Rattle.subtree_build.specs.Fits.{times_in}
+use Rattle.subtree_build.specs.Index.{IndexParts, leaf_at, no_leaf}
 use Rattle.subtree_build.specs.Members.{numbers_of, series_at}
 use Rattle.subtree_build.specs.Outline.{leaf_numbers}
-use Rattle.subtree_build.specs.Start.{node_at}
-use Rattle.range_query.specs.declared.team.Worker.{Worker}
+use Rattle.worker_team.specs.Deeds.{EachDid}
+use Rattle.worker_team.proofs.Deeds.{passes_have, same_pieces_made}
+use Rattle.std.specs.declared.vec.Vec.{Vec}
+use Rattle.std.specs.declared.alloc.Global.{Global}
 use Rattle.range_query.specs.Done.{IsDone}
 use Rattle.range_query.specs.Near.{Asked, IsAsked, near_series, near_members, near_leaves, near_root, near_drawn}
 use Rattle.range_query.proofs.Ordering.{InOrder, permuted_ascending, sorted_is_ascending}
@@ -106,31 +107,14 @@ near_from a s (xs ∷ rows) e =
     ∙ in_front (nat_le (squared_distance xs a.query) a.radius) (pair_of a.query s xs)
     (filter (λ p. nat_le p.distance a.radius) (pairs_from (s + 1) rows a.query))
 
--- what the workers of a team found is what is near below what their passes drew
-pub team_found : (a : Asked) (ix : IndexParts) (team : List Worker)
-    → All (λ w. w.complete ≡ true) team
-    → All (λ w. w.complete ≡ true → IsDone a ix w.pass w.found.items) team
-    → flat_map (λ w. w.found.items) team
-    ≡ near_drawn a ix (all_draws (map (λ w. w.pass) team))
-team_found a ix [] complete done = refl
-team_found a ix (w ∷ team) complete done =
-    let C : Worker → Type 0 = λ v. v.complete ≡ true in
-    let D : Worker → Type 0 = λ v. v.complete ≡ true → IsDone a ix v.pass v.found.items in
-    let first = (All-head D w team done (All-head C w team complete)).all_near in
-    let draws = all_draws (map (λ (v : Worker). v.pass) team) in
-    ap (λ l. l ++ flat_map (λ (v : Worker). v.found.items) team) first
-    ∙ ap (λ l. near_drawn a ix w.pass.draws ++ l)
-    (team_found a ix team (All-tail C w team complete) (All-tail D w team done))
-    ∙ sym (flat_map-append (near_root a ix) w.pass.draws draws)
-
--- each pass of such a team has ended
-pub team_ended : (a : Asked) (ix : IndexParts) (team : List Worker)
-    → All (λ w. w.complete ≡ true) team
-    → All (λ w. w.complete ≡ true → IsDone a ix w.pass w.found.items) team
-    → All (λ p. p.ended ≡ true) (map (λ w. w.pass) team)
-team_ended a ix team complete done =
-    All-map (λ (p : Pass). p.ended ≡ true) (λ (w : Worker). w.pass) team
-    (λ k d low. (done k d low (complete k d low)).ended)
+-- what workers found is what is near below what their passes drew
+pub team_found : (a : Asked) (ix : IndexParts) (passes : List Pass) (made : List (Vec Pair Global))
+    → EachDid (λ p m. IsDone a ix p m.items) passes made
+    → flat_map (λ own. own.items) made ≡ near_drawn a ix (all_draws passes)
+team_found a ix passes made did =
+    same_pieces_made (λ p m. IsDone a ix p m.items) (λ (m : Vec Pair Global). m.items)
+    (λ (p : Pass). near_drawn a ix p.draws) (λ p m d. d.all_near) passes made did
+    ∙ pieces_of_pieces (near_root a ix) (λ (p : Pass). p.draws) passes
 
 module _ (a : Asked) (ix : IndexParts) (view : View) (is : IsAsked a ix view) where
   -- what is near below all root children in a row is what is near of all members, leaf by leaf
@@ -183,17 +167,13 @@ module _ (a : Asked) (ix : IndexParts) (view : View) (is : IsAsked a ix view) wh
       ∙ sym (within-ascending a.collection a.query a.radius)
 
   -- what a team found, in order, is all that the collection has within the radius
-  pub found_by_team : (count : ℕ) (passes : List Pass) (team : List Worker)
-      (found sorted : List Pair) → count ≡ length ix.roots → EachDrawnOnce count passes
-      → passes ≡ map (λ w. w.pass) team → 0 < length team → All (λ w. w.complete ≡ true) team
-      → All (λ w. w.complete ≡ true → IsDone a ix w.pass w.found.items) team
-      → found ≡ flat_map (λ w. w.found.items) team
+  pub found_by_team : (passes : List Pass) (made : List (Vec Pair Global)) (found sorted : List Pair)
+      → EachDrawnOnce (length ix.roots) passes → 0 < length passes
+      → EachDid (λ p m. IsDone a ix p m.items) passes made → found ≡ flat_map (λ own. own.items) made
       → IsPermutation found sorted → InOrder sorted
       → sorted ≡ within a.collection a.query a.radius
-  found_by_team count passes team found sorted roots drawn are some complete done all moved up =
-      let team_passes = map (λ (w : Worker). w.pass) team in
-      let long : length team_passes ≡ length team = length-map team (λ (w : Worker). w.pass) in
-      all_found team_passes found sorted
-      (subst (λ n. EachDrawnOnce n team_passes) roots (subst (EachDrawnOnce count) are drawn))
-      (omega (arith, long)) (team_ended a ix team complete done)
-      (all ∙ team_found a ix team complete done) moved up
+  found_by_team passes made found sorted drawn some did all moved up =
+      let Did = λ (p : Pass) (m : Vec Pair Global). IsDone a ix p m.items in
+      all_found passes found sorted drawn some
+      (passes_have Did (λ (p : Pass). p.ended ≡ true) (λ p m d. d.ended) passes made did)
+      (all ∙ team_found a ix passes made did) moved up

@@ -5,7 +5,7 @@ ghost use Rattle.lower_bound.specs.Bound.{view_of};
 ghost use Rattle.subtree_build.specs.Fits.{Fits};
 ghost use Rattle.range_query.specs.Near.{IsAsked, ask};
 
-use crate::team::{dismiss, draw_together, hire};
+use crate::team::draw_together;
 use crate::walk::Search;
 use claim_word::Claims;
 use isax_word::Layout;
@@ -15,6 +15,7 @@ use series_core::{Pair, Rows};
 use std::alloc::Global;
 use std::thread::Threads;
 use subtree_build::Index;
+use worker_team::{dismiss, hire, joined};
 
 /// All pairs of series whose distance to the query is at most the radius, nearer ones first, of two as near the one
 /// with the smaller number: whatever the number of workers, from 1 to 64, and whichever root children each of them
@@ -48,10 +49,11 @@ pub fn within<T: Threads + Sync, R: Rows + Sync, G: Gate + Sync>(
     search_law(rows, index, &view, query, radius);
     let roots = u64::from(index.root_count());
     let (claims, passes) = Claims::begin(alloc, roots, workers)?;
-    let mut team = hire(alloc, &claims, passes)?;
-    draw_together(rt, &search, &claims, gate, &mut team);
-    let (passes, mut found) = dismiss(alloc, team)?;
+    let mut team = hire(alloc, &claims, passes, &[0; 64])?;
+    draw_together(rt, alloc, &search, &claims, gate, &mut team);
+    let (passes, made) = dismiss(alloc, team)?;
     claims.close(passes);
+    let mut found = joined(alloc, made)?;
     found.sort_unstable();
     Ok(found)
 }

@@ -1,7 +1,8 @@
 -- A worker that stands for its record does so whatever the number of workers (`stands_any`).
 use Rattle.std.proofs.Common.{List, ap, subst, sym, suc, zero, refl, ℕ, ◌+◌, ◌-◌, ◌∷◌, ◌≡◌, ◌≤◌}
 use Rattle.series_core.specs.declared.pair.Pair.{Pair}
-use Rattle.series_core.specs.Order.{Among, Has, distance_at}
+use Rattle.list_totals.specs.Standing.{In}
+use Rattle.series_core.specs.Order.{Among, distance_at}
 use Rattle.series_core.specs.Pairs.{ascending, smallest}
 use Rattle.search_machine.specs.declared.phase.Phase.{Phase}
 use Rattle.search_machine.specs.declared.phase.Phase.TheVariants.{Aim, Claim, Done, Give, Late, Look, Offer, Pop}
@@ -73,7 +74,7 @@ module _ (g : Ground) (n : ℕ) where
       known = subst (Among x.worker.list) (sym plain_any) s.list.known;
       from = s.list.from;
       full = λ f p l h a b. s.list.full (floored_any x.own f) p l
-          (subst (Has p) answer_any h) a b;
+          (subst (In p) answer_any h) a b;
     };
     once = s.once;
     held = s.held;

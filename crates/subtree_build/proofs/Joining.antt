@@ -1,7 +1,6 @@
 -- Parts put together one by one (`joined_nodes_push`), and the numbers of their leaves (`moved_fits`).
-use Rattle.std.proofs.Common.{◌≡◌, ℕ, ◌+◌, ◌^◌, ◌<◌, ◌≤◌, List, [], ◌∷◌, ◌++◌, length, get_or, refl, sym, ap, ◌∙◌, subst, arith, append_assoc, append-nil, length-append, All, add_assoc, zero-add}
+use Rattle.std.proofs.Common.{◌≡◌, ℕ, ◌+◌, ◌^◌, ◌<◌, ◌≤◌, List, [], ◌∷◌, ◌++◌, length, refl, sym, ap, ◌∙◌, subst, arith, append_assoc, append-nil, length-append, add_assoc, zero-add}
 use Rattle.std.specs.Prelude.{flat_map}
-use Rattle.std.proofs.lemmas.List.Elements.{All-get_or}
 use Rattle.list_totals.specs.Totals.{total}
 use Rattle.list_totals.proofs.Totals.{total_append}
 use Rattle.subtree_build.specs.declared.leaf.TreeLeaf.{TreeLeaf}
@@ -40,18 +39,6 @@ part_leaves_push [] p = append-nil p.leaves.items
 part_leaves_push (q ∷ parts) p =
     ap (λ xs. q.leaves.items ++ xs) (part_leaves_push parts p)
     ∙ sym (append_assoc q.leaves.items (part_leaves parts) p.leaves.items)
-
--- the item in the middle of a list
-at_middle : {X : Type 0} (xs ys : List X) (y d : X) → get_or (xs ++ y ∷ ys) (length xs) d ≡ y
-at_middle [] ys y d = refl
-at_middle (x ∷ xs) ys y d = at_middle xs ys y d
-
--- what holds of all items holds of the one in the middle
-pub All-middle : {X : Type 0} (P : X → Type 0) (xs ys : List X) (y : X) → All P (xs ++ y ∷ ys) → P y
-All-middle P xs ys y all =
-    subst P (at_middle xs ys y y)
-    (All-get_or P (xs ++ y ∷ ys) (length xs) y
-    (let long = length-append xs (y ∷ ys) in omega arith) all)
 
 -- leaf numbers below a count, moved up, fit where the count does
 pub moved_fits : (t : Tree ℕ) (count by room : ℕ) → AllLeaves (λ l. l < count) t → count + by ≤ room

@@ -1,70 +1,58 @@
 -- Parts that workers drew, put in the order of their places: one for each place (`places_are`).
-use Rattle.std.proofs.Common.{◌≡◌, ℕ, zero, suc, ◌+◌, ◌<◌, ◌≤◌, true, List, [], ◌∷◌, length, get_or, map, refl, sym, ap, ◌∙◌, subst, ⊎_elim, arith, All, zero-add}
+use Rattle.std.proofs.Common.{◌≡◌, ℕ, zero, suc, ◌+◌, ◌<◌, ◌≤◌, true, List, [], ◌∷◌, ◌++◌, length, get_or, refl, sym, ap, ◌∙◌, subst, ⊎_elim, arith, All, zero-add}
 use Rattle.std.specs.Prelude.{flat_map, IsPermutation}
 use Rattle.std.specs.List.{range_with_len}
 use Rattle.std.specs.List.Sorted.{IsNonDecreasingBy}
 use Rattle.std.proofs.lemmas.Bool.{cases_eq}
 use Rattle.std.proofs.lemmas.Bool.Decides.{nat_tests}
 use Rattle.std.proofs.lemmas.List.{map-append}
-use Rattle.std.proofs.lemmas.List.Elements.{All-nil, All-append, All-map, All-head, All-tail}
+use Rattle.std.proofs.lemmas.List.Elements.{All-nil, All-append}
 use Rattle.std.proofs.lemmas.List.Sorted.{sum_by-IsPermutation}
-use Rattle.list_totals.specs.Totals.{total, times, one_if_same, once_below}
-use Rattle.list_totals.proofs.Totals.{total_map, times_append}
-use Rattle.claim_word.specs.Passes.{Claim, Pass, EachDrawnOnce}
-use Rattle.subtree_build.specs.declared.building.Builder.{Builder}
+use Rattle.list_totals.specs.Totals.{times, one_if_same, once_below}
+use Rattle.list_totals.proofs.Totals.{total_map}
+use Rattle.claim_word.specs.Passes.{Pass, EachDrawnOnce}
+use Rattle.worker_team.specs.Deeds.{EachDid}
+use Rattle.worker_team.proofs.Deeds.{passes_have}
+use Rattle.summary_phase.proofs.Draws.{all_draws, all_drawn, times_all}
+use Rattle.std.specs.declared.vec.Vec.{Vec}
+use Rattle.std.specs.declared.alloc.Global.{Global}
 use Rattle.subtree_build.specs.declared.part.Part.{Part}
 use Rattle.subtree_build.specs.declared.settings.Settings.{Settings}
 use Rattle.subtree_build.specs.declared.splicing.RootLists.{RootLists}
 use Rattle.subtree_build.specs.Building.{HasBuilt, IsPartAt, places_of}
 use Rattle.subtree_build.proofs.ByNumber.{sum_by_is_total}
 
--- the passes of workers are of these claims
-pub builders_own : (settings : Settings) (found : RootLists) (claims : Claim) (team : List Builder)
-    → All (HasBuilt settings found claims) team
-    → All (λ (p : Pass). p.claims ≡ claims) (map (λ (w : Builder). w.pass) team)
-builders_own settings found claims team built =
-    All-map (λ (p : Pass). p.claims ≡ claims) (λ (w : Builder). w.pass) team
-    (λ k d inside. (built k d inside).own)
+-- how parts were made with a pass
+abbrev Made : Settings → RootLists → Pass → Vec Part Global → Type 0
+Made settings found pass parts = HasBuilt settings found pass parts.items
 
--- the passes of complete workers have ended
-builders_ended : (settings : Settings) (found : RootLists) (claims : Claim) (team : List Builder)
-    → All (HasBuilt settings found claims) team → All (λ (w : Builder). w.complete ≡ true) team
-    → All (λ (p : Pass). p.ended ≡ true) (map (λ (w : Builder). w.pass) team)
-builders_ended settings found claims team built whole =
-    All-map (λ (p : Pass). p.ended ≡ true) (λ (w : Builder). w.pass) team
-    (λ k d inside. (built k d inside).ended (whole k d inside))
+-- the passes of workers that built have ended
+builders_ended : (settings : Settings) (found : RootLists) (passes : List Pass) (made : List (Vec Part Global))
+    → EachDid (Made settings found) passes made → All (λ (p : Pass). p.ended ≡ true) passes
+builders_ended settings found passes made did =
+    passes_have (Made settings found) (λ (p : Pass). p.ended ≡ true) (λ p m d. d.ended) passes made did
 
--- what complete workers made are root children at their places
-pub builders_made : (settings : Settings) (found : RootLists) (claims : Claim) (team : List Builder)
-    → All (HasBuilt settings found claims) team → All (λ (w : Builder). w.complete ≡ true) team
-    → All (IsPartAt settings found) (flat_map (λ (w : Builder). w.parts.items) team)
-builders_made settings found claims [] built whole = All-nil (IsPartAt settings found)
-builders_made settings found claims (w ∷ team) built whole =
-    All-append (IsPartAt settings found) w.parts.items (flat_map (λ (x : Builder). x.parts.items) team)
-    ((All-head (HasBuilt settings found claims) w team built).made
-    (All-head (λ (x : Builder). x.complete ≡ true) w team whole))
-    (builders_made settings found claims team
-    (All-tail (HasBuilt settings found claims) w team built)
-    (All-tail (λ (x : Builder). x.complete ≡ true) w team whole))
+-- what workers made are root children at their places
+pub builders_made : (settings : Settings) (found : RootLists) (passes : List Pass) (made : List (Vec Part Global))
+    → EachDid (Made settings found) passes made → All (IsPartAt settings found) (flat_map (λ own. own.items) made)
+builders_made settings found passes [] did = All-nil (IsPartAt settings found)
+builders_made settings found [] (m ∷ made) did = absurd did
+builders_made settings found (p ∷ passes) (m ∷ made) did =
+    All-append (IsPartAt settings found) m.items (flat_map (λ (own : Vec Part Global). own.items) made)
+    did.0.made (builders_made settings found passes made did.1)
 
--- the places of what complete workers made are what their passes drew
-times_drawn : (settings : Settings) (found : RootLists) (claims : Claim) (team : List Builder) (x : ℕ)
-    → All (HasBuilt settings found claims) team → All (λ (w : Builder). w.complete ≡ true) team
-    → times x (places_of (flat_map (λ (w : Builder). w.parts.items) team))
-    ≡ total (λ (p : Pass). times x p.draws) (map (λ (w : Builder). w.pass) team)
-times_drawn settings found claims [] x built whole = refl
-times_drawn settings found claims (w ∷ team) x built whole =
-    let rest = flat_map (λ (y : Builder). y.parts.items) team in
-    let drawn : places_of w.parts.items ≡ w.pass.draws
-    = (All-head (HasBuilt settings found claims) w team built).drawn
-    (All-head (λ (y : Builder). y.complete ≡ true) w team whole) in
-    ap (times x) (map-append (λ (p : Part). p.place) w.parts.items rest)
-    ∙ times_append x (places_of w.parts.items) (places_of rest)
-    ∙ ap (λ ds. times x ds + times x (places_of rest)) drawn
-    ∙ ap (λ n. times x w.pass.draws + n)
-    (times_drawn settings found claims team x
-    (All-tail (HasBuilt settings found claims) w team built)
-    (All-tail (λ (y : Builder). y.complete ≡ true) w team whole))
+-- the places of what workers made are what their passes drew
+places_drawn : (settings : Settings) (found : RootLists) (passes : List Pass) (made : List (Vec Part Global))
+    → EachDid (Made settings found) passes made
+    → places_of (flat_map (λ own. own.items) made) ≡ all_draws passes
+places_drawn settings found [] [] did = refl
+places_drawn settings found [] (m ∷ made) did = absurd did
+places_drawn settings found (p ∷ passes) [] did = absurd did
+places_drawn settings found (p ∷ passes) (m ∷ made) did =
+    let rest = flat_map (λ (own : Vec Part Global). own.items) made in
+    map-append (λ (q : Part). q.place) m.items rest
+    ∙ ap (λ l. l ++ places_of rest) did.0.drawn
+    ∙ ap (λ l. p.draws ++ l) (places_drawn settings found passes made did.1)
 
 -- each number is from a on, and none is followed by a smaller one
 abbrev UpFrom : ℕ → List ℕ → Type 0
@@ -157,32 +145,21 @@ times_permuted ps qs x moved =
     ∙ sum_by_is_total one ps
     ∙ sym (total_map (one_if_same x) (λ (p : Part). p.place) ps)
 
--- where complete workers drew all places, each once, their parts in order have the places in order
-pub places_are : (settings : Settings) (found : RootLists) (claims : Claim) (count : ℕ)
-    (team : List Builder) (passes : List Pass) (parts sorted : List Part)
-    → All (HasBuilt settings found claims) team → All (λ (w : Builder). w.complete ≡ true) team
-    → passes ≡ map (λ (w : Builder). w.pass) team
-    → parts ≡ flat_map (λ (w : Builder). w.parts.items) team
+-- where workers drew all places, each once, their parts in order have the places in order
+pub places_are : (settings : Settings) (found : RootLists) (count : ℕ) (passes : List Pass)
+    (made : List (Vec Part Global)) (parts sorted : List Part)
+    → EachDid (Made settings found) passes made → parts ≡ flat_map (λ own. own.items) made
     → 0 < length passes → EachDrawnOnce count passes → IsPermutation parts sorted
     → IsNonDecreasingBy (λ (p : Part). p.place) sorted
     → places_of sorted ≡ range_with_len 0 count
-places_are settings found claims count team passes parts sorted built whole is_passes is_parts some drawn
-    moved up =
-    let P : List Pass → Type 0 = λ ps. All (λ (p : Pass). p.ended ≡ true) ps in
-    let ended : All (λ (p : Pass). p.ended ≡ true) passes
-    = subst P (sym is_passes) (builders_ended settings found claims team built whole) in
-    let all : drawn.drawn ≡ count = all_drawn passes drawn some ended in
+places_are settings found count passes made parts sorted did is_parts some drawn moved up =
+    let all : drawn.drawn ≡ count
+    = all_drawn count passes drawn some (builders_ended settings found passes made did) in
     ordered_range 0 count (places_of sorted) (up_from_sort 0 sorted (λ d some. omega arith) up)
     (λ x low.
     times_permuted parts sorted x moved
     ∙ ap (λ (ps : List Part). times x (places_of ps)) is_parts
-    ∙ times_drawn settings found claims team x built whole
-    ∙ ap (total (λ (p : Pass). times x p.draws)) (sym is_passes)
+    ∙ ap (times x) (places_drawn settings found passes made did)
+    ∙ times_all x passes
     ∙ drawn.once x
     ∙ ap (once_below x) (all ∙ sym (zero-add count)))
-  where
-    -- where some pass has ended all numbers are drawn
-    all_drawn : (ps : List Pass) → (each : EachDrawnOnce count ps) → 0 < length ps
-        → All (λ (p : Pass). p.ended ≡ true) ps → each.drawn ≡ count
-    all_drawn [] each none ended = absurd (omega arith)
-    all_drawn (p ∷ ps) each more ended = each.whole 0 p more (ended 0 p more)

@@ -1,7 +1,7 @@
 -- Workers of the second phase: what they build from, and what they have built.
-use Rattle.std.specs.Prelude.{◌≡◌, ℕ, ◌^◌, ◌<◌, List, [], length, map, true, false, slice_index, slice_index_or, IsPermutation}
+use Rattle.std.specs.Prelude.{◌≡◌, ℕ, ◌^◌, ◌<◌, List, [], length, map, true, slice_index, slice_index_or, IsPermutation}
 use Rattle.std.specs.List.{All}
-use Rattle.claim_word.specs.Passes.{Claim, fresh_pass}
+use Rattle.claim_word.specs.Passes.{Pass}
 use Rattle.series_core.specs.Collection.{Collection, IsCollection}
 use Rattle.segment_sums.specs.Division.{IsDivision}
 use Rattle.isax_word.specs.declared.layout.Layout.{Layout}
@@ -9,7 +9,6 @@ use Rattle.isax_word.specs.Word.{one_bit_word}
 use Rattle.isax_word.specs.declared.member.Member.{Member}
 use Rattle.summary_phase.specs.Members.{members_of}
 use Rattle.summary_phase.specs.Roots.{of_root}
-use Rattle.subtree_build.specs.declared.building.Builder.{Builder}
 use Rattle.subtree_build.specs.declared.leaf.TreeLeaf.{TreeLeaf}
 use Rattle.subtree_build.specs.declared.part.Part.{Part}
 use Rattle.subtree_build.specs.declared.settings.Settings.{Settings}
@@ -52,23 +51,15 @@ pub record IsPartAt (settings : Settings) (found : RootLists) (p : Part) : Type 
   pub placed : p.place < length found.roots.items
   pub built : IsBuilt (child_at settings found p.place) [] (outline p.node) p.leaves.items
 
--- a worker has drawn nothing and made nothing
-pub record IsIdle (claims : Claim) (w : Builder) : Type 0 where
-  pub fresh : w.pass ≡ fresh_pass claims
-  pub empty : w.parts.items ≡ []
-  pub begun : w.complete ≡ false
-
 -- the places of parts
 abbrev pub places_of : List Part → List ℕ
 places_of parts = map (λ p. p.place) parts
 
--- a worker's pass is of these claims; where it is complete its pass has ended, and it has made the root child of
--- each place that it drew
-pub record HasBuilt (settings : Settings) (found : RootLists) (claims : Claim) (w : Builder) : Type 0 where
-  pub own : w.pass.claims ≡ claims
-  pub ended : w.complete ≡ true → w.pass.ended ≡ true
-  pub drawn : w.complete ≡ true → places_of w.parts.items ≡ w.pass.draws
-  pub made : w.complete ≡ true → All (IsPartAt settings found) w.parts.items
+-- with this pass, which has ended, a worker made the root child of each place that it drew
+pub record HasBuilt (settings : Settings) (found : RootLists) (pass : Pass) (parts : List Part) : Type 0 where
+  pub ended : pass.ended ≡ true
+  pub drawn : places_of parts ≡ pass.draws
+  pub made : All (IsPartAt settings found) parts
 
 -- the root numbers that some series has, and for each of them a list of the members under it, each once
 pub record HoldsRoots (layout : Layout) (c : Collection) (found : RootLists) : Type 0 where

@@ -1,8 +1,11 @@
-use Rattle.std.proofs.Common.{◌≡◌, ◌<◌, List, All, length, vec_len, map, sym, ◌∙◌, subst, arith}
-use Rattle.std.proofs.lemmas.Grind.{common_steps}
+-- All root children were drawn, each once, so what was found is all that is near.
+use Rattle.std.proofs.Common.{◌≡◌, ℕ, ◌<◌, List, All, length, sym, ap, ◌∙◌, subst, arith}
+use Rattle.std.proofs.lemmas.List.{length-replicate, length-map}
 use Rattle.std.proofs.lemmas.List.Elements.{All-map}
-use Rattle.claim_word.specs.Passes.{Pass}
-use Rattle.range_query.specs.declared.team.Worker.{Worker}
+use Rattle.claim_word.specs.Passes.{Pass, EachDrawnOnce, fresh_pass}
+use Rattle.worker_team.proofs.Deeds.{each_did}
+use Rattle.range_query.specs.Done.{IsDone}
+use Rattle.range_query.specs.Near.{ask}
 use Rattle.range_query.proofs.Together.{found_by_team}
 use Rattle.range_query.proofs.range.within.Goals as goal
 
@@ -11,25 +14,32 @@ close-requires-clause-own g c =
     let own : Pass → Type 0 = λ p. p.claims ≡ c.in_ok-claims.claims in
     let P : List Pass → Type 0 = λ ps. All own ps in
     subst P (sym c.in_ok-passes.ensures.passes)
-    (All-map own (λ (w : Worker). w.pass) c.draw_together.new.team.items
-    c.draw_together.ensures.own)
+    (All-map own (λ w. w.pass) c.draw_together.new.team.items c.draw_together.ensures.own)
 
 pub returns : goal.returns
 returns g c =
     let team = c.draw_together.new.team in
-    let len : vec_len team ≡ c.args.workers =
-    grind (
+    let passes = c.in_ok-passes.passes.items in
+    let made = c.in_ok-passes.made.items in
+    let index = c.args.index.now in
+    let asked = ask (g.R.Rows.collection c.args.rows.now) c.args.query.now c.args.radius in
+    let some : 0 < length passes = omega (
       arith,
-      common_steps,
+      c.requires.workers,
+      team.ok.0,
       c.draw_together.ensures.len,
       c.in_ok-team.ensures.len,
-      c.in_ok-claims.ensures.passes,
+      c.in_ok-claims.passes.ok.0,
+      ap length c.in_ok-claims.ensures.passes,
+      length-replicate c.args.workers (fresh_pass c.in_ok-claims.claims),
+      ap length c.in_ok-passes.ensures.passes,
+      length-map team.items (λ w. w.pass),
     ) in
-    let some : 0 < length team.items = omega (arith, team.ok.0, len, c.requires.workers) in
-    let out = c.in_ok-passes.ensures in
-    found_by_team _ _ _ c.search_law.ensures c.in_ok-claims.claims.count
-    c.in_ok-passes.passes.items team.items c.in_ok-passes.found.items
-    c.sort_unstable.new.self.items
-    (c.in_ok-claims.ensures.count ∙ c.from-roots.ensures ∙ c.root_count.ensures.count)
-    c.close.ensures out.passes some out.complete c.draw_together.ensures.done out.found
-    c.sort_unstable.ensures.permutation c.sort_unstable.ensures.sorted
+    let count : c.in_ok-claims.claims.count ≡ length index.roots
+    = c.in_ok-claims.ensures.count ∙ c.from-roots.ensures ∙ c.root_count.ensures.count in
+    let P : ℕ → Type 0 = λ n. EachDrawnOnce n passes in
+    found_by_team asked index _ c.search_law.ensures passes made c.in_ok-found.found.items
+    c.sort_unstable.new.self.items (subst P count c.close.ensures) some
+    (each_did (λ p m. IsDone asked index p m.items) team.items passes made
+    c.draw_together.ensures.done c.in_ok-passes.ensures.passes c.in_ok-passes.ensures.made)
+    c.in_ok-found.ensures c.sort_unstable.ensures.permutation c.sort_unstable.ensures.sorted

@@ -1,4 +1,5 @@
-use Rattle.std.proofs.Common.{◌≡◌, ◌≤◌, ap, ◌∙◌, arith}
+-- What is near below one root child more is found.
+use Rattle.std.proofs.Common.{ap, ◌∙◌, arith}
 use Rattle.claim_word.specs.Passes.{Pass}
 use Rattle.range_query.specs.Searches.{asked_of}
 use Rattle.range_query.proofs.Drawing.{drawn_more}
@@ -13,12 +14,11 @@ loop-drawn-preserved g c =
     record {
       own = ap (λ (p : Pass). p.claims) drawn ∙ was.own;
       goes_on = ap (λ (p : Pass). p.ended) drawn ∙ was.goes_on;
-      turns = omega (arith, met, was.turns);
       met = omega (arith, met);
       all_near =
           drawn_more
           (asked_of g.R.Rows.collection c.args.search.now)
-          c.args.search.now.index.now c.loop-drawn.pass.draws c.draw.new.pass.draws
+          c.args.search.now.index.now c.loop-drawn.worker.pass.draws c.draw.new.pass.draws
           c.in-Some.drawn c.root.result.now c.loop-drawn.found.items c.walk.new.found.items
           c.root.ensures was.all_near (ap (λ (p : Pass). p.draws) drawn) c.in_ok-walk.ensures;
     }

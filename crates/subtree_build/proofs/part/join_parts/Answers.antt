@@ -6,7 +6,8 @@ use Rattle.list_totals.specs.Totals.{total}
 use Rattle.subtree_build.specs.declared.part.Part.{Part}
 use Rattle.subtree_build.specs.Outline.{outline, moved_up}
 use Rattle.subtree_build.specs.Parts.{leaves_in, joined_nodes, NumbersWithin}
-use Rattle.subtree_build.proofs.Joining.{joined_nodes_push, length-part_leaves, part_leaves_push, All-middle, moved_fits, fits_behind}
+use Rattle.subtree_build.proofs.Joining.{joined_nodes_push, length-part_leaves, part_leaves_push, moved_fits, fits_behind}
+use Rattle.worker_team.proofs.Hiring.{All-middle}
 use Rattle.subtree_build.proofs.part.join_parts.Goals as goal
 
 pub overflow_cast-len : goal.overflow_cast-len

@@ -1,4 +1,4 @@
-use Rattle.std.proofs.Common.{◌≡◌, ◌++◌, List, ap, sym, ◌∙◌, append-nil}
+use Rattle.std.proofs.Common.{◌++◌, List, ap, sym, ◌∙◌, append-nil}
 use Rattle.std.proofs.lemmas.Bool.{ltb-true}
 use Rattle.series_core.specs.declared.pair.Pair.{Pair}
 use Rattle.subtree_build.specs.Outline.{outline}

@@ -1,6 +1,5 @@
-use Rattle.std.proofs.Common.{◌≡◌, ◌<◌, ◌≤◌, sym, arith, length}
-use Rattle.lower_bound.specs.Bound.{word_bound, eight_bit_word}
-use Rattle.range_query.proofs.Cutting.{far_member, length-series}
+use Rattle.std.proofs.Common.{sym, arith}
+use Rattle.range_query.proofs.Cutting.{far_member}
 use Rattle.range_query.proofs.walk.Search.near.Goals as goal
 
 pub returns-then-bound_full-self : goal.returns-then-bound_full-self

@@ -1,8 +1,4 @@
-use Rattle.std.proofs.Common.{◌≡◌, ◌++◌, List, ap, sym, ◌∙◌, append-nil, length, take, arith}
-use Rattle.std.proofs.lemmas.List.{take_all}
-use Rattle.isax_word.specs.declared.member.Member.{Member}
-use Rattle.range_query.specs.Near.{near_members}
-use Rattle.range_query.proofs.Scanning.{number_is_series, found_more}
+use Rattle.range_query.proofs.Scanning.{number_is_series}
 use Rattle.range_query.proofs.walk.Search.scan.Goals as goal
 
 pub near-requires-clause-number : goal.near-requires-clause-number
