@@ -1,82 +1,151 @@
--- A refusal concludes a run: nothing was written, and there is a cause.
-use Rattle.std.proofs.Common.{◌≢◌, ℕ, List, Option, None, Some, inl, inr, refl, ◌⊎◌, ⊎_elim}
+-- How a command ends, from what it did: its clauses of completeness and of causes follow from `Concludes`.
+use Rattle.std.proofs.Common.{◌≡◌, ◌≢◌, ℕ, ◌++◌, List, length, inl, inr, refl, subst, arith, ⊎_elim, length-append}
+use Rattle.std.specs.Io.KnownBytes.{append_known}
+use Rattle.outside.specs.Sink.{AppendsPrefix}
+use Rattle.search_run.specs.Ends.{Answers, Asks, Concludes, ConcludesBy, Ends, Finishes, IsAnswered, IsFaultless, TellsCause, TellsFault, WroteNothing}
+use Rattle.search_run.specs.Commands.{CanAnswer, plan_of}
+use Rattle.search_run.specs.Plans.{CanPass, HasFault, Plan, Refuses, Writes}
 use Rattle.search_run.specs.Traffic.{Reading, Writing}
-use Rattle.search_run.specs.Sources.{Sources, RefusesBoth, TooMany}
-use Rattle.search_run.specs.Verifying.{RefusesVerify}
-use Rattle.command_words.specs.declared.options.Options.{Options}
 use Rattle.command_words.specs.declared.command.Command.{Command}
-use Rattle.search_run.specs.Ends.{Answers, Asks, Concludes, Ends, WroteNothing}
+use Rattle.search_run.proofs.Exactly.{one_told, right_without}
+use Rattle.search_run.proofs.Passing.{only_reading}
+use Rattle.search_run.proofs.Refusing.{invalid_has_fault, refuses_for_cause}
+use Rattle.search_run.proofs.Writing.{prefix_longer}
 use Rattle.search_run.specs.declared.status.CertFault.{CertFault}
 use Rattle.search_run.specs.declared.status.Status.{Status}
 use Rattle.search_run.specs.declared.status.Status.TheVariants.{Done, Usage, Missing, ReadFault, Format, Mismatch, Settings, WriteFault, Memory, Invalid}
 
--- causes that refuse with neither of the two statuses of written text conclude a run
-pub refusal_concludes : (IsIt : List ℕ → Type 0) (Refused : Status → Type 0) (writing : Writing) (status : Status)
-    → (Refused Done → ⊥) → (Refused WriteFault → ⊥) → Refused status → WroteNothing writing
-    → Concludes IsIt Refused writing status
-refusal_concludes IsIt Refused writing Done not_done not_fault refused nothing = absurd (not_done refused)
-refusal_concludes IsIt Refused writing WriteFault not_done not_fault refused nothing = absurd (not_fault refused)
-refusal_concludes IsIt Refused writing Memory not_done not_fault refused nothing = inl nothing
-refusal_concludes IsIt Refused writing Usage not_done not_fault refused nothing = (refused, nothing)
-refusal_concludes IsIt Refused writing (Missing w) not_done not_fault refused nothing = (refused, nothing)
-refusal_concludes IsIt Refused writing (ReadFault w) not_done not_fault refused nothing = (refused, nothing)
-refusal_concludes IsIt Refused writing (Format w e) not_done not_fault refused nothing = (refused, nothing)
-refusal_concludes IsIt Refused writing (Mismatch a b) not_done not_fault refused nothing = (refused, nothing)
-refusal_concludes IsIt Refused writing (Settings w n) not_done not_fault refused nothing = (refused, nothing)
-refusal_concludes IsIt Refused writing (Invalid e) not_done not_fault refused nothing = (refused, nothing)
+-- a step that refuses concludes a command that wrote nothing
+pub refusal_concludes : (IsRight IsBeginning : List ℕ → Type 0) (reading : Reading) (plan : Plan) (writing : Writing)
+    (status : Status) → Refuses reading plan status → WroteNothing writing
+    → ConcludesBy IsRight IsBeginning (Refuses reading plan) writing status
+refusal_concludes IsRight IsBeginning reading plan writing status refused nothing = by_status status refused
+  where
+    by_status : (status : Status) → Refuses reading plan status
+        → ConcludesBy IsRight IsBeginning (Refuses reading plan) writing status
+    by_status Done x = absurd (refuses_for_cause reading plan Done x)
+    by_status WriteFault x = absurd (refuses_for_cause reading plan WriteFault x)
+    by_status Memory x = inl nothing
+    by_status Usage x = (x, nothing)
+    by_status (Missing w) x = (x, nothing)
+    by_status (ReadFault w) x = (x, nothing)
+    by_status (Format w e) x = (x, nothing)
+    by_status (Mismatch a b) x = (x, nothing)
+    by_status (Settings w n) x = (x, nothing)
+    by_status (Invalid e) x = (x, nothing)
 
--- none of four causes is there
-no_cause : {A B C D : Type 0} → (A → ⊥) → (B → ⊥) → (C → ⊥) → (D → ⊥) → (A ⊎ B) ⊎ (C ⊎ D) → ⊥
-no_cause a b c d = ⊎_elim (⊎_elim a b) (⊎_elim c d)
+-- what concludes one command concludes another with the same texts, of whose texts its beginnings are a beginning
+pub concludes_map : (A B C : List ℕ → Type 0) (R Q : Status → Type 0) (writing : Writing) (status : Status)
+    → ((text : List ℕ) → A text → C text) → ((text : List ℕ) → B text → (rest : List ℕ) × C (text ++ rest))
+    → ((s : Status) → R s → Q s) → ConcludesBy A B R writing status → Concludes C Q writing status
+concludes_map A B C R Q writing status whole begun refused = by_status status
+  where
+    longer : (text : List ℕ) → B text → AppendsPrefix writing.before text writing.now
+        → (all : List ℕ) × C all × AppendsPrefix writing.before all writing.now
+    longer text is part =
+        let more = begun text is in
+        (text ++ more.0, more.1, prefix_longer writing.before writing.now text more.0 part)
 
--- more segments than a series has values are told by one status alone
-too_many_done : (segments : Option ℕ) (n : ℕ) → TooMany segments n Done → ⊥
-too_many_done None n many = many
-too_many_done (Some w) n many = many
+    by_status : (status : Status) → ConcludesBy A B R writing status → Concludes C Q writing status
+    by_status Done x = (x.0, whole x.0 x.1, x.2)
+    by_status WriteFault x =
+        let more = begun x.0 x.1 in (
+          x.0 ++ more.0,
+          more.1,
+          prefix_longer writing.before writing.now x.0 more.0 x.2,
+          x.3,
+          omega (arith, x.4, length-append x.0 more.0),
+        )
+    by_status Memory x = ⊎_elim (λ nothing. inl nothing) (λ some. inr (longer some.0 some.1 some.2)) x
+    by_status Usage x = (refused Usage x.0, x.1)
+    by_status (Missing w) x = (refused (Missing w) x.0, x.1)
+    by_status (ReadFault w) x = (refused (ReadFault w) x.0, x.1)
+    by_status (Format w e) x = (refused (Format w e) x.0, x.1)
+    by_status (Mismatch a b) x = (refused (Mismatch a b) x.0, x.1)
+    by_status (Settings w n) x = (refused (Settings w n) x.0, x.1)
+    by_status (Invalid e) x = (refused (Invalid e) x.0, x.1)
 
-too_many_fault : (segments : Option ℕ) (n : ℕ) → TooMany segments n WriteFault → ⊥
-too_many_fault None n many = many
-too_many_fault (Some w) n many = many
+-- no command ends as words that are none
+pub answers_not_usage : (reading : Reading) (writing : Writing) (command : Command) (status : Status)
+    → Answers reading writing command status → status ≢ Usage
+answers_not_usage reading writing command status answered is =
+    let usage = subst (Answers reading writing command) is answered in
+    refuses_for_cause reading (plan_of command) Usage usage.0
 
--- nor are the causes of two files told by the statuses of written text
-both_not_done : (reading : Reading) (s : Sources) → RefusesBoth reading s Done → ⊥
-both_not_done reading s =
-    no_cause (λ x. x) (λ x. x.2) (λ x. x.3) (λ x. too_many_done s.segments x.0.rows.points x.4)
+-- a command that can do its work finishes
+pub answers_finish : (reading : Reading) (writing : Writing) (command : Command) (status : Status)
+    → Answers reading writing command status → CanAnswer reading.held command
+    → Finishes reading.held command reading.faults reading.later writing.faults writing.later status
+answers_finish reading writing command status answered can = by_status status answered
+  where
+    by_status : (status : Status) → Answers reading writing command status
+        → Finishes reading.held command reading.faults reading.later writing.faults writing.later status
+    by_status Done x = tt
+    by_status Memory x = tt
+    by_status WriteFault x = x.3
+    by_status (Invalid e) x = invalid_has_fault reading (plan_of command) e x.0
+    by_status (ReadFault w) x = only_reading reading (plan_of command) (ReadFault w) can x.0
+    by_status Usage x = absurd (only_reading reading (plan_of command) Usage can x.0)
+    by_status (Missing w) x = absurd (only_reading reading (plan_of command) (Missing w) can x.0)
+    by_status (Format w e) x = absurd (only_reading reading (plan_of command) (Format w e) can x.0)
+    by_status (Mismatch a b) x = absurd (only_reading reading (plan_of command) (Mismatch a b) can x.0)
+    by_status (Settings w n) x = absurd (only_reading reading (plan_of command) (Settings w n) can x.0)
 
-both_not_fault : (reading : Reading) (s : Sources) → RefusesBoth reading s WriteFault → ⊥
-both_not_fault reading s =
-    no_cause (λ x. x) (λ x. x.2) (λ x. x.3) (λ x. too_many_fault s.segments x.0.rows.points x.4)
+-- one whose certificate has no fault does all of it, or cannot read or write
+pub answers_faultless : (reading : Reading) (writing : Writing) (command : Command) (status : Status)
+    → Answers reading writing command status → CanAnswer reading.held command → IsFaultless reading.held command
+    → IsAnswered reading.faults reading.later writing.faults writing.later status
+answers_faultless reading writing command status answered can faultless =
+    by_status status (answers_finish reading writing command status answered can)
+  where
+    by_status : (status : Status)
+        → Finishes reading.held command reading.faults reading.later writing.faults writing.later status
+        → IsAnswered reading.faults reading.later writing.faults writing.later status
+    by_status (Invalid e) x = absurd (faultless e x)
+    by_status Done x = x
+    by_status Memory x = x
+    by_status WriteFault x = x
+    by_status (ReadFault w) x = x
+    by_status Usage x = x
+    by_status (Missing w) x = x
+    by_status (Format w e) x = x
+    by_status (Mismatch a b) x = x
+    by_status (Settings w n) x = x
 
--- nor by that of a certificate
-too_many_invalid : (segments : Option ℕ) (n : ℕ) (e : CertFault) → TooMany segments n (Invalid e) → ⊥
-too_many_invalid None n e many = many
-too_many_invalid (Some w) n e many = many
+-- one whose certificate has a fault tells it, or cannot read
+pub answers_exactly : (reading : Reading) (writing : Writing) (command : Command) (status : Status)
+    → Answers reading writing command status → CanAnswer reading.held command
+    → (fault : CertFault) → HasFault reading.held (plan_of command) fault
+    → TellsFault reading.faults reading.later fault status
+answers_exactly reading writing command status answered can fault has = by_status status answered
+  where
+    by_status : (status : Status) → Answers reading writing command status
+        → TellsFault reading.faults reading.later fault status
+    by_status Done x = absurd (right_without reading.held (plan_of command) x.0 fault can x.1 has)
+    by_status WriteFault x = absurd (right_without reading.held (plan_of command) x.0 fault can x.1 has)
+    by_status Memory x = tt
+    by_status (Invalid e) x =
+        one_told reading.held (plan_of command) e fault can (invalid_has_fault reading (plan_of command) e x.0) has
+    by_status (ReadFault w) x = only_reading reading (plan_of command) (ReadFault w) can x.0
+    by_status Usage x = absurd (only_reading reading (plan_of command) Usage can x.0)
+    by_status (Missing w) x = absurd (only_reading reading (plan_of command) (Missing w) can x.0)
+    by_status (Format w e) x = absurd (only_reading reading (plan_of command) (Format w e) can x.0)
+    by_status (Mismatch a b) x = absurd (only_reading reading (plan_of command) (Mismatch a b) can x.0)
+    by_status (Settings w n) x = absurd (only_reading reading (plan_of command) (Settings w n) can x.0)
 
-pub both_not_invalid : (reading : Reading) (s : Sources) (e : CertFault) → RefusesBoth reading s (Invalid e) → ⊥
-both_not_invalid reading s e =
-    no_cause (λ x. x) (λ x. x.2) (λ x. x.3) (λ x. too_many_invalid s.segments x.0.rows.points e x.4)
-
--- a refusal of one of the two files, or of both, concludes a run
-pub refused_both : (IsIt : List ℕ → Type 0) (reading : Reading) (s : Sources) (writing : Writing) (status : Status)
-    → RefusesBoth reading s status → WroteNothing writing → Concludes IsIt (RefusesBoth reading s) writing status
-refused_both IsIt reading s writing status =
-    refusal_concludes IsIt (RefusesBoth reading s) writing status
-    (both_not_done reading s) (both_not_fault reading s)
-
--- so does a refusal of a certificate, or of the files that it is checked against
-pub refused_verify : (IsIt : List ℕ → Type 0) (reading : Reading) (s : Sources) (certificate : List ℕ) (o : Options)
-    (writing : Writing) (status : Status) → RefusesVerify reading s certificate o status → WroteNothing writing
-    → Concludes IsIt (RefusesVerify reading s certificate o) writing status
-refused_verify IsIt reading s certificate o writing status =
-    refusal_concludes IsIt (RefusesVerify reading s certificate o) writing status
-    (⊎_elim (both_not_done reading s) (λ x. x.3))
-    (⊎_elim (both_not_fault reading s) (λ x. x.3))
-
--- so do more segments than a series has values
-pub refused_segments : (IsIt : List ℕ → Type 0) (segments : Option ℕ) (n : ℕ) (writing : Writing) (status : Status)
-    → TooMany segments n status → WroteNothing writing → Concludes IsIt (TooMany segments n) writing status
-refused_segments IsIt segments n writing status =
-    refusal_concludes IsIt (TooMany segments n) writing status (too_many_done segments n) (too_many_fault segments n)
+-- a status tells a cause
+pub answers_cause : (reading : Reading) (writing : Writing) (command : Command) (status : Status)
+    → Answers reading writing command status → TellsCause status
+answers_cause reading writing command (Format w e) x = refuses_for_cause reading (plan_of command) (Format w e) x.0
+answers_cause reading writing command (Invalid e) x = refuses_for_cause reading (plan_of command) (Invalid e) x.0
+answers_cause reading writing command Done x = tt
+answers_cause reading writing command Memory x = tt
+answers_cause reading writing command WriteFault x = tt
+answers_cause reading writing command (ReadFault w) x = tt
+answers_cause reading writing command Usage x = tt
+answers_cause reading writing command (Missing w) x = tt
+answers_cause reading writing command (Mismatch a b) x = tt
+answers_cause reading writing command (Settings w n) x = tt
 
 -- a command that the words ask for and that was answered ends a run, since no answer is that the words are none
 pub answer_ends : (words : List (List ℕ)) (reading : Reading) (writing : Writing) (command : Command) (status : Status)

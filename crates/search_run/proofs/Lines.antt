@@ -1,9 +1,8 @@
 -- The lines of a list, one more at its end.
-use Rattle.std.proofs.Common.{◌≡◌, ℕ, suc, ◌+◌, ◌<◌, List, [], ◌∷◌, ◌++◌, length, take, drop, take-append-drop, get_or, Option, sym, ap, ◌∙◌, arith, append_assoc, append-nil}
-use Rattle.std.specs.Prelude.{ℤ}
+use Rattle.std.proofs.Common.{◌≡◌, ℕ, suc, ◌+◌, ◌<◌, List, [], ◌∷◌, ◌++◌, length, take, get_or, Option, sym, ap, ◌∙◌, arith, append_assoc, append-nil}
 use Rattle.std.proofs.lemmas.List.{take_more, length-take-le}
 use Rattle.series_core.specs.declared.pair.Pair.{Pair}
-use Rattle.search_run.specs.Texts.{answer_line, answer_lines, query_text, texts_from}
+use Rattle.search_run.specs.Texts.{answer_line, answer_lines}
 
 -- the lines of two lists
 answer_lines-append : (labels : Option (List ℕ)) (r : ℕ) (ps qs : List Pair)
@@ -24,54 +23,6 @@ answer_lines-more labels r i ps d h =
     ∙ answer_lines-append labels r (take i ps) (get_or ps i d ∷ [])
     ∙ ap (λ m. answer_lines labels r (take i ps) ++ answer_lines labels m (get_or ps i d ∷ [])) (ap (λ m. r + m) (length-take-le i ps (omega arith)))
     ∙ ap (λ rest. answer_lines labels r (take i ps) ++ rest) (append-nil (answer_line labels (r + i) (get_or ps i d)))
-
--- the text of two lists of queries
-texts_from-append : (labels : Option (List ℕ)) (found : List ℤ → List Pair) (i : ℕ) (ps qs : List (List ℤ))
-    → texts_from labels found i (ps ++ qs) ≡ texts_from labels found i ps ++ texts_from labels found (i + length ps) qs
-texts_from-append labels found i [] qs =
-    let same : i ≡ i + 0 = omega arith in ap (λ m. texts_from labels found m qs) same
-texts_from-append labels found i (p ∷ ps) qs =
-    let same : i + 1 + length ps ≡ i + suc (length ps) = omega arith in
-    ap (λ rest. query_text labels i (found p) ++ rest)
-    (texts_from-append labels found (i + 1) ps qs
-    ∙ ap (λ m. texts_from labels found (i + 1) ps ++ texts_from labels found m qs) same)
-    ∙ sym (append_assoc (query_text labels i (found p)) (texts_from labels found (i + 1) ps) (texts_from labels found (i + suc (length ps)) qs))
-
--- the text of one more query
-pub texts_from-more : (labels : Option (List ℕ)) (found : List ℤ → List Pair) (i : ℕ) (qs : List (List ℤ)) (d : List ℤ) → i < length qs
-    → texts_from labels found 0 (take (i + 1) qs) ≡ texts_from labels found 0 (take i qs) ++ query_text labels i (found (get_or qs i d))
-texts_from-more labels found i qs d h =
-    let here : 0 + length (take i qs) ≡ i = omega (arith, length-take-le i qs (omega arith)) in
-    ap (texts_from labels found 0) (take_more qs i d h)
-    ∙ texts_from-append labels found 0 (take i qs) (get_or qs i d ∷ [])
-    ∙ ap (λ m. texts_from labels found 0 (take i qs) ++ texts_from labels found m (get_or qs i d ∷ [])) here
-    ∙ ap (λ rest. texts_from labels found 0 (take i qs) ++ rest) (append-nil (query_text labels i (found (get_or qs i d))))
-
--- the whole text is that of the first queries, and of the rest
-pub texts_parts : (labels : Option (List ℕ)) (found : List ℤ → List Pair) (i : ℕ) (qs : List (List ℤ))
-    → texts_from labels found 0 qs
-    ≡ texts_from labels found 0 (take i qs) ++ texts_from labels found (0 + length (take i qs)) (drop i qs)
-texts_parts labels found i qs =
-    ap (texts_from labels found 0) (sym (take-append-drop i qs))
-    ∙ texts_from-append labels found 0 (take i qs) (drop i qs)
-
--- the first queries and one more, whose text is this piece
-pub texts_piece : (labels : Option (List ℕ)) (found : List ℤ → List Pair) (i : ℕ) (qs : List (List ℤ)) (d : List ℤ) (piece : List ℕ)
-    → i < length qs → piece ≡ query_text labels i (found (get_or qs i d))
-    → texts_from labels found 0 (take (i + 1) qs) ≡ texts_from labels found 0 (take i qs) ++ piece
-texts_piece labels found i qs d piece h e =
-    texts_from-more labels found i qs d h ∙ ap (λ xs. texts_from labels found 0 (take i qs) ++ xs) (sym e)
-
--- the whole text is that of the first queries, of one more, and of the rest
-pub texts_split : (labels : Option (List ℕ)) (found : List ℤ → List Pair) (i : ℕ) (qs : List (List ℤ)) (d : List ℤ) (piece : List ℕ)
-    → i < length qs → piece ≡ query_text labels i (found (get_or qs i d))
-    → texts_from labels found 0 qs
-    ≡ (texts_from labels found 0 (take i qs) ++ piece)
-    ++ texts_from labels found (0 + length (take (i + 1) qs)) (drop (i + 1) qs)
-texts_split labels found i qs d piece h e =
-    texts_parts labels found (i + 1) qs
-    ∙ ap (λ front. front ++ texts_from labels found (0 + length (take (i + 1) qs)) (drop (i + 1) qs))
-    (texts_piece labels found i qs d piece h e)
 
 -- one turn of the loop over answers
 pub answers_step : (labels : Option (List ℕ)) (old text next : List ℕ) (rank i : ℕ) (ps : List Pair) (d : Pair)

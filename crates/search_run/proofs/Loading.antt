@@ -1,8 +1,9 @@
 -- A file that was opened and refused by its bytes is held with that fault.
-use Rattle.std.proofs.Common.{◌≡◌, ℕ, List, length, Option, None, Some, IfSome, sym, refl, ◌∙◌}
+use Rattle.std.proofs.Common.{◌≡◌, ℕ, ◌≤◌, List, length, Option, None, Some, IfSome, subst, sym, refl, arith, ◌∙◌}
 use Rattle.std.proofs.lemmas.Option.{none-some, same_Some}
 use Rattle.std.specs.Prelude.{IsSome}
 use Rattle.std.proofs.lemmas.Bool.{false≢true}
+use Rattle.outside.specs.Count.{Rose, Rose-wider}
 use Rattle.outside.specs.Files.{Held, Opens}
 use Rattle.series_file.specs.Faults.{fault}
 use Rattle.series_file.specs.Stages.{Explains}
@@ -12,10 +13,15 @@ use Rattle.series_file.specs.declared.error.FileError.TheVariants.{ReadFault as 
 use Rattle.series_file.specs.Format.{HasForm, HasText}
 use Rattle.series_file.specs.declared.error.Form.TheVariants.{Headed, Raw}
 use Rattle.series_file.specs.declared.error.Loaded.{Loaded}
-use Rattle.search_run.specs.Certificates.{HoldsBytes}
-use Rattle.search_run.specs.Loads.{HasLabels, HoldsFault, RefusesFile, refusal_of}
+use Rattle.search_run.specs.Certificates.{RefusesCertificate, ShowsInvalid}
+use Rattle.search_run.specs.Loads.{HoldsBytes, RefusesFile, RefusesNamed, ShowsFault, refusal_of}
+use Rattle.search_run.specs.Pairs.{HasLabels}
+use Rattle.search_run.specs.Traffic.{Reading}
+use Rattle.search_run.specs.declared.status.CertFault.{CertFault}
 use Rattle.search_run.specs.declared.status.Which.{Which}
-use Rattle.outside.specs.Count.{Rose}
+use Rattle.search_run.specs.declared.status.Which.TheVariants.{Certificate}
+use Rattle.search_run.specs.declared.status.Status.{Status}
+use Rattle.search_run.specs.declared.status.Status.TheVariants.{Done, Usage, Missing, ReadFault, Format, Mismatch, Settings, WriteFault, Memory, Invalid}
 
 -- what is so of the bytes that are left of a file that was just opened is so of those that are held
 pub opened_holds : (held : Option Held) (name : List ℕ) (at left : Option (List ℕ)) (IsSo : List ℕ → Type 0)
@@ -28,11 +34,6 @@ opened_holds (Some h) name at None IsSo opened x = absurd (is_told (h name) open
     is_told (Some b) i f = none-some b f
 opened_holds (Some h) name at (Some bytes) IsSo opened x = (bytes, sym opened.2, x)
 
--- bytes that explain an error, of a file that was opened, are those that are held
-told : (held : Option Held) (name : List ℕ) (at left : Option (List ℕ)) (form : Form) (e : FileError)
-    → Opens held name at left → IfSome left (λ bytes. fault form bytes ≡ Some e) → HoldsFault held name form e
-told held name at left form e = opened_holds held name at left (λ bytes. fault form bytes ≡ Some e)
-
 -- a blamed file that was open is the one that was asked for
 pub blamed_open : (held : Option Held) (name : List ℕ) (at left blamed : Option (List ℕ)) → Opens held name at left
     → IfSome blamed (λ b. at ≡ Some b) → IfSome blamed (λ b. b ≡ name)
@@ -42,15 +43,70 @@ blamed_open None name (Some a) left (Some b) opened x = sym (same_Some a b x) �
 blamed_open (Some h) name at left (Some b) opened x = same_Some b name (sym x ∙ opened.0)
 
 -- an error of a file that was opened is the cause of its status
-pub refused : (w : Which) (held : Option Held) (name : List ℕ) (at left : Option (List ℕ)) (form : Form)
-    (faults later misses more : ℕ) (blamed : Option (List ℕ)) (e : FileError)
-    → Opens held name at left → Explains form left e
-    → (e ≡ FileReadFault → Rose faults later × IfSome blamed (λ b. at ≡ Some b))
-    → RefusesFile w held name form faults later misses more blamed (refusal_of w e)
-refused w held name at left form faults later misses more blamed FileReadFault opened x failed =
-    let f = failed refl in (refl, f.0, blamed_open held name at left blamed opened f.1)
-refused w held name at left form faults later misses more blamed NoMemory opened x failed = tt
-refused w held name at left form faults later misses more blamed e opened x failed = (refl, told held name at left form e opened x)
+pub file_refused : (w : Which) (reading : Reading) (name : List ℕ) (at left : Option (List ℕ)) (form : Form)
+    (e : FileError) → Opens reading.held name at left → Explains form left e
+    → (e ≡ FileReadFault → Rose reading.faults reading.later × IfSome reading.blamed (λ b. at ≡ Some b))
+    → RefusesFile w reading name form (refusal_of w e)
+file_refused w reading name at left form FileReadFault opened x failed =
+    let f = failed refl in (refl, f.0, blamed_open reading.held name at left reading.blamed opened f.1)
+file_refused w reading name at left form NoMemory opened x failed = tt
+file_refused w reading name at left form e opened x failed = (
+  refl,
+  tt,
+  opened_holds reading.held name at left (λ bytes. fault form bytes ≡ Some e) opened x,
+)
+
+-- what refuses a name refuses it also where its bytes may show more, and in the whole of a run of which this is a part
+pub named_wider : (w : Which) (whole part : Reading) (name : List ℕ) (P Q : Status → Type 0) (status : Status)
+    → part.held ≡ whole.held → whole.faults ≤ part.faults → whole.misses ≤ part.misses
+    → part.later ≡ whole.later → part.more ≡ whole.more → part.blamed ≡ whole.blamed
+    → ((s : Status) → P s → Q s) → RefusesNamed w P part name status → RefusesNamed w Q whole name status
+named_wider w whole part name P Q status kept less fewer later more blames shown = by_status status
+  where
+    by_status : (status : Status) → RefusesNamed w P part name status → RefusesNamed w Q whole name status
+    by_status (Missing v) x = (
+      x.0,
+      Rose-wider fewer x.1 (omega (arith, more)),
+      subst (λ held. IfSome held (λ h. h name ≡ None)) kept x.2,
+    )
+    by_status (ReadFault v) x = (
+      x.0,
+      Rose-wider less x.1 (omega (arith, later)),
+      subst (λ blamed. IfSome blamed (λ b. b ≡ name)) blames x.2,
+    )
+    by_status Memory x = tt
+    by_status Done x = shown Done x
+    by_status Usage x = shown Usage x
+    by_status (Format v e) x = shown (Format v e) x
+    by_status (Mismatch a b) x = shown (Mismatch a b) x
+    by_status (Settings v n) x = shown (Settings v n) x
+    by_status WriteFault x = shown WriteFault x
+    by_status (Invalid e) x = shown (Invalid e) x
+
+-- a refusal of a series file in a part of a run is one in the whole of it
+pub file_wider : (w : Which) (whole part : Reading) (name : List ℕ) (form : Form) (status : Status)
+    → part.held ≡ whole.held → whole.faults ≤ part.faults → whole.misses ≤ part.misses
+    → part.later ≡ whole.later → part.more ≡ whole.more → part.blamed ≡ whole.blamed
+    → RefusesFile w part name form status → RefusesFile w whole name form status
+file_wider w whole part name form status kept less fewer later more blames =
+    named_wider w whole part name (ShowsFault w part.held name form) (ShowsFault w whole.held name form) status
+    kept less fewer later more blames (λ s x. subst (λ held. ShowsFault w held name form s) kept x)
+
+-- so is a refusal of a certificate
+pub certificate_wider : (whole part : Reading) (IsFaulty : CertFault → List ℕ → Type 0) (name : List ℕ)
+    (status : Status) → part.held ≡ whole.held → whole.faults ≤ part.faults → whole.misses ≤ part.misses
+    → part.later ≡ whole.later → part.more ≡ whole.more → part.blamed ≡ whole.blamed
+    → RefusesCertificate IsFaulty part name status → RefusesCertificate IsFaulty whole name status
+certificate_wider whole part IsFaulty name status kept less fewer later more blames =
+    named_wider Certificate whole part name (ShowsInvalid IsFaulty part.held name)
+    (ShowsInvalid IsFaulty whole.held name) status
+    kept less fewer later more blames (λ s x. subst (λ held. ShowsInvalid IsFaulty held name s) kept x)
+
+-- the first of two facts of what is left
+pub first_part : (left : Option (List ℕ)) (P Q : List ℕ → Type 0)
+    → IfSome left (λ rest. P rest × Q rest) → IfSome left P
+first_part None P Q both = tt
+first_part (Some rest) P Q both = both.0
 
 -- a collection that has a text has a label for each series, where it has labels
 pub labels_fit : (form : Form) (loaded : Loaded) → HasText form loaded.rows loaded.labels → HasLabels loaded

@@ -7,7 +7,7 @@ use Rattle.list_totals.specs.Totals.{total}
 use Rattle.list_totals.proofs.Totals.{total_push, total_map}
 use Rattle.series_core.specs.declared.pair.Pair.{Pair}
 use Rattle.search_run.specs.Trials.{summed}
-use Rattle.search_run.specs.declared.summary.Summary.{Summary}
+use Rattle.search_run.specs.declared.output.summary.Summary.{Summary}
 
 -- one more item adds its part
 pub total_more : {X : Type 0} (f : X → ℕ) (xs : List X) (i : ℕ) (d : X) → i < length xs

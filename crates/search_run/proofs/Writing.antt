@@ -1,17 +1,16 @@
--- Writing a text piece by piece: what was written is the front of the text, and nothing else was done.
+-- Writing piece by piece: what was written are the pieces so far, and nothing else was done.
 use Rattle.std.proofs.Common.{◌≡◌, ℕ, ◌+◌, ◌≤◌, ◌<◌, ⊎_elim, Bool, true, false, subst, List, [], ◌++◌, length, take, Option, Some, None, ap, sym, ◌∙◌, refl, arith, append_assoc, append-nil, length-append}
 use Rattle.std.specs.Io.KnownBytes.{append_known}
-use Rattle.std.proofs.Math.Seq.{take-append_seam, take-append-add}
-use Rattle.std.proofs.lemmas.List.{take-append-le}
+use Rattle.std.proofs.Math.Seq.{take-append-add}
+use Rattle.std.proofs.lemmas.List.{take_all, take-append-le}
 use Rattle.std.proofs.lemmas.Bool.{cases_lt}
 use Rattle.outside.specs.Sink.{AppendsPrefix}
 
--- the front `done` of the text was written, at no fault where so many bytes are sure
+-- this was written since the first state, and no more was taken of what is sure than that
 pub record Going {S : Type 0} (written : S → Option (List ℕ)) (faults sure : S → ℕ)
-    (first now : S) (text done : List ℕ) : Type 0 where
+    (first now : S) (done : List ℕ) : Type 0 where
   pub appended : written now ≡ append_known (written first) done
   pub counts : faults first ≤ faults now
-  pub faultless : length text ≤ sure first → faults now ≡ faults first
   pub spent : sure first ≤ sure now + length done
 
 -- nothing appended changes nothing
@@ -26,33 +25,59 @@ append_known-append None xs ys = refl
 append_known-append (Some bytes) xs ys = ap (λ zs. Some zs) (append_assoc bytes xs ys)
 
 -- at first nothing was written
-pub Going-start : {S : Type 0} (written : S → Option (List ℕ)) (faults sure : S → ℕ) (first : S) (text : List ℕ)
-    → Going written faults sure first first text []
-Going-start written faults sure first text = record {
+pub Going-start : {S : Type 0} (written : S → Option (List ℕ)) (faults sure : S → ℕ) (first : S)
+    → Going written faults sure first first []
+Going-start written faults sure first = record {
   appended = append_known-nil (written first);
   counts = omega arith;
-  faultless = λ _. refl;
   spent = omega arith;
 }
 
--- where the whole text is sure to be taken, so is the next piece
-pub Going-room : {S : Type 0} {written : S → Option (List ℕ)} {faults sure : S → ℕ}
-    {first now : S} {text done : List ℕ} (piece rest : List ℕ)
-    → Going written faults sure first now text done → text ≡ (done ++ piece) ++ rest
-    → length text ≤ sure first → length piece ≤ sure now
-Going-room {done} piece rest before split enough =
-    omega (arith, before.spent, ap length split, length-append (done ++ piece) rest, length-append done piece)
+-- one more piece was written whole
+pub Going-next : {S : Type 0} {written : S → Option (List ℕ)} {faults sure : S → ℕ}
+    {first now next : S} {done : List ℕ} (piece : List ℕ)
+    → Going written faults sure first now done
+    → written next ≡ append_known (written now) piece → faults now ≤ faults next → sure now ≤ sure next + length piece
+    → Going written faults sure first next (done ++ piece)
+Going-next {written} {first = first} {done = done} piece before wrote counted spent = record {
+  appended = wrote ∙ ap (λ known. append_known known piece) before.appended
+      ∙ append_known-append (written first) done piece;
+  counts = omega (arith, before.counts);
+  spent = omega (arith, before.spent, length-append done piece);
+}
 
--- where a piece is not sure to be taken, neither is the whole text
+-- the pieces were written, and so a prefix of them
+pub Going-prefix : {S : Type 0} {written : S → Option (List ℕ)} {faults sure : S → ℕ}
+    {first now : S} {done : List ℕ} → Going written faults sure first now done
+    → AppendsPrefix (written first) done (written now)
+Going-prefix {written} {first = first} {done = done} before = (
+  length done,
+  omega arith,
+  before.appended ∙ ap (append_known (written first)) (sym (take_all (length done) done (omega arith))),
+)
+
+-- where the next piece was written in part, a prefix of all pieces with it was written
+pub Going-stopped : {S : Type 0} {written : S → Option (List ℕ)} {faults sure : S → ℕ}
+    {first now next : S} {done : List ℕ} (piece : List ℕ) → Going written faults sure first now done
+    → AppendsPrefix (written now) piece (written next)
+    → AppendsPrefix (written first) (done ++ piece) (written next)
+Going-stopped {written} {first = first} {done = done} piece before part = (
+  length done + part.0,
+  omega (arith, part.1, length-append done piece),
+  part.2 ∙ ap (λ known. append_known known (take part.0 piece)) before.appended
+      ∙ append_known-append (written first) done (take part.0 piece)
+      ∙ ap (append_known (written first)) (sym (take-append-add done piece part.0)),
+)
+
+-- where the next piece is not sure to be taken, neither are all pieces with it
 pub Going-short : {S : Type 0} {written : S → Option (List ℕ)} {faults sure : S → ℕ}
-    {first now : S} {text done : List ℕ} (piece rest : List ℕ)
-    → Going written faults sure first now text done → text ≡ (done ++ piece) ++ rest
-    → (length piece ≤ sure now → ⊥) → sure first < length text
-Going-short {sure} {first} {text} piece rest before split short =
+    {first now : S} {done : List ℕ} (piece : List ℕ) → Going written faults sure first now done
+    → (length piece ≤ sure now → ⊥) → sure first < length (done ++ piece)
+Going-short {sure = sure} {first = first} {now = now} {done = done} piece before short =
     ⊎_elim
-    (λ (less : sure first < length text). less)
-    (λ (enough : length text ≤ sure first). absurd (short (Going-room piece rest before split enough)))
-    (cases_lt (sure first) (length text))
+    (λ (less : sure now < length piece). omega (arith, before.spent, less, length-append done piece))
+    (λ (enough : length piece ≤ sure now). absurd (short enough))
+    (cases_lt (sure now) (length piece))
 
 -- false is not true
 pub false_is_not_true : false ≡ true → ⊥
@@ -62,50 +87,11 @@ false_is_not_true e = subst IsFalse e tt
     IsFalse false = Unit {0}
     IsFalse true = ⊥
 
--- one more piece was written whole
-pub Going-next : {S : Type 0} {written : S → Option (List ℕ)} {faults sure : S → ℕ}
-    {first now next : S} {text done : List ℕ} (piece rest : List ℕ)
-    → Going written faults sure first now text done → text ≡ (done ++ piece) ++ rest
-    → written next ≡ append_known (written now) piece → faults now ≤ faults next
-    → (length piece ≤ sure now → faults next ≡ faults now) → sure now ≤ sure next + length piece
-    → Going written faults sure first next text (done ++ piece)
-Going-next {written} {first} {done} piece rest before split wrote counted faultless spent = record {
-  appended = wrote ∙ ap (λ known. append_known known piece) before.appended
-      ∙ append_known-append (written first) done piece;
-  counts = omega (arith, before.counts);
-  faultless = λ enough.
-      faultless (Going-room piece rest before split enough)
-      ∙ before.faultless enough;
-  spent = omega (arith, before.spent, length-append done piece);
-}
-
--- what was written is a prefix of the text
-pub Going-prefix : {S : Type 0} {written : S → Option (List ℕ)} {faults sure : S → ℕ}
-    {first now : S} {text done : List ℕ} (rest : List ℕ)
-    → Going written faults sure first now text done → text ≡ done ++ rest
-    → AppendsPrefix (written first) text (written now)
-Going-prefix {written} {first} {text} {done} rest before split = (
-  length done,
-  omega (arith, ap length split, length-append done rest),
-  before.appended ∙ ap (append_known (written first)) (sym (ap (take (length done)) split ∙ take-append_seam done rest)),
+-- a prefix of a text is a prefix of a longer one
+pub prefix_longer : (before now : Option (List ℕ)) (text rest : List ℕ) → AppendsPrefix before text now
+    → AppendsPrefix before (text ++ rest) now
+prefix_longer before now text rest part = (
+  part.0,
+  omega (arith, part.1, length-append text rest),
+  part.2 ∙ ap (append_known before) (sym (take-append-le part.0 text rest part.1)),
 )
-
--- so it is where a piece was written in part
-pub Going-stopped : {S : Type 0} {written : S → Option (List ℕ)} {faults sure : S → ℕ}
-    {first now next : S} {text done : List ℕ} (piece rest : List ℕ)
-    → Going written faults sure first now text done → text ≡ (done ++ piece) ++ rest
-    → AppendsPrefix (written now) piece (written next)
-    → AppendsPrefix (written first) text (written next)
-Going-stopped {written} {first} {next = next} {text} {done} piece rest before split part = (
-  length done + part.0,
-  omega (arith, part.1, ap length split, length-append (done ++ piece) rest, length-append done piece),
-  part.2 ∙ ap (λ known. append_known known (take part.0 piece)) before.appended
-      ∙ append_known-append (written first) done (take part.0 piece)
-      ∙ ap (append_known (written first)) (sym front),
-)
-  where
-    front : take (length done + part.0) text ≡ done ++ take part.0 piece
-    front =
-        ap (take (length done + part.0)) (split ∙ append_assoc done piece rest)
-        ∙ take-append-add done (piece ++ rest) part.0
-        ∙ ap (λ zs. done ++ zs) (take-append-le part.0 piece rest part.1)

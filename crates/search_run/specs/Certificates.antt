@@ -1,6 +1,5 @@
 -- A certificate against two series files: when it holds, and why it is refused.
-use Rattle.std.specs.Prelude.{◌≡◌, ◌≢◌, ℕ, ◌<◌, ◌≤◌, ⊤, List, length, Option, None, Some, IfSome, is_some}
-use Rattle.outside.specs.Count.{Rose}
+use Rattle.std.specs.Prelude.{◌≡◌, ◌≢◌, ℕ, ◌<◌, ◌≤◌, ⊤, List, length, Option, None, Some, is_some}
 use Rattle.outside.specs.Files.{Held}
 use Rattle.isax_word.specs.declared.layout.Layout.{Layout}
 use Rattle.certificate.specs.Grammar.{Spells, IsFaultAt}
@@ -11,11 +10,12 @@ use Rattle.certificate.specs.declared.error.Reject.TheVariants as reject
 use Rattle.command_words.specs.declared.options.Options.{Options}
 use Rattle.series_file.specs.declared.error.Loaded.{Loaded}
 use Rattle.search_run.specs.Layouts.{layout_of}
+use Rattle.search_run.specs.Loads.{HoldsBytes, RefusesNamed}
 use Rattle.search_run.specs.Traffic.{Reading}
 use Rattle.search_run.specs.declared.status.CertFault.{CertFault}
 use Rattle.search_run.specs.declared.status.CertFault.TheVariants.{Line, TooLong, Rejected}
 use Rattle.search_run.specs.declared.status.Status.{Status}
-use Rattle.search_run.specs.declared.status.Status.TheVariants.{Missing, ReadFault, Memory, Invalid}
+use Rattle.search_run.specs.declared.status.Status.TheVariants.{Memory, Invalid}
 use Rattle.search_run.specs.declared.status.Which.TheVariants.{Certificate}
 
 -- the most bytes that a certificate may have
@@ -68,22 +68,23 @@ abbrev pub IsLong : CertFault → List ℕ → Type 0
 IsLong TooLong bytes = most_bytes < length bytes
 IsLong _ bytes = ⊥
 
--- where told, the name is held, and this is so of its bytes
-abbrev pub HoldsBytes : Option Held → List ℕ → (List ℕ → Type 0) → Type 0
-HoldsBytes held name IsSo = IfSome held (λ h. (bytes : List ℕ) × (h name ≡ Some bytes) × IsSo bytes)
-
 -- why bytes are refused that may have such faults: each status with what shows it
 abbrev pub RefusesBytes : (CertFault → List ℕ → Type 0) → List ℕ → Status → Type 0
 RefusesBytes IsFaulty bytes (Invalid fault) = IsFaulty fault bytes
 RefusesBytes IsFaulty bytes Memory = ⊤
 RefusesBytes IsFaulty bytes _ = ⊥
 
+-- a certificate can have this fault: want of memory is no test that it fails
+abbrev pub CanBeFault : CertFault → Type 0
+CanBeFault (Rejected why) = why ≢ reject.NoMemory
+CanBeFault _ = ⊤
+
+-- the certificate of this name has such a fault, and the status has it
+abbrev pub ShowsInvalid : (CertFault → List ℕ → Type 0) → Option Held → List ℕ → Status → Type 0
+ShowsInvalid IsFaulty held name (Invalid fault) = CanBeFault fault × HoldsBytes held name (IsFaulty fault)
+ShowsInvalid IsFaulty held name _ = ⊥
+
 -- why the certificate of this name is refused, whose bytes may have such faults: each status with what shows it
-abbrev pub RefusesCertificate : Reading → (CertFault → List ℕ → Type 0) → List ℕ → Status → Type 0
-RefusesCertificate reading IsFaulty name (Missing w) =
-    (w ≡ Certificate) × Rose reading.misses reading.more × IfSome reading.held (λ h. h name ≡ None)
-RefusesCertificate reading IsFaulty name (ReadFault w) =
-    (w ≡ Certificate) × Rose reading.faults reading.later × IfSome reading.blamed (λ b. b ≡ name)
-RefusesCertificate reading IsFaulty name (Invalid fault) = HoldsBytes reading.held name (IsFaulty fault)
-RefusesCertificate reading IsFaulty name Memory = ⊤
-RefusesCertificate reading IsFaulty name _ = ⊥
+abbrev pub RefusesCertificate : (CertFault → List ℕ → Type 0) → Reading → List ℕ → Status → Type 0
+RefusesCertificate IsFaulty reading name =
+    RefusesNamed Certificate (ShowsInvalid IsFaulty reading.held name) reading name

@@ -1,41 +1,58 @@
 -- How a run ends: for each status what shows it, and what was written.
-use Rattle.std.specs.Prelude.{◌≡◌, ℕ, ◌<◌, ◌⊎◌, List, length, Option}
+use Rattle.std.specs.Prelude.{◌≡◌, ℕ, ◌<◌, ◌⊎◌, List, length, Option, Result, Ok, Err}
 use Rattle.std.specs.Io.KnownBytes.{append_known}
 use Rattle.outside.specs.Count.{Rose}
 use Rattle.outside.specs.Files.{Held}
 use Rattle.outside.specs.Sink.{AppendsPrefix}
 use Rattle.command_words.specs.Settings.{HasSettings}
 use Rattle.command_words.specs.declared.command.Command.{Command}
-use Rattle.command_words.specs.declared.command.Command.TheVariants.{Verify}
+use Rattle.search_run.specs.Certificates.{CanBeFault}
+use Rattle.search_run.specs.Commands.{IsServed, CanAnswer, plan_of}
+use Rattle.search_run.specs.Loads.{IsShown}
+use Rattle.search_run.specs.Plans.{HasFault, Refuses, Writes}
 use Rattle.search_run.specs.Traffic.{Reading, Writing}
-use Rattle.search_run.specs.Commands.{IsServed, IsText, Refuses, CanAnswer}
 use Rattle.search_run.specs.declared.status.CertFault.{CertFault}
 use Rattle.search_run.specs.declared.status.Status.{Status}
-use Rattle.search_run.specs.declared.status.Status.TheVariants.{Done, Usage, ReadFault, WriteFault, Memory, Invalid}
+use Rattle.search_run.specs.declared.status.Status.TheVariants.{Done, Usage, ReadFault, Format, WriteFault, Memory, Invalid}
 
 -- Nothing was written.
 abbrev pub WroteNothing : Writing → Type 0
 WroteNothing writing = writing.now ≡ writing.before
 
--- What shows each status of work with such a text that such causes refuse, and what was written: all of a text, a
--- prefix of one where writing failed, a prefix or nothing where memory ran out, and else nothing, for a cause.
-abbrev pub Concludes : (List ℕ → Type 0) → (Status → Type 0) → Writing → Status → Type 0
-Concludes IsIt Refused writing Done =
-    (text : List ℕ) × IsIt text × (writing.now ≡ append_known writing.before text)
-Concludes IsIt Refused writing WriteFault = (text : List ℕ) × IsIt text
+-- What shows each status of work that such causes refuse, and what was written: all of a right text, a prefix of a
+-- beginning where writing failed, a prefix of one or nothing where memory ran out, and else nothing, for a cause.
+abbrev pub ConcludesBy : (List ℕ → Type 0) → (List ℕ → Type 0) → (Status → Type 0) → Writing → Status → Type 0
+ConcludesBy IsRight IsBeginning Refused writing Done =
+    (text : List ℕ) × IsRight text × (writing.now ≡ append_known writing.before text)
+ConcludesBy IsRight IsBeginning Refused writing WriteFault = (text : List ℕ) × IsBeginning text
     × AppendsPrefix writing.before text writing.now × Rose writing.faults writing.later × (writing.sure < length text)
-Concludes IsIt Refused writing Memory = WroteNothing writing
-    ⊎ ((text : List ℕ) × IsIt text × AppendsPrefix writing.before text writing.now)
-Concludes IsIt Refused writing status = Refused status × WroteNothing writing
+ConcludesBy IsRight IsBeginning Refused writing Memory = WroteNothing writing
+    ⊎ ((text : List ℕ) × IsBeginning text × AppendsPrefix writing.before text writing.now)
+ConcludesBy IsRight IsBeginning Refused writing status = Refused status × WroteNothing writing
+
+-- the same where what was written is in each case a beginning of a whole text that is right
+abbrev pub Concludes : (List ℕ → Type 0) → (Status → Type 0) → Writing → Status → Type 0
+Concludes IsRight Refused writing status = ConcludesBy IsRight IsRight Refused writing status
+
+-- the status of work that ended so: without an error all of its text was written
+abbrev pub ended : Result (Unit {0}) Status → Status
+ended (Ok _) = Done
+ended (Err status) = status
 
 -- what shows each status of a command, and what was written
 abbrev pub Answers : Reading → Writing → Command → Status → Type 0
 Answers reading writing command status =
-    Concludes (IsText reading.held command) (Refuses reading command) writing status
+    Concludes (Writes reading.held (plan_of command)) (Refuses reading (plan_of command)) writing status
 
 -- the words have this command, and it is one that is answered
 abbrev pub Asks : List (List ℕ) → Command → Type 0
 Asks words command = HasSettings words command × IsServed command
+
+-- the words have no command that is answered, or memory ran out before they were read
+abbrev pub NoCommand : List (List ℕ) → Status → Type 0
+NoCommand words Usage = (command : Command) → Asks words command → ⊥
+NoCommand words Memory = Unit {0}
+NoCommand words _ = ⊥
 
 -- what shows each status of a run, and what was written
 abbrev pub Ends : List (List ℕ) → Reading → Writing → Status → Type 0
@@ -57,15 +74,14 @@ IsAnswered faults later lost more (ReadFault which) = Rose faults later
 IsAnswered faults later lost more WriteFault = Rose lost more
 IsAnswered faults later lost more _ = ⊥
 
--- the same where a certificate was checked, or it was found not to hold
-abbrev pub IsChecked : ℕ → ℕ → ℕ → ℕ → Status → Type 0
-IsChecked faults later lost more (Invalid fault) = Unit {0}
-IsChecked faults later lost more status = IsAnswered faults later lost more status
+-- the same, or the certificate that the command checks has the fault that is told
+abbrev pub Finishes : Option Held → Command → ℕ → ℕ → ℕ → ℕ → Status → Type 0
+Finishes held command faults later lost more (Invalid fault) = HasFault held (plan_of command) fault
+Finishes held command faults later lost more status = IsAnswered faults later lost more status
 
--- how a command ends that nothing keeps from its work: only one that checks a certificate may find that it does not hold
-abbrev pub Finishes : Command → ℕ → ℕ → ℕ → ℕ → Status → Type 0
-Finishes (Verify series queries certificate o) faults later lost more status = IsChecked faults later lost more status
-Finishes command faults later lost more status = IsAnswered faults later lost more status
+-- the command checks a certificate that has no fault, or checks none
+abbrev pub IsFaultless : Option Held → Command → Type 0
+IsFaultless held command = (fault : CertFault) → HasFault held (plan_of command) fault → ⊥
 
 -- this fault of a certificate is told, or memory ran out, or reading failed and was counted
 abbrev pub TellsFault : ℕ → ℕ → CertFault → Status → Type 0
@@ -73,3 +89,9 @@ TellsFault faults later fault (Invalid told) = told ≡ fault
 TellsFault faults later fault Memory = Unit {0}
 TellsFault faults later fault (ReadFault which) = Rose faults later
 TellsFault faults later fault _ = ⊥
+
+-- A status tells a cause that shows in the bytes of a file: neither a failed read nor want of memory is told as one.
+abbrev pub TellsCause : Status → Type 0
+TellsCause (Format w e) = IsShown e
+TellsCause (Invalid fault) = CanBeFault fault
+TellsCause _ = Unit {0}

@@ -1,31 +1,50 @@
--- What is found for a query by a search of the tree.
-use Rattle.std.specs.Prelude.{◌≡◌, ℕ, ◌<◌, ◌≤◌, ℤ, List}
-use Rattle.series_core.specs.Answer.{answer, within}
+-- The tree that a search goes over, and what the texts of a search are while its calls make them.
+use Rattle.std.specs.Prelude.{◌≡◌, ℕ, ℤ, List, take}
+use Rattle.command_words.specs.declared.options.Options.{Options}
 use Rattle.series_core.specs.Collection.{Collection}
-use Rattle.series_core.specs.declared.best.TheConstants.{MAX_BEST}
-use Rattle.series_core.specs.declared.pair.Pair.{Pair}
-use Rattle.subtree_build.specs.Fits.{Fits}
-use Rattle.search_run.specs.declared.finder.Finder.{Finder}
-use Rattle.search_run.specs.declared.finder.Finder.TheVariants.{Nearest, Near}
+use Rattle.series_file.specs.declared.error.Loaded.{Loaded}
+use Rattle.subtree_build.specs.Fits.{Fits, IsTreeOf}
+use Rattle.search_run.specs.Commands.{plan_over}
+use Rattle.search_run.specs.Ends.{ConcludesBy}
+use Rattle.search_run.specs.Pairs.{files_plan}
+use Rattle.search_run.specs.Plans.{Plan, Refuses, Write, Writes}
+use Rattle.search_run.specs.Texts.{Call, IsMade, IsTextOf}
+use Rattle.search_run.specs.Traffic.{Reading, Writing}
+use Rattle.search_run.specs.declared.status.Status.{Status}
 use Rattle.search_run.specs.declared.tree.Tree.{Tree}
+use Rattle.search_run.specs.declared.commands.search.Ground.{Ground}
 
--- the pairs that are found for a query
-abbrev pub found_by : Finder → List ℤ → List Pair
-found_by (Nearest rows tree k queues) q = answer rows.now q k
-found_by (Near rows tree radius workers) q = within rows.now q radius
-
--- the length of the series that are searched
-abbrev pub points_of : Finder → ℕ
-points_of (Nearest rows tree k queues) = rows.now.points
-points_of (Near rows tree radius workers) = rows.now.points
-
--- a tree of series: its index fits them under its layout, which is for series of their length
+-- a tree that a search of the series may go over: its index fits them under its layout, which is for their length
 pub record IsTreeFor (c : Collection) (tree : Tree) : Type 0 where
-  pub fits : Fits c tree.layout tree.index
-  pub length : c.points ≡ tree.layout.cuts.row_length
+  pub fits : Fits c tree.settings.layout tree.index
+  pub length : c.points ≡ tree.settings.layout.cuts.row_length
 
--- numbers are within their limits, and the tree is that of the series
-abbrev pub IsReady : Finder → Type 0
-IsReady (Nearest rows tree k queues) = IsTreeFor rows.now tree.now
-    × (0 < k) × (k ≤ MAX_BEST) × (1 ≤ queues) × (queues ≤ 64)
-IsReady (Near rows tree radius workers) = IsTreeFor rows.now tree.now × (1 ≤ workers) × (workers ≤ 64)
+-- a tree that was built: it is the one that its settings divide the series into
+abbrev pub IsBuiltOf : Collection → Tree → Type 0
+IsBuiltOf c tree = IsTreeOf c tree.settings.layout tree.settings.leaf_size tree.index
+
+-- a tree that goes with the series
+abbrev pub IsGround : Ground → Type 0
+IsGround ground = IsTreeFor ground.series.rows ground.tree
+
+-- the pieces of a text that such calls made, over these series, for these queries
+abbrev pub IsMadeOver : Call Ground → Loaded → List (List ℤ) → List ℕ → Type 0
+IsMadeOver Gives series queries text =
+    (ground : Ground) × (ground.series ≡ series) × IsTextOf (IsMade Gives ground) queries text
+
+-- a search whose text is made so
+abbrev pub made_plan : Call Ground → List ℕ → List ℕ → Options → Plan
+made_plan Gives series queries o =
+    plan_over series queries o (λ x y. Write (IsMadeOver Gives x y.rows.series))
+
+-- a search that made the pieces of the first queries, however many
+abbrev pub begun_plan : Call Ground → List ℕ → List ℕ → Options → Plan
+begun_plan Gives series queries o = plan_over series queries o
+    (λ x y. Write (λ text. (n : ℕ) × IsMadeOver Gives x (take n y.rows.series) text))
+
+-- how a search over these files ends whose pieces such calls make, and what was written
+pub record EndsMaking (Gives : Call Ground) (reading : Reading) (writing : Writing) (series queries : List ℕ)
+    (o : Options) (status : Status) : Type 0 where
+  pub ends : ConcludesBy (Writes reading.held (made_plan Gives series queries o))
+      (Writes reading.held (begun_plan Gives series queries o)) (Refuses reading (files_plan series queries o))
+      writing status

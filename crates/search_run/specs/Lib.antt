@@ -5,12 +5,12 @@ pub mod Texts
 pub mod Trials
 pub mod Traffic
 pub mod Loads
-pub mod Sources
 pub mod Layouts
 pub mod Certificates
-pub mod Verifying
+pub mod Plans
 pub mod Finding
 pub mod Commands
+pub mod Pairs
 pub mod Ends
 pub mod Stops
 pub use Rattle.series_core.specs.Collection

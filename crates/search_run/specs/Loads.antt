@@ -1,42 +1,70 @@
--- A named series file: what is known where it was loaded, and why it was not.
-use Rattle.std.specs.Prelude.{◌≡◌, ℕ, ⊤, List, length, Option, None, Some, IfSome}
+-- A named file: what is known where it was read, and why it was refused; and a named series file.
+use Rattle.std.specs.Prelude.{◌≡◌, ℕ, ⊤, List, Option, None, Some, IfSome}
 use Rattle.outside.specs.Count.{Rose}
 use Rattle.outside.specs.Files.{Held}
-use Rattle.series_file.specs.Format.{IsFile}
+use Rattle.series_file.specs.Format.{HasText, IsFile}
 use Rattle.series_file.specs.Faults.{fault}
 use Rattle.series_file.specs.declared.error.Form.{Form}
+use Rattle.series_file.specs.declared.error.Form.TheVariants.{Headed, Raw}
 use Rattle.series_file.specs.declared.error.FileError.{FileError}
 use Rattle.series_file.specs.declared.error.Loaded.{Loaded}
 use Rattle.series_file.specs.declared.error.FileError.TheVariants.{ReadFault as FileReadFault, NoMemory}
+use Rattle.search_run.specs.Traffic.{Reading}
 use Rattle.search_run.specs.declared.status.Which.{Which}
 use Rattle.search_run.specs.declared.status.Status.{Status}
 use Rattle.search_run.specs.declared.status.Status.TheVariants.{Missing, ReadFault, Format, Memory}
 
--- where told, the name is held, and its bytes are a series file of this form with this content
-abbrev pub HoldsFile : Option Held → List ℕ → Form → Loaded → Type 0
-HoldsFile held name form loaded =
-    IfSome held (λ h. (bytes : List ℕ) × (h name ≡ Some bytes) × IsFile form bytes loaded.rows loaded.labels)
+-- the name is held, and this is so of its bytes
+abbrev pub IsHeldAs : Held → List ℕ → (List ℕ → Type 0) → Type 0
+IsHeldAs h name IsSo = (bytes : List ℕ) × (h name ≡ Some bytes) × IsSo bytes
 
--- where there are labels, each series has one
-abbrev pub HasLabels : Loaded → Type 0
-HasLabels loaded = IfSome loaded.labels (λ labels. length labels ≡ length loaded.rows.series)
+-- where told, the name is held, and this is so of its bytes
+abbrev pub HoldsBytes : Option Held → List ℕ → (List ℕ → Type 0) → Type 0
+HoldsBytes held name IsSo = IfSome held (λ h. IsHeldAs h name IsSo)
 
--- where told, the name is held, and this is the first test that its bytes fail
-abbrev pub HoldsFault : Option Held → List ℕ → Form → FileError → Type 0
-HoldsFault held name form e = IfSome held (λ h. (bytes : List ℕ) × (h name ≡ Some bytes) × (fault form bytes ≡ Some e))
+-- why the file of this name is refused that has this role: no file has the name, or opening or reading it failed,
+-- or memory ran out, or its bytes show such a cause
+abbrev pub RefusesNamed : Which → (Status → Type 0) → Reading → List ℕ → Status → Type 0
+RefusesNamed w Shows reading name (Missing v) =
+    (v ≡ w) × Rose reading.misses reading.more × IfSome reading.held (λ h. h name ≡ None)
+RefusesNamed w Shows reading name (ReadFault v) =
+    (v ≡ w) × Rose reading.faults reading.later × IfSome reading.blamed (λ b. b ≡ name)
+RefusesNamed w Shows reading name Memory = ⊤
+RefusesNamed w Shows reading name status = Shows status
 
--- the status for an error of a file
+-- series files are raw where a length is given, and have a header where none is
+abbrev pub form_of : Option ℕ → Form
+form_of None = Headed
+form_of (Some n) = Raw n
+
+-- the bytes are a series file of this form with this content
+abbrev pub Spells : Form → Loaded → List ℕ → Type 0
+Spells form loaded bytes = IsFile form bytes loaded.rows loaded.labels
+
+-- What was loaded of a name: series of one length within the limits, of values of 16 bits, with a label for each
+-- where there are any, as this form spells them; and where the files are told, the name is held with that content.
+pub record HoldsFile (held : Option Held) (name : List ℕ) (form : Form) (loaded : Loaded) : Type 0 where
+  pub formed : HasText form loaded.rows loaded.labels
+  pub told : HoldsBytes held name (Spells form loaded)
+
+-- bytes can show this error: no failed read, and no want of memory
+abbrev pub IsShown : FileError → Type 0
+IsShown FileReadFault = ⊥
+IsShown NoMemory = ⊥
+IsShown e = ⊤
+
+-- the file of this role and name is no series file of this form, and the status has the first test that fails
+abbrev pub ShowsFault : Which → Option Held → List ℕ → Form → Status → Type 0
+ShowsFault w held name form (Format v e) =
+    (v ≡ w) × IsShown e × HoldsBytes held name (λ bytes. fault form bytes ≡ Some e)
+ShowsFault w held name form _ = ⊥
+
+-- why the series file of this role and name was not loaded: each status with what shows it
+abbrev pub RefusesFile : Which → Reading → List ℕ → Form → Status → Type 0
+RefusesFile w reading name form = RefusesNamed w (ShowsFault w reading.held name form) reading name
+
+-- the status for an error of a series file
 abbrev pub refusal_of : Which → FileError → Status
 refusal_of w FileReadFault = ReadFault w
 refusal_of w NoMemory = Memory
 refusal_of w e = Format w e
-
--- why the file was not loaded: each status with what shows it
-abbrev pub RefusesFile : Which → Option Held → List ℕ → Form → ℕ → ℕ → ℕ → ℕ → Option (List ℕ) → Status → Type 0
-RefusesFile w held name form faults later misses more blamed (Missing v) =
-    (v ≡ w) × Rose misses more × IfSome held (λ h. h name ≡ None)
-RefusesFile w held name form faults later misses more blamed (ReadFault v) =
-    (v ≡ w) × Rose faults later × IfSome blamed (λ b. b ≡ name)
-RefusesFile w held name form faults later misses more blamed (Format v e) = (v ≡ w) × HoldsFault held name form e
-RefusesFile w held name form faults later misses more blamed Memory = ⊤
-RefusesFile w held name form faults later misses more blamed _ = ⊥

@@ -1,13 +1,16 @@
--- What a search wrote that stopped before the end of its text.
-use Rattle.std.specs.Prelude.{ℕ, ◌<◌, List, length, Option}
+-- What was written of a text in pieces whose writing stopped before its end.
+use Rattle.std.specs.Prelude.{ℕ, ◌<◌, ℤ, List, length, take}
 use Rattle.outside.specs.Count.{Rose}
 use Rattle.outside.specs.Sink.{AppendsPrefix}
-use Rattle.search_run.specs.declared.stop.Stop.{Stop}
-use Rattle.search_run.specs.declared.stop.Stop.TheVariants.{WriteFault, NoMemory}
+use Rattle.search_run.specs.Texts.{IsTextOf}
+use Rattle.search_run.specs.Traffic.{Writing}
+use Rattle.search_run.specs.declared.output.stop.Stop.{Stop}
+use Rattle.search_run.specs.declared.output.stop.Stop.TheVariants.{WriteFault, NoMemory}
 
--- A prefix of the text was written. Where the sink failed, its count of faults rose, and the text is longer
--- than what the sink was sure to take.
-abbrev pub Stops : List ℕ → Option (List ℕ) → Option (List ℕ) → ℕ → ℕ → ℕ → Stop → Type 0
-Stops text before now faults later sure WriteFault =
-    AppendsPrefix before text now × Rose faults later × (sure < length text)
-Stops text before now faults later sure NoMemory = AppendsPrefix before text now
+-- A prefix of the pieces of the first n queries was written, whatever the pieces of the others may be. Where the sink
+-- failed, its count of faults rose, and those pieces are longer than what it was sure to take.
+abbrev pub Stops : (ℕ → List ℤ → List ℕ → Type 0) → List (List ℤ) → Writing → Stop → Type 0
+Stops IsPiece queries writing WriteFault = (n : ℕ) × (text : List ℕ) × IsTextOf IsPiece (take n queries) text
+    × AppendsPrefix writing.before text writing.now × Rose writing.faults writing.later × (writing.sure < length text)
+Stops IsPiece queries writing NoMemory = (n : ℕ) × (text : List ℕ) × IsTextOf IsPiece (take n queries) text
+    × AppendsPrefix writing.before text writing.now

@@ -1,6 +1,8 @@
--- The text of a run: for each query in order its line and the lines of its answers.
-use Rattle.std.specs.Prelude.{ℕ, ◌+◌, ℤ, List, [], ◌∷◌, ◌++◌, Option, None, Some, codes, decimal, slice_index}
-use Rattle.series_core.specs.Collection.{Collection}
+-- The text of a run: a piece for each query in order, which has its line and the lines of its answers.
+use Rattle.std.specs.Prelude.{◌≡◌, ℕ, ◌+◌, ℤ, List, [], ◌∷◌, ◌++◌, Option, None, Some, Result, Ok, codes, decimal, slice_index}
+use Rattle.std.specs.Borrow.{Bor}
+use Rattle.std.specs.Global.{Vec}
+use Rattle.outside.specs.declared.faults.NoMemory.{NoMemory}
 use Rattle.series_core.specs.declared.pair.Pair.{Pair}
 
 -- the line of query i
@@ -26,11 +28,26 @@ answer_lines labels r (p ∷ ps) = answer_line labels r p ++ answer_lines labels
 abbrev pub query_text : Option (List ℕ) → ℕ → List Pair → List ℕ
 query_text labels i pairs = query_line i ++ answer_lines labels 1 pairs
 
--- the text of these queries, the first of them with number i, each with the answers that are found for it
-abbrev pub texts_from : Option (List ℕ) → (List ℤ → List Pair) → ℕ → List (List ℤ) → List ℕ
-texts_from labels found i [] = []
-texts_from labels found i (q ∷ qs) = query_text labels i (found q) ++ texts_from labels found (i + 1) qs
+-- The text of these queries is one piece for each, in order. A piece stands in this relation to the number and the
+-- values of its query; the first query has number i.
+abbrev pub IsTextFrom : (ℕ → List ℤ → List ℕ → Type 0) → ℕ → List (List ℤ) → List ℕ → Type 0
+IsTextFrom IsPiece i [] text = text ≡ []
+IsTextFrom IsPiece i (q ∷ qs) text = (piece : List ℕ) × (rest : List ℕ) × IsPiece i q piece
+    × IsTextFrom IsPiece (i + 1) qs rest × (text ≡ piece ++ rest)
 
--- the whole text of a search
-abbrev pub search_text : Option (List ℕ) → (List ℤ → List Pair) → Collection → List ℕ
-search_text labels found queries = texts_from labels found 0 queries.series
+-- the same of queries that are numbered from 0
+abbrev pub IsTextOf : (ℕ → List ℤ → List ℕ → Type 0) → List (List ℤ) → List ℕ → Type 0
+IsTextOf IsPiece queries text = IsTextFrom IsPiece 0 queries text
+
+-- the piece of query i has the answers that are found for it
+abbrev pub IsAnswerPiece : Option (List ℕ) → (List ℤ → List Pair) → ℕ → List ℤ → List ℕ → Type 0
+IsAnswerPiece labels found i query piece = piece ≡ query_text labels i (found query)
+
+-- what a call gives for a query, in a context, by the number and the values of the query
+abbrev pub Call : Type 0 → Type 1
+Call C = Bor C → ℕ → Bor (List ℤ) → Result (Vec ℕ) NoMemory → Type 0
+
+-- this is a piece that such a call gave for query i
+abbrev pub IsMade : {C : Type 0} → Call C → C → ℕ → List ℤ → List ℕ → Type 0
+IsMade {C} Gives context i query piece = (at : Bor C) × (q : Bor (List ℤ)) × (made : Vec ℕ)
+    × Gives at i q (Ok made) × (at.now ≡ context) × (q.now ≡ query) × (made.items ≡ piece)

@@ -1,13 +1,13 @@
 -- A trial: a search over random walks that are all made from one number, and the four lines that sum it up.
-use Rattle.std.specs.Prelude.{◌≡◌, ℕ, ◌*◌, ◌≤◌, ℤ, List, [], ◌∷◌, ◌++◌, codes, decimal, length, map}
+use Rattle.std.specs.Prelude.{◌≡◌, ℕ, ◌*◌, ◌≤◌, ℤ, List, [], ◌∷◌, ◌++◌, codes, decimal, length, map, Result, IfOk}
+use Rattle.std.specs.Borrow.{Bor}
+use Rattle.outside.specs.declared.faults.NoMemory.{NoMemory}
 use Rattle.list_totals.specs.Totals.{total}
 use Rattle.series_core.specs.Answer.{answer}
 use Rattle.series_core.specs.Collection.{Collection}
 use Rattle.series_core.specs.declared.pair.Pair.{Pair}
-use Rattle.command_words.specs.declared.options.Options.{Options}
-use Rattle.search_run.specs.Sources.{HasSegments}
 use Rattle.random_walks.specs.Walks.{state_at, walks_from}
-use Rattle.search_run.specs.declared.summary.Summary.{Summary}
+use Rattle.search_run.specs.declared.output.summary.Summary.{Summary}
 
 -- the series of a trial: so many walks of n values, drawn from the generator that stands at the seed
 abbrev pub trial_series : ℕ → ℕ → ℕ → Collection
@@ -37,6 +37,11 @@ summed answers = record {
 abbrev pub counted : List ℕ → ℕ → List ℕ
 counted text n = text ++ decimal n
 
+-- what is found for a query is what a call that ends well gives
+abbrev pub FindsBy : (Bor (List ℤ) → Result (List Pair) NoMemory → Type 0) → (List ℤ → List Pair) → Type 0
+FindsBy Gives found =
+    (q : Bor (List ℤ)) (r : Result (List Pair) NoMemory) → Gives q r → IfOk r (λ pairs. pairs ≡ found q.now)
+
 -- the four lines
 abbrev pub summary_lines : ℕ → ℕ → ℕ → ℕ → Summary → List ℕ
 summary_lines count n queries k s =
@@ -50,11 +55,6 @@ abbrev pub trial_text : ℕ → ℕ → ℕ → ℕ → ℕ → List ℕ
 trial_text seed count n queries k =
     summary_lines count n queries k
     (summed (answers_of (trial_series seed count n) k (trial_queries seed count n queries).series))
-
--- the walks have as many segments as were asked for, if any were, and this is the text of the trial
-abbrev pub IsTrialText : ℕ → ℕ → ℕ → ℕ → Options → List ℕ → Type 0
-IsTrialText seed count n queries o text =
-    HasSegments o.segments n × (text ≡ trial_text seed count n queries o.k)
 
 -- the numbers of a trial are within their limits
 pub record KeepsTrialLimits (count n queries : ℕ) : Type 0 where

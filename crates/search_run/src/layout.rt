@@ -2,7 +2,7 @@
 
 ghost use Rattle.std.specs.Prelude.{◌≡◌, ◌≤◌, IfSome};
 ghost use Rattle.command_words.specs.Limits.{IsWithin};
-ghost use Rattle.search_run.specs.Sources.{HasSegments};
+ghost use Rattle.search_run.specs.Plans.{HasSegments};
 ghost use Rattle.search_run.specs.Layouts.{layout_of};
 
 use breakpoints::Table;

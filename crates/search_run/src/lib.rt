@@ -2,28 +2,20 @@
 //! One module a stage; each stage has one contract, and `run` puts them in order.
 #![tactic(auto)]
 
-mod answering;
+mod commands;
 mod crew;
-mod finder;
+mod finding;
+mod input;
 mod layout;
-mod line;
-mod load;
-mod nearest;
-mod range;
+mod output;
 mod serving;
-mod sources;
 mod stages;
 mod status;
-mod stop;
-mod summary;
-mod tell;
-mod text;
 mod tree;
-mod trial;
-mod verify;
 
+pub use command_words::{Command, Options, Text, WordsError, parse_words};
 pub use random_walks::walks;
-pub use stages::run;
+pub use stages::{run, run_free};
 pub use status::{CertFault, Status, Which};
 
 #[cfg(test)]

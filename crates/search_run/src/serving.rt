@@ -1,9 +1,9 @@
 //! Which commands are answered. One that is not is refused as words that are no command.
 
 ghost use Rattle.std.specs.Prelude.{◌≡◌, true, false};
-ghost use Rattle.search_run.specs.Commands.{IsServed, IsPlain};
+ghost use Rattle.search_run.specs.Commands.{IsServed};
 
-use command_words::{Command, Options};
+use command_words::Command;
 
 /// Whether the command is one that is answered, with its options.
 pub fn is_served(command: &Command) -> bool
@@ -11,17 +11,8 @@ pub fn is_served(command: &Command) -> bool
     ensures no { result ≡ false → IsServed command.now → ⊥ }
 {
     match command {
-        Command::Nearest { options, .. } => is_plain(options),
-        Command::Range { .. } | Command::Verify { .. } => true,
-        Command::Trial { options, .. } => !options.sealed,
+        Command::Nearest { options, .. } => !options.certificate && options.index.is_none(),
+        Command::Range { .. } | Command::Verify { .. } | Command::Trial { .. } => true,
         _ => false,
     }
-}
-
-// Whether each option that `nearest` does not serve is as if it were absent.
-fn is_plain(options: &Options) -> bool
-    ensures yes { result ≡ true → IsPlain options.now }
-    ensures no { result ≡ false → IsPlain options.now → ⊥ }
-{
-    !options.certificate && !options.sealed && options.index.is_none()
 }

@@ -1,26 +1,31 @@
 //! The whole run: words, files, lengths, the search with its text, and at last the line that tells how it ended.
 //! Each stage is one function with one contract; the first that fails decides the status.
 
-ghost use Rattle.std.specs.Prelude.{◌≡◌, ◌≢◌, ◌≤◌, IfOk, IfErr, map, string_bytes};
+ghost use Rattle.std.specs.Prelude.{◌≡◌, ◌≢◌, IfOk, IfErr, map, string_bytes};
+ghost use Rattle.command_words.specs.Absence.{HoldsAbsence, IndexStandsAlone};
 ghost use Rattle.command_words.specs.Limits.{KeepsLimits};
+ghost use Rattle.command_words.specs.Settings.{name_of, options_of};
 ghost use Rattle.command_words.specs.declared.command.Command.{Command};
 ghost use Rattle.search_run.specs.Traffic.{read_from, wrote_to};
-ghost use Rattle.search_run.specs.Commands.{IsServed, CanAnswer, HasFault};
-ghost use Rattle.search_run.specs.Ends.{Ends, Answers, CanSearch, Finishes, TellsFault};
+ghost use Rattle.search_run.specs.Commands.{CanAnswer, IsServed, SearchesWithoutLocks, plan_of};
+ghost use Rattle.search_run.specs.Ends.{Answers, Asks, CanSearch, Ends, Finishes, IsAnswered, IsFaultless};
+ghost use Rattle.search_run.specs.Ends.{NoCommand, TellsCause, TellsFault, ended};
+ghost use Rattle.search_run.specs.Plans.{HasFault};
 ghost use Rattle.search_run.specs.Status.{fault_line};
 ghost use Rattle.search_run.specs.Told.{Tells};
 ghost use Rattle.search_run.specs.declared.status.CertFault.{CertFault};
 ghost use Rattle.search_run.specs.declared.status.Status.{Status};
 ghost use Rattle.search_run.specs.declared.status.Which.{Which};
 
+use crate::commands::nearest::answer_nearest;
+use crate::commands::range::answer_range;
+use crate::commands::trial::{Trial, answer_trial};
+use crate::commands::verify::answer_verify;
 use crate::crew::Crew;
-use crate::nearest::answer_nearest;
-use crate::range::answer_range;
+use crate::input::pair::Search;
+use crate::output::tell::tell;
 use crate::serving::is_served;
 use crate::status::{Status, Which};
-use crate::tell::tell;
-use crate::trial::answer_trial;
-use crate::verify::answer_verify;
 use command_words::{Command, WordsError, parse_words};
 use outside::{Files, Gate, Sink};
 use std::alloc::Global;
@@ -42,57 +47,87 @@ pub fn run<T: Threads + Sync, F: Files, S: Sink, E: Sink, G: Gate + Sync>(
         (read_from F.held F.faults F.misses F.blamed files.old files.new)
         (wrote_to S.written S.faults S.sure out.old out.new) result }
     ensures complete { (command : Command) → CanSearch (map string_bytes words.now) (F.held files.old) command
-        → Finishes command (F.faults files.old) (F.faults files.new) (S.faults out.old) (S.faults out.new) result }
+        → Finishes (F.held files.old) command (F.faults files.old) (F.faults files.new)
+        (S.faults out.old) (S.faults out.new) result }
+    ensures valid { (command : Command) → CanSearch (map string_bytes words.now) (F.held files.old) command
+        → IsFaultless (F.held files.old) command
+        → IsAnswered (F.faults files.old) (F.faults files.new) (S.faults out.old) (S.faults out.new) result }
     ensures exact { (command : Command) → CanSearch (map string_bytes words.now) (F.held files.old) command
-        → (fault : CertFault) → HasFault (F.held files.old) command fault
+        → (fault : CertFault) → HasFault (F.held files.old) (plan_of command) fault
         → TellsFault (F.faults files.old) (F.faults files.new) fault result }
+    ensures cause { TellsCause result }
     ensures told { Tells (fault_line result) (E.written err.old) (E.written err.new) (E.faults err.old) (E.faults err.new) }
     ensures kept { F.held files.new ≡ F.held files.old }
     ensures reliable { F.reliable files.old → (w : Which) → result ≢ Status.ReadFault w }
 {
     let crew = Crew { rt, alloc, gate };
-    let status = search(&crew, words, files, out);
-    tell(err, &status);
-    status
-}
-
-// Runs all but the line that tells how it ended.
-fn search<T: Threads + Sync, F: Files, S: Sink, G: Gate + Sync>(
-    crew: &Crew<'_, T, G>,
-    words: &[String],
-    files: &mut F,
-    out: &mut S,
-) -> Status
-    ensures ends { Ends (map string_bytes words.now)
-        (read_from F.held F.faults F.misses F.blamed files.old files.new)
-        (wrote_to S.written S.faults S.sure out.old out.new) result }
-    ensures complete { (command : Command) → CanSearch (map string_bytes words.now) (F.held files.old) command
-        → Finishes command (F.faults files.old) (F.faults files.new) (S.faults out.old) (S.faults out.new) result }
-    ensures exact { (command : Command) → CanSearch (map string_bytes words.now) (F.held files.old) command
-        → (fault : CertFault) → HasFault (F.held files.old) command fault
-        → TellsFault (F.faults files.old) (F.faults files.new) fault result }
-    ensures kept { F.held files.new ≡ F.held files.old }
-    ensures reliable { F.reliable files.old → (w : Which) → result ≢ Status.ReadFault w }
-{
-    match parse_words(crew.alloc, words) {
-        Ok(command) => {
-            if is_served(&command) {
-                answer_command(crew, &command, files, out)
-            } else {
-                Status::Usage
-            }
+    match ask(alloc, words) {
+        Ok(command) => answer_and_tell(&crew, &command, files, out, err),
+        Err(status) => {
+            tell(err, &status);
+            status
         }
-        Err(WordsError::Usage) => Status::Usage,
-        Err(WordsError::NoMemory) => Status::Memory,
     }
 }
 
-// Answers one command.
-fn answer_command<T: Threads + Sync, F: Files, S: Sink, G: Gate + Sync>(
+/// Runs one command, as `run` does once it has read the words: answers go to `out`, and to `err` a line where it
+/// failed. It waits for nobody, and it never ends with `Usage`.
+pub fn run_free<T: Threads + Sync, F: Files, S: Sink, E: Sink, G: Gate + Sync>(
+    rt: &T,
+    alloc: Global,
+    command: &Command,
+    files: &mut F,
+    out: &mut S,
+    err: &mut E,
+    gate: &G,
+) -> Status
+    requires limits { KeepsLimits command.now }
+    requires absence { HoldsAbsence (name_of command.now) (options_of command.now) }
+    requires alone { IndexStandsAlone (options_of command.now) }
+    requires free { SearchesWithoutLocks command.now }
+    // The command is one that is answered yet.
+    requires served { IsServed command.now }
+    ensures answers { Answers
+        (read_from F.held F.faults F.misses F.blamed files.old files.new)
+        (wrote_to S.written S.faults S.sure out.old out.new) command.now result }
+    ensures not_usage { result ≢ Status.Usage }
+    ensures complete { CanAnswer (F.held files.old) command.now
+        → Finishes (F.held files.old) command.now (F.faults files.old) (F.faults files.new)
+        (S.faults out.old) (S.faults out.new) result }
+    ensures valid { CanAnswer (F.held files.old) command.now → IsFaultless (F.held files.old) command.now
+        → IsAnswered (F.faults files.old) (F.faults files.new) (S.faults out.old) (S.faults out.new) result }
+    ensures exact { CanAnswer (F.held files.old) command.now
+        → (fault : CertFault) → HasFault (F.held files.old) (plan_of command.now) fault
+        → TellsFault (F.faults files.old) (F.faults files.new) fault result }
+    ensures cause { TellsCause result }
+    ensures told { Tells (fault_line result) (E.written err.old) (E.written err.new) (E.faults err.old) (E.faults err.new) }
+    ensures kept { F.held files.new ≡ F.held files.old }
+    ensures reliable { F.reliable files.old → (w : Which) → result ≢ Status.ReadFault w }
+{
+    answer_and_tell(&Crew { rt, alloc, gate }, command, files, out, err)
+}
+
+// The command that the words ask for, if it is one that is answered.
+fn ask(alloc: Global, words: &[String]) -> Result<Command, Status>
+    ensures asks { IfOk result (Asks (map string_bytes words.now)) }
+    ensures limits { IfOk result KeepsLimits }
+    ensures same { (command : Command) → Asks (map string_bytes words.now) command → IfOk result (λ c. c ≡ command) }
+    ensures refused { IfErr result (NoCommand (map string_bytes words.now)) }
+{
+    match parse_words(alloc, words) {
+        Ok(command) if is_served(&command) => Ok(command),
+        Ok(_) | Err(WordsError::Usage) => Err(Status::Usage),
+        Err(WordsError::NoMemory) => Err(Status::Memory),
+    }
+}
+
+// Answers one command, and tells how that ended.
+fn answer_and_tell<T: Threads + Sync, F: Files, S: Sink, E: Sink, G: Gate + Sync>(
     crew: &Crew<'_, T, G>,
     command: &Command,
     files: &mut F,
     out: &mut S,
+    err: &mut E,
 ) -> Status
     requires limits { KeepsLimits command.now }
     requires served { IsServed command.now }
@@ -101,43 +136,112 @@ fn answer_command<T: Threads + Sync, F: Files, S: Sink, G: Gate + Sync>(
         (wrote_to S.written S.faults S.sure out.old out.new) command.now result }
     ensures not_usage { result ≢ Status.Usage }
     ensures complete { CanAnswer (F.held files.old) command.now
-        → Finishes command.now (F.faults files.old) (F.faults files.new) (S.faults out.old) (S.faults out.new) result }
+        → Finishes (F.held files.old) command.now (F.faults files.old) (F.faults files.new)
+        (S.faults out.old) (S.faults out.new) result }
+    ensures valid { CanAnswer (F.held files.old) command.now → IsFaultless (F.held files.old) command.now
+        → IsAnswered (F.faults files.old) (F.faults files.new) (S.faults out.old) (S.faults out.new) result }
+    ensures exact { CanAnswer (F.held files.old) command.now
+        → (fault : CertFault) → HasFault (F.held files.old) (plan_of command.now) fault
+        → TellsFault (F.faults files.old) (F.faults files.new) fault result }
+    ensures cause { TellsCause result }
+    ensures told { Tells (fault_line result) (E.written err.old) (E.written err.new) (E.faults err.old) (E.faults err.new) }
     ensures kept { F.held files.new ≡ F.held files.old }
     ensures reliable { F.reliable files.old → (w : Which) → result ≢ Status.ReadFault w }
+{
+    let status = ended(answer(crew, command, files, out));
+    tell(err, &status);
+    status
+}
+
+// The status of work that ended so.
+fn ended(work: Result<(), Status>) -> Status
+    ensures { result ≡ ended work }
+{
+    match work {
+        Ok(()) => Status::Done,
+        Err(status) => status,
+    }
+}
+
+// Answers one command.
+fn answer<T: Threads + Sync, F: Files, S: Sink, G: Gate + Sync>(
+    crew: &Crew<'_, T, G>,
+    command: &Command,
+    files: &mut F,
+    out: &mut S,
+) -> Result<(), Status>
+    requires limits { KeepsLimits command.now }
+    requires served { IsServed command.now }
+    ensures answers { Answers
+        (read_from F.held F.faults F.misses F.blamed files.old files.new)
+        (wrote_to S.written S.faults S.sure out.old out.new) command.now (ended result) }
+    ensures kept { F.held files.new ≡ F.held files.old }
+    ensures reliable { F.reliable files.old → (w : Which) → result ≢ Err (Status.ReadFault w) }
 {
     match command {
         Command::Nearest {
             series,
             queries,
             options,
-        } => answer_nearest(crew, series, queries, options, files, out),
+        } => {
+            answer_nearest(
+                crew,
+                &Search {
+                    series,
+                    queries,
+                    options,
+                },
+                files,
+                out,
+            )
+        }
         Command::Range {
             series,
             queries,
             radius,
             options,
-        } => answer_range(crew, series, queries, *radius, options, files, out),
+        } => {
+            answer_range(
+                crew,
+                &Search {
+                    series,
+                    queries,
+                    options,
+                },
+                *radius,
+                files,
+                out,
+            )
+        }
         Command::Verify {
             series,
             queries,
             certificate,
             options,
-        } => answer_verify(
-            crew.alloc,
-            series,
-            queries,
-            certificate,
-            options,
-            files,
-            out,
-        ),
+        } => {
+            let search = Search {
+                series,
+                queries,
+                options,
+            };
+            answer_verify(crew.alloc, &search, certificate, files, out)
+        }
         Command::Trial {
             seed,
             count,
             length,
             queries,
             options,
-        } => answer_trial(crew, *seed, *count, *length, *queries, options, out),
-        _ => Status::Usage,
+        } => {
+            let trial = Trial {
+                seed: *seed,
+                count: *count,
+                length: *length,
+                queries: *queries,
+                options,
+            };
+            answer_trial(crew, &trial, out)
+        }
+        _ => Err(Status::Usage),
     }
 }

@@ -1,6 +1,8 @@
 //! How a run ends: one status, with the values that show its cause.
 
+use crate::output::stop::Stop;
 use certificate::Reject;
+use outside::{Failed, NoMemory};
 use series_file::FileError;
 
 /// Which of the named files a status speaks of.
@@ -69,6 +71,43 @@ impl Status {
             Status::WriteFault => 8,
             Status::Memory => 9,
             Status::Invalid(_) => 10,
+        }
+    }
+}
+
+// What the outside refuses on the way is a write: a read that it refuses names its file.
+impl From<Failed> for Status {
+    ghost use Rattle.std.specs.Prelude.{◌≡◌};
+    ghost use Rattle.search_run.specs.declared.status.Status.TheVariants.{WriteFault};
+
+    ghost from_gives = { λ _ e. e ≡ WriteFault };
+
+    fn from(_: Failed) -> Status {
+        Status::WriteFault
+    }
+}
+
+impl From<NoMemory> for Status {
+    ghost use Rattle.std.specs.Prelude.{◌≡◌};
+    ghost use Rattle.search_run.specs.declared.status.Status.TheVariants.{Memory};
+
+    ghost from_gives = { λ _ e. e ≡ Memory };
+
+    fn from(_: NoMemory) -> Status {
+        Status::Memory
+    }
+}
+
+impl From<Stop> for Status {
+    ghost use Rattle.std.specs.Prelude.{◌≡◌};
+    ghost use Rattle.search_run.specs.Status.{status_of};
+
+    ghost from_gives = { λ stop e. e ≡ status_of stop };
+
+    fn from(stop: Stop) -> Status {
+        match stop {
+            Stop::WriteFault => Status::WriteFault,
+            Stop::NoMemory => Status::Memory,
         }
     }
 }

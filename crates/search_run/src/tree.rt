@@ -1,38 +1,40 @@
 //! The tree of a collection, by the options of a command.
 
-ghost use Rattle.std.specs.Prelude.{IfOk};
+ghost use Rattle.std.specs.Prelude.{◌≡◌, IfOk};
 ghost use Rattle.command_words.specs.Limits.{OptionsKeepLimits};
-ghost use Rattle.search_run.specs.Sources.{HasSegments};
+ghost use Rattle.search_run.specs.Layouts.{settings_of};
+ghost use Rattle.search_run.specs.Plans.{HasSegments};
 
 use crate::crew::Crew;
 use crate::layout::layout_of;
 use command_words::Options;
-use isax_word::Layout;
 use outside::{Gate, NoMemory};
-use series_core::{Flat, Rows};
+use series_core::Rows;
 use std::thread::Threads;
 use subtree_build::{Index, Settings, build};
 
-/// The tree of a collection, and how its series became words.
+/// The tree of a collection, and the settings that it goes by.
 #[derive(Drop)]
 pub struct Tree {
     /// The root children, the nodes and the leaves.
     pub index: Index,
-    /// How series became words.
-    pub layout: Layout,
+    /// How series become words, and how many members a leaf may have.
+    pub settings: Settings,
 }
 
-ghost use Rattle.search_run.specs.Finding.{IsTreeFor};
+ghost use Rattle.search_run.specs.Finding.{IsBuiltOf, IsTreeFor};
 
 /// Builds the tree of series with the asked segments, leaf size, breakpoints and workers.
-pub fn tree_of<T: Threads + Sync, G: Gate + Sync>(
+pub fn tree_of<T: Threads + Sync, R: Rows + Sync, G: Gate + Sync>(
     crew: &Crew<'_, T, G>,
-    rows: &Flat,
+    rows: &R,
     options: &Options,
 ) -> Result<Tree, NoMemory>
     requires limits { OptionsKeepLimits options.now }
-    requires segments { HasSegments options.now.segments rows.now.points }
-    ensures { IfOk result (IsTreeFor rows.now) }
+    requires segments { HasSegments options.now.segments (R.collection rows.now).points }
+    ensures fits { IfOk result (IsTreeFor (R.collection rows.now)) }
+    ensures built { IfOk result (IsBuiltOf (R.collection rows.now)) }
+    ensures settings { IfOk result (λ tree. tree.settings ≡ settings_of (R.collection rows.now).points options.now) }
 {
     let settings = Settings {
         layout: layout_of(rows.length(), options.segments, options.table),
@@ -46,8 +48,5 @@ pub fn tree_of<T: Threads + Sync, G: Gate + Sync>(
         options.workers,
         crew.gate,
     )?;
-    Ok(Tree {
-        index,
-        layout: settings.layout,
-    })
+    Ok(Tree { index, settings })
 }

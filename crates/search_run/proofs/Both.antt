@@ -1,0 +1,27 @@
+-- What refuses two files and their lengths refuses whatever comes behind them (`files_refused`).
+use Rattle.std.proofs.Common.{ℕ, List, inl, inr, ⊎_elim}
+use Rattle.command_words.specs.declared.options.Options.{Options}
+use Rattle.series_file.specs.declared.error.Loaded.{Loaded}
+use Rattle.search_run.specs.Commands.{plan_over}
+use Rattle.search_run.specs.Pairs.{files_plan}
+use Rattle.search_run.specs.Plans.{Plan, Refuses}
+use Rattle.search_run.specs.Traffic.{Reading}
+use Rattle.search_run.specs.declared.status.Status.{Status}
+
+-- what refuses two files and their lengths refuses whatever comes behind them
+pub files_refused : (reading : Reading) (series queries : List ℕ) (o : Options) (then_ : Loaded → Loaded → Plan)
+    (status : Status) → Refuses reading (files_plan series queries o) status
+    → Refuses reading (plan_over series queries o then_) status
+files_refused reading series queries o then_ status =
+    ⊎_elim (λ x. inl x) (λ x. inr (
+      x.0,
+      x.1,
+      ⊎_elim (λ y. inl y) (λ y. inr (
+        y.0,
+        y.1,
+        ⊎_elim (λ z. inl z) (λ z. inr (
+          z.0,
+          ⊎_elim (λ v. inl v) (λ v. absurd v.1) z.1,
+        )) y.2,
+      )) x.2,
+    ))

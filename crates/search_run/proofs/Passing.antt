@@ -1,0 +1,77 @@
+-- Completeness: where all steps can pass, only a failed read, want of memory or a certificate refuses (`only_reading`).
+use Rattle.std.proofs.Common.{◌≡◌, ℕ, List, Option, None, Some, sym, ap, subst, arith, ⊎_elim}
+use Rattle.std.specs.Prelude.{IsSome, IsSomeAnd}
+use Rattle.outside.specs.Count.{Rose}
+use Rattle.outside.specs.Files.{Held}
+use Rattle.series_file.specs.declared.error.Form.{Form}
+use Rattle.series_file.specs.declared.error.Loaded.{Loaded}
+use Rattle.search_run.specs.Certificates.{IsFault, RefusesCertificate, Subject}
+use Rattle.search_run.specs.Loads.{IsHeldAs, RefusesFile, Spells}
+use Rattle.search_run.specs.Plans.{CanPass, Differs, HasSegments, Plan, Load, Compare, Divide, Check, Write, Refuses, TooMany}
+use Rattle.search_run.specs.Traffic.{Reading}
+use Rattle.search_run.proofs.Held.{held_not_absent, known_no_fault, known_not_absent, one_loaded}
+use Rattle.search_run.specs.declared.status.Status.{Status}
+use Rattle.search_run.specs.declared.status.Status.TheVariants.{Done, Usage, Missing, ReadFault, Format, Mismatch, Settings, WriteFault, Memory, Invalid}
+use Rattle.search_run.specs.declared.status.Which.{Which}
+
+-- reading failed and was counted, or memory ran out, or a certificate is told to be invalid
+abbrev pub IsRead : Reading → Status → Type 0
+IsRead reading (ReadFault w) = Rose reading.faults reading.later
+IsRead reading Memory = Unit {0}
+IsRead reading (Invalid e) = Unit {0}
+IsRead reading _ = ⊥
+
+file_read : (w : Which) (reading : Reading) (name : List ℕ) (form : Form) (file : Loaded) (status : Status)
+    → IsSomeAnd reading.held (λ h. IsHeldAs h name (Spells form file)) → RefusesFile w reading name form status
+    → IsRead reading status
+file_read w reading name form file (Missing v) is x =
+    absurd (known_not_absent reading.held name (Spells form file) is x.2)
+file_read w reading name form file (ReadFault v) is x = x.1
+file_read w reading name form file (Format v e) is x = absurd (known_no_fault reading.held name form file e is x.2)
+file_read w reading name form file Memory is x = tt
+file_read w reading name form file Done is x = x
+file_read w reading name form file Usage is x = x
+file_read w reading name form file (Mismatch a b) is x = x
+file_read w reading name form file (Settings v n) is x = x
+file_read w reading name form file WriteFault is x = x
+file_read w reading name form file (Invalid e) is x = absurd x
+
+lengths_read : (reading : Reading) (a b : ℕ) (status : Status) → a ≡ b → Differs a b status → IsRead reading status
+lengths_read reading a b (Mismatch c d) same x = absurd (x.2 same)
+lengths_read reading a b status same x = absurd x
+
+segments_read : (reading : Reading) (w : Option ℕ) (n : ℕ) (status : Status) → HasSegments w n
+    → TooMany w n status → IsRead reading status
+segments_read reading (Some w) n (Settings v m) has x = absurd (omega (arith, has, x.2))
+segments_read reading (Some w) n status has x = absurd x
+segments_read reading None n status has x = absurd x
+
+certificate_read : (s : Subject) (reading : Reading) (name : List ℕ) (status : Status)
+    → IsSomeAnd reading.held (λ h. IsSome (h name)) → RefusesCertificate (IsFault s) reading name status
+    → IsRead reading status
+certificate_read s reading name (Missing v) is x = absurd (held_not_absent reading.held name is x.2)
+certificate_read s reading name (ReadFault v) is x = x.1
+certificate_read s reading name Memory is x = tt
+certificate_read s reading name (Invalid e) is x = tt
+certificate_read s reading name Done is x = x
+certificate_read s reading name Usage is x = x
+certificate_read s reading name (Format v e) is x = x
+certificate_read s reading name (Mismatch a b) is x = x
+certificate_read s reading name (Settings v n) is x = x
+certificate_read s reading name WriteFault is x = x
+
+-- where all steps can pass, a step that refuses was not read, or is a certificate
+pub only_reading : (reading : Reading) (plan : Plan) (status : Status) → CanPass reading.held plan
+    → Refuses reading plan status → IsRead reading status
+only_reading reading (Load w name form then_) status can =
+    ⊎_elim (file_read w reading name form can.0 status can.1)
+    (λ x. only_reading reading (then_ x.0) status
+    (subst (λ loaded. CanPass reading.held (then_ loaded))
+    (one_loaded reading.held name form can.0 x.0 can.1 x.1.told) can.2) x.2)
+only_reading reading (Compare a b then_) status can =
+    ⊎_elim (lengths_read reading a b status can.0) (λ x. only_reading reading then_ status can.1 x.1)
+only_reading reading (Divide w n then_) status can =
+    ⊎_elim (segments_read reading w n status can.0) (λ x. only_reading reading then_ status can.1 x.1)
+only_reading reading (Check name s then_) status can =
+    ⊎_elim (certificate_read s reading name status can.0) (λ x. only_reading reading then_ status can.1 x.1)
+only_reading reading (Write IsRight) status can = λ x. absurd x

@@ -1,0 +1,7 @@
+//! What each command does with its input, one module a command: it ends with the status that says why it did not.
+
+pub mod nearest;
+pub mod range;
+pub mod search;
+pub mod trial;
+pub mod verify;

@@ -1,0 +1,60 @@
+//! The command `range`: for each query all series within a radius, by a search of the tree.
+
+ghost use Rattle.std.specs.Prelude.{◌≡◌, ◌≢◌, ◌≤◌, length, IfOk};
+ghost use Rattle.std.specs.Thread.{IsSync};
+ghost use Rattle.command_words.specs.Limits.{OptionsKeepLimits};
+ghost use Rattle.series_core.specs.Answer.{within};
+ghost use Rattle.search_run.specs.Traffic.{read_from, wrote_to};
+ghost use Rattle.search_run.specs.Commands.{search_plan};
+ghost use Rattle.search_run.specs.Ends.{Concludes, ended};
+ghost use Rattle.search_run.specs.Finding.{IsGround};
+ghost use Rattle.search_run.specs.Plans.{Refuses, Writes};
+ghost use Rattle.search_run.specs.Texts.{query_text};
+ghost use Rattle.search_run.specs.declared.status.Status.{Status};
+ghost use Rattle.search_run.specs.declared.status.Which.{Which};
+
+use crate::commands::search::{Ground, answer_search};
+use crate::crew::Crew;
+use crate::finding::near;
+use crate::input::pair::Search;
+use crate::output::text::query_text;
+use crate::status::{Status, Which};
+use outside::{Files, Gate, NoMemory, Sink};
+use std::thread::Threads;
+
+/// Answers `range`: a search whose pieces have for each query all series within the radius.
+pub fn answer_range<T: Threads + Sync, F: Files, S: Sink, G: Gate + Sync>(
+    crew: &Crew<'_, T, G>,
+    search: &Search<'_>,
+    radius: u64,
+    files: &mut F,
+    out: &mut S,
+) -> Result<(), Status>
+    requires { OptionsKeepLimits search.now.options.now }
+    ensures answers { let plan = search_plan search.now.series.now search.now.queries.now search.now.options.now
+        (λ rows q. within rows q radius) in
+        Concludes (Writes (F.held files.old) plan)
+        (Refuses (read_from F.held F.faults F.misses F.blamed files.old files.new) plan)
+        (wrote_to S.written S.faults S.sure out.old out.new) (ended result) }
+    ensures kept { F.held files.new ≡ F.held files.old }
+    ensures reliable { F.reliable files.old → (w : Which) → result ≢ Err (Status.ReadFault w) }
+{
+    let workers = search.options.workers;
+    let piece_of = |ground: &Ground, i: u32, query: &[i16]| -> Result<Vec<u8>, NoMemory>
+        requires { IsSync T.row × IsSync G.row × IsGround ground.now
+            × (length query.now ≡ ground.now.series.rows.points) × (1 ≤ workers) × (workers ≤ 64) }
+        ensures { IfOk result (λ text. text.items
+            ≡ query_text ground.now.series.labels i (within ground.now.series.rows query.now radius)) }
+    {
+        let pairs = near(
+            crew,
+            &ground.series.rows,
+            &ground.tree,
+            query,
+            radius,
+            workers,
+        )?;
+        query_text(crew.alloc, i, &ground.series.labels, &pairs)
+    };
+    answer_search(crew, search, &piece_of, files, out)
+}

@@ -1,0 +1,63 @@
+//! A search over two files: it reads both, builds the tree, and writes for each query the piece that is made for it.
+//! What is sought is the caller's: it hands a closure that makes the piece of one query.
+
+ghost use Rattle.std.specs.Prelude.{◌≡◌, ◌≢◌, ℕ, length};
+ghost use Rattle.command_words.specs.Limits.{OptionsKeepLimits};
+ghost use Rattle.search_run.specs.Traffic.{read_from, wrote_to};
+ghost use Rattle.search_run.specs.Ends.{ended};
+ghost use Rattle.search_run.specs.declared.status.Status.{Status};
+ghost use Rattle.search_run.specs.declared.status.Which.{Which};
+
+use crate::crew::Crew;
+use crate::input::pair::{Search, read_both};
+use crate::output::pieces::write_pieces;
+use crate::status::{Status, Which};
+use crate::tree::{Tree, tree_of};
+use outside::{Files, Gate, NoMemory, Sink};
+use series_file::Loaded;
+use std::thread::Threads;
+
+/// What a search goes over.
+#[derive(Drop)]
+pub struct Ground {
+    /// The series, with their labels.
+    pub series: Loaded,
+    /// Their tree.
+    pub tree: Tree,
+}
+
+ghost use Rattle.search_run.specs.Finding.{EndsMaking, IsGround};
+
+/// Reads both files, builds the tree, and writes for each query the piece that `piece_of` makes of it.
+pub fn answer_search<
+    T: Threads + Sync,
+    F: Files,
+    S: Sink,
+    G: Gate + Sync,
+    P: Fn(&Ground, u32, &[i16]) -> Result<Vec<u8>, NoMemory>,
+>(
+    crew: &Crew<'_, T, G>,
+    search: &Search<'_>,
+    piece_of: &P,
+    files: &mut F,
+    out: &mut S,
+) -> Result<(), Status>
+    requires limits { OptionsKeepLimits search.now.options.now }
+    requires callable { (ground : _) (i : ℕ) (q : _) → IsGround ground.now
+        → length q.now ≡ ground.now.series.rows.points → P.pre piece_of.now ground i q }
+    ensures answers { EndsMaking (P.post piece_of.now)
+        (read_from F.held F.faults F.misses F.blamed files.old files.new)
+        (wrote_to S.written S.faults S.sure out.old out.new)
+        search.now.series.now search.now.queries.now search.now.options.now (ended result) }
+    ensures kept { F.held files.new ≡ F.held files.old }
+    ensures reliable { F.reliable files.old → (w : Which) → result ≢ Err (Status.ReadFault w) }
+{
+    let both = read_both(crew.alloc, files, search)?;
+    let tree = tree_of(crew, &both.series.rows, search.options)?;
+    let ground = Ground {
+        series: both.series,
+        tree,
+    };
+    write_pieces(&ground, piece_of, &both.queries.rows, out)?;
+    Ok(())
+}

@@ -1,0 +1,96 @@
+//! The command `trial`: a search over random walks that are all made from one number, and the lines that sum it up.
+//! Series and queries are drawn from one stream, the series first.
+
+ghost use Rattle.std.specs.Prelude.{◌≡◌, ◌≢◌, ◌<◌, ◌≤◌, length, IfOk};
+ghost use Rattle.command_words.specs.Limits.{OptionsKeepLimits};
+ghost use Rattle.series_core.specs.Answer.{answer};
+ghost use Rattle.series_core.specs.declared.best.TheConstants.{MAX_BEST};
+ghost use Rattle.search_run.specs.Traffic.{Reading, wrote_to};
+ghost use Rattle.search_run.specs.Commands.{trial_plan};
+ghost use Rattle.search_run.specs.Ends.{Concludes, ended};
+ghost use Rattle.search_run.specs.Finding.{IsTreeFor};
+ghost use Rattle.search_run.specs.Plans.{HasSegments, Refuses, Writes};
+ghost use Rattle.search_run.specs.Trials.{KeepsTrialLimits, trial_text};
+ghost use Rattle.search_run.specs.declared.status.Status.{Status};
+ghost use Rattle.search_run.specs.declared.status.Which.{Which};
+
+use crate::crew::Crew;
+use crate::finding::nearest;
+use crate::input::lengths::check_segments;
+use crate::output::summary::{summary_of, summary_text};
+use crate::status::{Status, Which};
+use crate::tree::tree_of;
+use command_words::Options;
+use outside::{Gate, NoMemory, Sink, write_whole};
+use random_walks::{generator, walks};
+use series_core::PairList;
+use std::thread::Threads;
+
+/// What `trial` is asked for: `queries` walks among `count` walks of `length` values each, all from one seed.
+#[derive(Drop)]
+pub struct Trial<'a> {
+    /// The number that all walks are made from.
+    pub seed: u64,
+    /// The number of series.
+    pub count: u32,
+    /// The length of each.
+    pub length: u32,
+    /// The number of queries.
+    pub queries: u32,
+    /// How the search is done.
+    pub options: &'a Options,
+}
+
+/// Answers `trial`: the four lines over the answers to the queries.
+pub fn answer_trial<T: Threads + Sync, S: Sink, G: Gate + Sync>(
+    crew: &Crew<'_, T, G>,
+    trial: &Trial<'_>,
+    out: &mut S,
+) -> Result<(), Status>
+    requires trial { KeepsTrialLimits trial.now.count trial.now.length trial.now.queries }
+    requires options { OptionsKeepLimits trial.now.options.now }
+    ensures answers { let plan = trial_plan trial.now.seed trial.now.count trial.now.length trial.now.queries
+        trial.now.options.now in (reading : Reading)
+        → Concludes (Writes reading.held plan) (Refuses reading plan)
+        (wrote_to S.written S.faults S.sure out.old out.new) (ended result) }
+    ensures reads_nothing { (w : Which) → result ≢ Err (Status.ReadFault w) }
+{
+    check_segments(trial.options.segments, trial.length)?;
+    let text = text_of(crew, trial)?;
+    write_whole(out, &text)?;
+    Ok(())
+}
+
+// The whole text of a trial.
+fn text_of<T: Threads + Sync, G: Gate + Sync>(
+    crew: &Crew<'_, T, G>,
+    trial: &Trial<'_>,
+) -> Result<Vec<u8>, NoMemory>
+    requires trial { KeepsTrialLimits trial.now.count trial.now.length trial.now.queries }
+    requires options { OptionsKeepLimits trial.now.options.now }
+    requires segments { HasSegments trial.now.options.now.segments trial.now.length }
+    ensures { IfOk result (λ text. text.items ≡ trial_text trial.now.seed trial.now.count trial.now.length
+        trial.now.queries trial.now.options.now.k) }
+{
+    let mut rng = generator(trial.seed);
+    let series = walks(crew.alloc, &mut rng, trial.count, trial.length)?;
+    let asked = walks(crew.alloc, &mut rng, trial.queries, trial.length)?;
+    let tree = tree_of(crew, &series, trial.options)?;
+    let (alloc, rows, over) = (crew.alloc, &series, &tree);
+    let k = trial.options.k;
+    let queues = trial.options.queues;
+    let find = |query: &[i16]| -> Result<PairList, NoMemory>
+        requires { IsTreeFor rows.now over.now × (length query.now ≡ rows.now.points)
+            × (0 < k) × (k ≤ MAX_BEST) × (1 ≤ queues) × (queues ≤ 64) }
+        ensures { IfOk result (λ pairs. pairs ≡ answer rows.entry.now query.now k) }
+    { nearest(alloc, rows, over, query, k, queues) };
+    let summary = summary_of(&find, &asked)?;
+    summary_text(
+        crew.alloc,
+        trial.count,
+        trial.length,
+        trial.queries,
+        k,
+        &summary,
+    )
+}

@@ -1,0 +1,105 @@
+//! What a trial found, in three numbers: how many answers, and the sums of their distances and of their numbers.
+
+ghost use Rattle.std.specs.Prelude.{◌≡◌, ℤ, ◌+◌, ◌*◌, ◌^◌, ◌≤◌, List, ◌++◌, length, map, IfOk, OnOk};
+ghost use Rattle.list_totals.specs.Totals.{total};
+ghost use Rattle.series_core.specs.declared.best.TheConstants.{MAX_BEST};
+ghost use Rattle.series_core.specs.declared.pair.Pair.{Pair};
+ghost use Rattle.search_run.specs.Trials.{FindsBy, counted, summary_lines, summed};
+
+use crate::output::pieces::row_of;
+use itoa::Buffer;
+use outside::NoMemory;
+use series_core::{Pair, PairList, Rows};
+use std::alloc::Global;
+
+/// How many answers there are, and the sums of their distances and of their numbers.
+#[derive(Clone, Copy, Debug, PartialEq, Eq)]
+pub struct Summary {
+    /// The number of answers.
+    pub answers: u64,
+    /// The sum of their distances.
+    pub distances: u128,
+    /// The sum of their numbers.
+    pub numbers: u128,
+}
+
+impl Summary {
+    // The answers to no query.
+    const NONE: Summary = Summary {
+        answers: 0,
+        distances: 0,
+        numbers: 0,
+    };
+
+    // Adds the answers to one query.
+    fn add(&mut self, pairs: &[Pair])
+        requires short { length pairs.now ≤ MAX_BEST }
+        requires answers { self.old.answers ≤ 2 ^ 20 }
+        requires distances { self.old.distances ≤ 2 ^ 84 }
+        requires numbers { self.old.numbers ≤ 2 ^ 52 }
+        ensures answers { self.new.answers ≡ self.old.answers + length pairs.now }
+        ensures distances { self.new.distances ≡ self.old.distances + total (λ p. p.distance) pairs.now }
+        ensures numbers { self.new.numbers ≡ self.old.numbers + total (λ p. p.number) pairs.now }
+        ensures few { self.new.answers ≤ self.old.answers + 1024 }
+        ensures near { self.new.distances ≤ self.old.distances + 1024 * 2 ^ 64 }
+        ensures low { self.new.numbers ≤ self.old.numbers + 1024 * 2 ^ 32 }
+    {
+        self.answers += pairs.len() as u64;
+        for pair in pairs {
+            self.distances += u128::from(pair.distance);
+            self.numbers += u128::from(pair.number);
+        }
+    }
+}
+
+/// The summary of what is found for at most 1000 queries, of each at most 1024 pairs.
+pub fn summary_of<Q: Rows, P: Fn(&[i16]) -> Result<PairList, NoMemory>>(
+    find: &P,
+    queries: &Q,
+) -> Result<Summary, NoMemory>
+    requires callable { (q : _) → length q.now ≡ (Q.collection queries.now).points → P.pre find.now q }
+    requires short { (q : _) (r : _) → P.post find.now q r → IfOk r (λ pairs. length pairs ≤ MAX_BEST) }
+    requires few { length (Q.collection queries.now).series ≤ 1000 }
+    ensures { (found : List ℤ → List Pair) → FindsBy (P.post find.now) found
+        → IfOk result (λ summary. summary ≡ summed (map found (Q.collection queries.now).series)) }
+{
+    let mut summary = Summary::NONE;
+    for i in 0..queries.count() {
+        let pairs = find(row_of(queries, i))?;
+        summary.add(&pairs.items);
+    }
+    Ok(summary)
+}
+
+/// The four lines.
+pub fn summary_text(
+    alloc: Global,
+    count: u32,
+    length: u32,
+    queries: u32,
+    k: u32,
+    summary: &Summary,
+) -> Result<Vec<u8>, NoMemory>
+    ensures { IfOk result (λ text. text.items ≡ summary_lines count length queries k summary.now) }
+{
+    let mut text = Vec::new(alloc);
+    push_counted(&mut text, "series ", u128::from(count))?;
+    push_counted(&mut text, " length ", u128::from(length))?;
+    push_counted(&mut text, " queries ", u128::from(queries))?;
+    push_counted(&mut text, " k ", u128::from(k))?;
+    push_counted(&mut text, "\nanswers ", u128::from(summary.answers))?;
+    push_counted(&mut text, "\ntotal ", summary.distances)?;
+    push_counted(&mut text, "\nnumbers ", summary.numbers)?;
+    text.push(b'\n')?;
+    Ok(text)
+}
+
+// Appends text and a number behind it.
+fn push_counted(text: &mut Vec<u8>, word: &str, n: u128) -> Result<(), NoMemory>
+    ensures { OnOk result (text.new.items ≡ text.old.items ++ counted word.now n) }
+{
+    let mut buffer = Buffer::new();
+    text.extend_from_slice(word.as_bytes())?;
+    text.extend_from_slice(buffer.format(n).as_bytes())?;
+    Ok(())
+}

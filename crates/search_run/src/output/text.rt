@@ -1,0 +1,91 @@
+//! The text of a search, line by line. Fields are parted by one space, and each line ends with a line feed.
+
+ghost use Rattle.std.specs.Prelude.{◌≡◌, ◌+◌, ◌<◌, ◌++◌, ◌∷◌, length, OnOk, IfOk, IfSome, decimal};
+ghost use Rattle.std.specs.List.{All as Each};
+ghost use Rattle.search_run.specs.Texts.{query_line, query_text, answer_line, answer_lines, label_part};
+
+use itoa::Buffer;
+use outside::NoMemory;
+use series_core::{LabelList, Pair, PairList};
+use std::alloc::Global;
+
+/// The text of query i: its line, and the lines of its answers.
+pub fn query_text(
+    alloc: Global,
+    i: u32,
+    labels: &Option<LabelList>,
+    pairs: &PairList,
+) -> Result<Vec<u8>, NoMemory>
+    ensures { IfOk result (λ text. text.items ≡ query_text labels.now i pairs.now) }
+{
+    let mut text = Vec::new(alloc);
+    push_query(&mut text, i)?;
+    push_answers(&mut text, labels, &pairs.items)?;
+    Ok(text)
+}
+
+// Appends the line of a query.
+fn push_query(text: &mut Vec<u8>, i: u32) -> Result<(), NoMemory>
+    ensures { OnOk result (text.new.items ≡ text.old.items ++ query_line i) }
+{
+    text.extend_from_slice(b"query ")?;
+    push_number(text, u64::from(i))?;
+    text.push(b'\n')?;
+    Ok(())
+}
+
+// Appends the lines of answers, from rank 1 on.
+fn push_answers(
+    text: &mut Vec<u8>,
+    labels: &Option<LabelList>,
+    pairs: &[Pair],
+) -> Result<(), NoMemory>
+    ensures { OnOk result (text.new.items ≡ text.old.items ++ answer_lines labels.now 1 pairs.now) }
+{
+    let mut rank = 1u64;
+    for pair in pairs {
+        push_answer(text, labels, rank, pair)?;
+        rank += 1;
+    }
+    Ok(())
+}
+
+// Appends the line of one answer.
+fn push_answer(
+    text: &mut Vec<u8>,
+    labels: &Option<LabelList>,
+    rank: u64,
+    pair: &Pair,
+) -> Result<(), NoMemory>
+    ensures { OnOk result (text.new.items ≡ text.old.items ++ answer_line labels.now rank pair.now) }
+{
+    push_number(text, rank)?;
+    text.push(b' ')?;
+    push_number(text, u64::from(pair.number))?;
+    text.push(b' ')?;
+    push_number(text, pair.distance)?;
+    push_label(text, labels, pair.number)?;
+    text.push(b'\n')?;
+    Ok(())
+}
+
+// Appends a space and the label of a series, where there are labels.
+fn push_label(text: &mut Vec<u8>, labels: &Option<LabelList>, number: u32) -> Result<(), NoMemory>
+    ensures { OnOk result (text.new.items ≡ text.old.items ++ label_part labels.now number) }
+{
+    if let Some(labels) = labels {
+        text.push(b' ')?;
+        let label = labels.items.get(number as usize).copied().unwrap_or(0);
+        push_number(text, label)?;
+    }
+    Ok(())
+}
+
+// Appends a number in decimals.
+fn push_number(text: &mut Vec<u8>, n: u64) -> Result<(), NoMemory>
+    ensures { OnOk result (text.new.items ≡ text.old.items ++ decimal n) }
+{
+    let mut buffer = Buffer::new();
+    text.extend_from_slice(buffer.format(n).as_bytes())?;
+    Ok(())
+}
