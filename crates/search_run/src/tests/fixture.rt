@@ -161,8 +161,29 @@ pub struct Ended {
     pub err: MemSink,
 }
 
-/// Runs the words of a line over the files of the tables and a certificate `C`, with this outside and gate. The long series
-/// are held where the line names one.
+/// The files of the tables and a certificate `C`, as this outside gives them. The long series are held where the line names
+/// one.
+pub fn files_of(
+    alloc: Global,
+    line: &str,
+    certificate: &[u8],
+    outside: Outside,
+) -> Result<MemFiles, NoMemory> {
+    let mut files = MemFiles::new(
+        alloc,
+        outside.piece.max(1),
+        [outside.open].to_vec(alloc)?,
+        [outside.read].to_vec(alloc)?,
+    );
+    hold_files(alloc, &mut files)?;
+    files.hold("C", certificate)?;
+    if line.contains("low") {
+        hold_long(alloc, &mut files)?;
+    }
+    Ok(files)
+}
+
+/// Runs the words of a line over the files of the tables and a certificate `C`, with this outside and gate.
 pub fn run_line<T: Threads + Sync, G: Gate + Sync>(
     rt: &T,
     alloc: Global,
@@ -172,17 +193,7 @@ pub fn run_line<T: Threads + Sync, G: Gate + Sync>(
     gate: &G,
 ) -> Result<Ended, Fail> {
     let piece = outside.piece.max(1);
-    let mut files = MemFiles::new(
-        alloc,
-        piece,
-        [outside.open].to_vec(alloc)?,
-        [outside.read].to_vec(alloc)?,
-    );
-    hold_files(alloc, &mut files)?;
-    files.hold("C", certificate)?;
-    if line.contains("low") {
-        hold_long(alloc, &mut files)?;
-    }
+    let mut files = files_of(alloc, line, certificate, outside)?;
     let words = words_of(alloc, line)?;
     let mut out = MemSink::new(alloc, 2000, piece, [outside.write].to_vec(alloc)?)?;
     let mut err = MemSink::new(alloc, 2000, piece, [outside.tell].to_vec(alloc)?)?;

@@ -78,7 +78,7 @@ const NEARESTS: [Row; 16] = [
         "isearch: lengths differ: 4 and 3\n",
     ),
     ("nearest A Q --certificate", Status::Usage, "", NO_COMMAND),
-    ("nearest A Q --sealed", Status::Usage, "", NO_COMMAND),
+    ("nearest A Q --sealed", Status::Done, "query 0\n1 0 4\n", ""),
     ("nearest A Q --index I", Status::Usage, "", NO_COMMAND),
 ];
 
