@@ -22,7 +22,6 @@ use crate::commands::range::answer_range;
 use crate::commands::trial::{Trial, answer_trial};
 use crate::commands::verify::answer_verify;
 use crate::crew::Crew;
-use crate::input::pair::Search;
 use crate::output::tell::tell;
 use crate::serving::is_served;
 use crate::status::{Status, Which};
@@ -178,54 +177,25 @@ fn answer<T: Threads + Sync, F: Files, S: Sink, G: Gate + Sync>(
     ensures kept { F.held files.new ≡ F.held files.old }
     ensures reliable { F.reliable files.old → (w : Which) → result ≢ Err (Status.ReadFault w) }
 {
+    let alloc = crew.alloc;
     match command {
         Command::Nearest {
             series,
             queries,
             options,
-        } => {
-            answer_nearest(
-                crew,
-                &Search {
-                    series,
-                    queries,
-                    options,
-                },
-                files,
-                out,
-            )
-        }
+        } => answer_nearest(crew, series, queries, options, files, out),
         Command::Range {
             series,
             queries,
             radius,
             options,
-        } => {
-            answer_range(
-                crew,
-                &Search {
-                    series,
-                    queries,
-                    options,
-                },
-                *radius,
-                files,
-                out,
-            )
-        }
+        } => answer_range(crew, series, queries, *radius, options, files, out),
         Command::Verify {
             series,
             queries,
             certificate,
             options,
-        } => {
-            let search = Search {
-                series,
-                queries,
-                options,
-            };
-            answer_verify(crew.alloc, &search, certificate, files, out)
-        }
+        } => answer_verify(alloc, series, queries, certificate, options, files, out),
         Command::Trial {
             seed,
             count,
