@@ -133,16 +133,6 @@ fn answer_and_tell<T: Threads + Sync, F: Files, S: Sink, E: Sink, G: Gate + Sync
     ensures answers { Answers
         (read_from F.held F.faults F.misses F.blamed files.old files.new)
         (wrote_to S.written S.faults S.sure out.old out.new) command.now result }
-    ensures not_usage { result ≢ Status.Usage }
-    ensures complete { CanAnswer (F.held files.old) command.now
-        → Finishes (F.held files.old) command.now (F.faults files.old) (F.faults files.new)
-        (S.faults out.old) (S.faults out.new) result }
-    ensures valid { CanAnswer (F.held files.old) command.now → IsFaultless (F.held files.old) command.now
-        → IsAnswered (F.faults files.old) (F.faults files.new) (S.faults out.old) (S.faults out.new) result }
-    ensures exact { CanAnswer (F.held files.old) command.now
-        → (fault : CertFault) → HasFault (F.held files.old) (plan_of command.now) fault
-        → TellsFault (F.faults files.old) (F.faults files.new) fault result }
-    ensures cause { TellsCause result }
     ensures told { Tells (fault_line result) (E.written err.old) (E.written err.new) (E.faults err.old) (E.faults err.new) }
     ensures kept { F.held files.new ≡ F.held files.old }
     ensures reliable { F.reliable files.old → (w : Which) → result ≢ Status.ReadFault w }
