@@ -22,7 +22,6 @@ use crate::commands::range::answer_range;
 use crate::commands::trial::{Trial, answer_trial};
 use crate::commands::verify::answer_verify;
 use crate::crew::Crew;
-use crate::input::pair::Search;
 use crate::output::tell::tell;
 use crate::serving::is_served;
 use crate::status::{Status, Which};
@@ -134,16 +133,6 @@ fn answer_and_tell<T: Threads + Sync, F: Files, S: Sink, E: Sink, G: Gate + Sync
     ensures answers { Answers
         (read_from F.held F.faults F.misses F.blamed files.old files.new)
         (wrote_to S.written S.faults S.sure out.old out.new) command.now result }
-    ensures not_usage { result ≢ Status.Usage }
-    ensures complete { CanAnswer (F.held files.old) command.now
-        → Finishes (F.held files.old) command.now (F.faults files.old) (F.faults files.new)
-        (S.faults out.old) (S.faults out.new) result }
-    ensures valid { CanAnswer (F.held files.old) command.now → IsFaultless (F.held files.old) command.now
-        → IsAnswered (F.faults files.old) (F.faults files.new) (S.faults out.old) (S.faults out.new) result }
-    ensures exact { CanAnswer (F.held files.old) command.now
-        → (fault : CertFault) → HasFault (F.held files.old) (plan_of command.now) fault
-        → TellsFault (F.faults files.old) (F.faults files.new) fault result }
-    ensures cause { TellsCause result }
     ensures told { Tells (fault_line result) (E.written err.old) (E.written err.new) (E.faults err.old) (E.faults err.new) }
     ensures kept { F.held files.new ≡ F.held files.old }
     ensures reliable { F.reliable files.old → (w : Which) → result ≢ Status.ReadFault w }
@@ -178,54 +167,25 @@ fn answer<T: Threads + Sync, F: Files, S: Sink, G: Gate + Sync>(
     ensures kept { F.held files.new ≡ F.held files.old }
     ensures reliable { F.reliable files.old → (w : Which) → result ≢ Err (Status.ReadFault w) }
 {
+    let alloc = crew.alloc;
     match command {
         Command::Nearest {
             series,
             queries,
             options,
-        } => {
-            answer_nearest(
-                crew,
-                &Search {
-                    series,
-                    queries,
-                    options,
-                },
-                files,
-                out,
-            )
-        }
+        } => answer_nearest(crew, series, queries, options, files, out),
         Command::Range {
             series,
             queries,
             radius,
             options,
-        } => {
-            answer_range(
-                crew,
-                &Search {
-                    series,
-                    queries,
-                    options,
-                },
-                *radius,
-                files,
-                out,
-            )
-        }
+        } => answer_range(crew, series, queries, *radius, options, files, out),
         Command::Verify {
             series,
             queries,
             certificate,
             options,
-        } => {
-            let search = Search {
-                series,
-                queries,
-                options,
-            };
-            answer_verify(crew.alloc, &search, certificate, files, out)
-        }
+        } => answer_verify(alloc, series, queries, certificate, options, files, out),
         Command::Trial {
             seed,
             count,

@@ -19,19 +19,22 @@ use crate::finding::nearest;
 use crate::input::pair::Search;
 use crate::output::text::query_text;
 use crate::status::{Status, Which};
+use command_words::{Options, Text};
 use outside::{Files, Gate, NoMemory, Sink};
 use std::thread::Threads;
 
 /// Answers `nearest`: a search whose pieces have for each query its k nearest.
 pub fn answer_nearest<T: Threads + Sync, F: Files, S: Sink, G: Gate + Sync>(
     crew: &Crew<'_, T, G>,
-    search: &Search<'_>,
+    series: &Text,
+    queries: &Text,
+    options: &Options,
     files: &mut F,
     out: &mut S,
 ) -> Result<(), Status>
-    requires { OptionsKeepLimits search.now.options.now }
-    ensures answers { let plan = search_plan search.now.series.now search.now.queries.now search.now.options.now
-        (λ rows q. answer rows q search.now.options.now.k) in
+    requires { OptionsKeepLimits options.now }
+    ensures answers { let plan = search_plan series.now queries.now options.now
+        (λ rows q. answer rows q options.now.k) in
         Concludes (Writes (F.held files.old) plan)
         (Refuses (read_from F.held F.faults F.misses F.blamed files.old files.new) plan)
         (wrote_to S.written S.faults S.sure out.old out.new) (ended result) }
@@ -39,8 +42,8 @@ pub fn answer_nearest<T: Threads + Sync, F: Files, S: Sink, G: Gate + Sync>(
     ensures reliable { F.reliable files.old → (w : Which) → result ≢ Err (Status.ReadFault w) }
 {
     let alloc = crew.alloc;
-    let k = search.options.k;
-    let queues = search.options.queues;
+    let k = options.k;
+    let queues = options.queues;
     let piece_of = |ground: &Ground, i: u32, query: &[i16]| -> Result<Vec<u8>, NoMemory>
         requires { IsGround ground.now × (length query.now ≡ ground.now.series.rows.points)
             × (0 < k) × (k ≤ MAX_BEST) × (1 ≤ queues) × (queues ≤ 64) }
@@ -50,5 +53,10 @@ pub fn answer_nearest<T: Threads + Sync, F: Files, S: Sink, G: Gate + Sync>(
         let pairs = nearest(alloc, &ground.series.rows, &ground.tree, query, k, queues)?;
         query_text(alloc, i, &ground.series.labels, &pairs)
     };
-    answer_search(crew, search, &piece_of, files, out)
+    let search = Search {
+        series,
+        queries,
+        options,
+    };
+    answer_search(crew, &search, &piece_of, files, out)
 }

@@ -19,19 +19,22 @@ use crate::finding::near;
 use crate::input::pair::Search;
 use crate::output::text::query_text;
 use crate::status::{Status, Which};
+use command_words::{Options, Text};
 use outside::{Files, Gate, NoMemory, Sink};
 use std::thread::Threads;
 
 /// Answers `range`: a search whose pieces have for each query all series within the radius.
 pub fn answer_range<T: Threads + Sync, F: Files, S: Sink, G: Gate + Sync>(
     crew: &Crew<'_, T, G>,
-    search: &Search<'_>,
+    series: &Text,
+    queries: &Text,
     radius: u64,
+    options: &Options,
     files: &mut F,
     out: &mut S,
 ) -> Result<(), Status>
-    requires { OptionsKeepLimits search.now.options.now }
-    ensures answers { let plan = search_plan search.now.series.now search.now.queries.now search.now.options.now
+    requires { OptionsKeepLimits options.now }
+    ensures answers { let plan = search_plan series.now queries.now options.now
         (λ rows q. within rows q radius) in
         Concludes (Writes (F.held files.old) plan)
         (Refuses (read_from F.held F.faults F.misses F.blamed files.old files.new) plan)
@@ -39,7 +42,7 @@ pub fn answer_range<T: Threads + Sync, F: Files, S: Sink, G: Gate + Sync>(
     ensures kept { F.held files.new ≡ F.held files.old }
     ensures reliable { F.reliable files.old → (w : Which) → result ≢ Err (Status.ReadFault w) }
 {
-    let workers = search.options.workers;
+    let workers = options.workers;
     let piece_of = |ground: &Ground, i: u32, query: &[i16]| -> Result<Vec<u8>, NoMemory>
         requires { IsSync T.row × IsSync G.row × IsGround ground.now
             × (length query.now ≡ ground.now.series.rows.points) × (1 ≤ workers) × (workers ≤ 64) }
@@ -56,5 +59,10 @@ pub fn answer_range<T: Threads + Sync, F: Files, S: Sink, G: Gate + Sync>(
         )?;
         query_text(crew.alloc, i, &ground.series.labels, &pairs)
     };
-    answer_search(crew, search, &piece_of, files, out)
+    let search = Search {
+        series,
+        queries,
+        options,
+    };
+    answer_search(crew, &search, &piece_of, files, out)
 }

@@ -13,35 +13,36 @@ ghost use Rattle.search_run.specs.declared.status.Which.{Which};
 use crate::input::certificate::check_certificate;
 use crate::input::pair::{Search, read_both};
 use crate::status::{Status, Which};
-use command_words::Text;
+use command_words::{Options, Text};
 use outside::{Files, Sink, write_whole};
 use std::alloc::Global;
 
 /// Answers `verify`: reads both series files and the certificate, checks it, and writes that it holds.
 pub fn answer_verify<F: Files, S: Sink>(
     alloc: Global,
-    search: &Search<'_>,
+    series: &Text,
+    queries: &Text,
     certificate: &Text,
+    options: &Options,
     files: &mut F,
     out: &mut S,
 ) -> Result<(), Status>
-    requires { OptionsKeepLimits search.now.options.now }
-    ensures answers { let plan = verify_plan search.now.series.now search.now.queries.now certificate.now
-        search.now.options.now in
+    requires { OptionsKeepLimits options.now }
+    ensures answers { let plan = verify_plan series.now queries.now certificate.now
+        options.now in
         Concludes (Writes (F.held files.old) plan)
         (Refuses (read_from F.held F.faults F.misses F.blamed files.old files.new) plan)
         (wrote_to S.written S.faults S.sure out.old out.new) (ended result) }
     ensures kept { F.held files.new ≡ F.held files.old }
     ensures reliable { F.reliable files.old → (w : Which) → result ≢ Err (Status.ReadFault w) }
 {
-    let both = read_both(alloc, files, search)?;
-    check_certificate(
-        alloc,
-        files,
-        certificate.text.as_str(),
-        &both,
-        search.options,
-    )?;
+    let search = Search {
+        series,
+        queries,
+        options,
+    };
+    let both = read_both(alloc, files, &search)?;
+    check_certificate(alloc, files, certificate.text.as_str(), &both, options)?;
     write_whole(out, b"valid\n")?;
     Ok(())
 }

@@ -9,7 +9,6 @@ returns-clause-answers g c =
     let reading = read_from g.F.Files.held g.F.Files.faults g.F.Files.misses g.F.Files.blamed c.args.files.now
     c.answer_search.new.files in
     let writing = wrote_to g.S.Sink.written g.S.Sink.faults g.S.Sink.sure c.args.out.now c.answer_search.new.out in
-    let asked = c.args.search.now in
     search_concludes _ (λ rows q. within rows q c.args.radius)
-    reading writing _ asked.series.now asked.queries.now asked.options.now c.answer_search.ensures.answers
+    reading writing _ c.args.series.now c.args.queries.now c.args.options.now c.answer_search.ensures.answers
     (λ at i q made met. search rules)

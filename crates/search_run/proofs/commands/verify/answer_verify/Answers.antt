@@ -12,15 +12,14 @@ pub returns-in_err-both-clause-answers : goal.returns-in_err-both-clause-answers
 returns-in_err-both-clause-answers g c =
     let reading = read_from g.F.Files.held g.F.Files.faults g.F.Files.misses g.F.Files.blamed c.args.files.now
     c.read_both.new.files in
-    let search_for = c.args.search.now in
     let certificate = c.args.certificate.now in
-    let plan = verify_plan search_for.series.now search_for.queries.now certificate search_for.options.now in
+    let plan = verify_plan c.args.series.now c.args.queries.now certificate c.args.options.now in
     let status = c.in_err-both.field-0.0 in
     let told = err_from_is_err_and c.from_residual.result c.from_residual.ensures.1 in
     rw (told.1, told.2)
     (refusal_concludes _ _ reading plan _ status
-    (files_refused reading search_for.series.now search_for.queries.now search_for.options.now
-    (verify_rest certificate search_for.options.now) status c.in_err-both.ensures.refused) refl)
+    (files_refused reading c.args.series.now c.args.queries.now c.args.options.now
+    (verify_rest certificate c.args.options.now) status c.in_err-both.ensures.refused) refl)
 
 pub returns-in_err-check_certificate-clause-answers : goal.returns-in_err-check_certificate-clause-answers
 returns-in_err-check_certificate-clause-answers g c =
@@ -28,12 +27,11 @@ returns-in_err-check_certificate-clause-answers g c =
     c.check_certificate.new.files in
     let after = read_from g.F.Files.held g.F.Files.faults g.F.Files.misses g.F.Files.blamed c.read_both.new.files
     c.check_certificate.new.files in
-    let search_for = c.args.search.now in
     let certificate = c.args.certificate.now in
-    let plan = verify_plan search_for.series.now search_for.queries.now certificate search_for.options.now in
+    let plan = verify_plan c.args.series.now c.args.queries.now certificate c.args.options.now in
     let both = c.in_ok-both.both in
     let before = c.in_ok-both.ensures in
-    let subject = subject_of both.series both.queries search_for.options.now in
+    let subject = subject_of both.series both.queries c.args.options.now in
     let status = c.in_err-check_certificate.field-0.0 in
     let named : c.as_str.result.now ≡ certificate = search rules in
     let refused = subst (λ name. RefusesCertificate (IsFault subject) reading name status) named
