@@ -10,13 +10,15 @@ use Rattle.subtree_build.specs.Index.{IndexParts}
 use Rattle.subtree_build.specs.Start.{start_leaf_of}
 use Rattle.search_machine.specs.declared.phase.Phase.{Phase}
 use Rattle.search_machine.specs.declared.phase.Phase.TheVariants.{Claim, Look, Give, Late, Aim, Pop, Offer, Done}
+use Rattle.query_core.specs.declared.stage.Stage.{Stage}
+use Rattle.query_core.specs.declared.stage.Stage.TheVariants.{Claim as ClaimStage, Look as LookStage, Give as GiveStage, Late as LateStage, Aim as AimStage, Pop as PopStage, Offer as OfferStage, Done as DoneStage}
 use Rattle.search_machine.specs.declared.phase.Onward.{Onward}
 use Rattle.search_machine.specs.declared.phase.Onward.TheVariants.{Look as ToLook, Aim as ToAim}
 use Rattle.search_machine.specs.Ground.{Ground, pair_of, opening}
 use Rattle.search_machine.specs.Workers.{Worker, is_new, leader, idle}
 use Rattle.search_machine.specs.Outcome.{is_start}
-use Rattle.query_core.specs.Questions.{Question, CanBeSearched, leaf_bound, view_in, search_over}
-use Rattle.query_core.specs.Walks.{Walked}
+use Rattle.query_core.specs.Questions.{Question, CanBeSearched, view_in, search_over}
+use Rattle.query_core.specs.Walks.{IsEntry, Walked}
 
 -- a worker: the question and the index, its number, the number of queues, its phase, the leaves that it has still to
 -- look at, its list, and for each leaf whether it scanned it
@@ -54,16 +56,27 @@ abbrev pub OnwardInRange : ℕ → Onward → Type 0
 OnwardInRange queues ToLook = Unit {0}
 OnwardInRange queues (ToAim j) = j < queues
 
--- The leaf and the place that a phase names are there. In Give the bound that is kept beside it is the leaf's.
-abbrev pub PhaseInRange : View → IndexParts → ℕ → ℕ → Phase → Type 0
-PhaseInRange view ix queues bound Claim = Unit {0}
-PhaseInRange view ix queues bound Look = Unit {0}
-PhaseInRange view ix queues bound (Give l) = (l < length ix.leaves) × (bound ≡ leaf_bound view ix l)
-PhaseInRange view ix queues bound (Late l) = l < length ix.leaves
-PhaseInRange view ix queues bound (Aim j) = j < queues
-PhaseInRange view ix queues bound (Pop j v) = j < queues
-PhaseInRange view ix queues bound (Offer next) = OnwardInRange queues next
-PhaseInRange view ix queues bound Done = Unit {0}
+-- the machine's phase of a stage
+abbrev pub phase_of : Stage → Phase
+phase_of ClaimStage = Claim
+phase_of LookStage = Look
+phase_of (GiveStage e) = Give e.leaf
+phase_of (LateStage e) = Late e.leaf
+phase_of (AimStage j) = Aim j
+phase_of (PopStage j v) = Pop j v
+phase_of (OfferStage next) = Offer next
+phase_of DoneStage = Done
+
+-- the leaf in the hand is a leaf with its bound, and the place of the round is there
+abbrev pub StageInRange : View → IndexParts → ℕ → Stage → Type 0
+StageInRange view ix queues ClaimStage = Unit {0}
+StageInRange view ix queues LookStage = Unit {0}
+StageInRange view ix queues (GiveStage e) = IsEntry view ix e
+StageInRange view ix queues (LateStage e) = IsEntry view ix e
+StageInRange view ix queues (AimStage j) = j < queues
+StageInRange view ix queues (PopStage j v) = j < queues
+StageInRange view ix queues (OfferStage next) = OnwardInRange queues next
+StageInRange view ix queues DoneStage = Unit {0}
 
 -- worker i over m queues, for this question over this index
 pub record IsOf (a : Question) (ix : IndexParts) (m i : ℕ) (w : Working) : Type 0 where
@@ -72,10 +85,10 @@ pub record IsOf (a : Question) (ix : IndexParts) (m i : ℕ) (w : Working) : Typ
   pub number : w.number ≡ i
   pub queues : w.queues ≡ m
 
--- what every worker keeps, with its start leaf, its walk, its list and the bound beside its phase: its index can be searched for its question; its
--- number, its queues, its phase and its marks are within their limits; its walk is over its index; its list has room for as
+-- what every worker keeps, with its start leaf, its walk, its list and its stage: its index can be searched for its question;
+-- its number, its queues, its stage and its marks are within their limits; its walk is over its index; its list has room for as
 -- many pairs as are wanted, and holds what was found in leaves with marks
-pub record IsWorking (start : Option ℕ) (walk : Walked) (best : Best) (bound : ℕ) (w : Working) : Type 0 where
+pub record IsWorking (start : Option ℕ) (walk : Walked) (best : Best) (stage : Stage) (w : Working) : Type 0 where
   pub searched : CanBeSearched w.question w.index
   pub number_limit : w.number < 64
   pub some_queue : 0 < w.queues
@@ -85,7 +98,7 @@ pub record IsWorking (start : Option ℕ) (walk : Walked) (best : Best) (bound :
   pub wanted : best.k ≡ w.question.k
   pub found : IsFound (search_over w.question w.index 1 w.queues) w.marks best.pairs
   pub marks : length w.marks ≡ length w.index.leaves
-  pub phase : PhaseInRange (view_in w.question) w.index w.queues bound w.phase
+  pub range : StageInRange (view_in w.question) w.index w.queues stage
 
 -- the list with which worker i opens: worker 0 has the start leaf's pairs
 abbrev pub opened_list : Ground → ℕ → List Pair

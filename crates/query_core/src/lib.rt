@@ -11,6 +11,7 @@ mod one_thread;
 mod playing;
 mod scan;
 mod shared;
+mod stage;
 mod step;
 mod task;
 mod team;

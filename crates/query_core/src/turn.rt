@@ -2,12 +2,14 @@
 ghost use Rattle.std.specs.Prelude.{◌≡◌, ◌≢◌, ℕ, suc, ◌<◌, ◌≤◌, ◌↔◌, false, cond, nat_lt, length};
 ghost use Rattle.search_machine.specs.Ground.{worst};
 ghost use Rattle.search_machine.specs.Workers.{Worker as Shown, onward, scanned_by};
-ghost use Rattle.query_core.specs.Questions.{last_of};
+ghost use Rattle.query_core.specs.Questions.{last_of, view_in};
+ghost use Rattle.query_core.specs.Walks.{IsEntry};
 ghost use Rattle.query_core.specs.Turning.{Acts, Turns, search_of, taken_by};
 ghost use Rattle.query_core.specs.Working.{IsOf, OnwardInRange, Shows, is_marked};
 
 use crate::scan::distance_of_worst;
 use crate::shared::Shared;
+use crate::stage::Stage;
 use crate::worker::Worker;
 use search_machine::{Onward, Phase, Reply};
 use series_core::{Entry, PopReply, PutReply, Rows, far};
@@ -35,7 +37,7 @@ impl<'a, R: Rows> Worker<'a, R> {
     {
         // the reply is the one by which the turn is a turn of the machine
         let _reply = self.act(hand);
-        if self.phase == Phase::Done {
+        if self.is_done() {
             Turn::Done
         } else {
             Turn::More
@@ -49,15 +51,15 @@ impl<'a, R: Rows> Worker<'a, R> {
         requires roots { S.roots hand.old ≡ length self.old.index.roots }
         ensures { Acts S.floor S.roots S.did hand.old hand.new self.old self.new result }
     {
-        match self.phase {
-            Phase::Claim => self.claim(hand),
-            Phase::Look => self.look(hand),
-            Phase::Give(leaf) => self.give(hand, leaf),
-            Phase::Late(leaf) => self.scan_late(hand, leaf),
-            Phase::Aim(place) => self.aim(hand, place),
-            Phase::Pop(place, limit) => self.pop(hand, place, limit),
-            Phase::Offer(next) => self.offer(hand, next),
-            Phase::Done => unreachable!(),
+        match self.stage {
+            Stage::Claim => self.claim(hand),
+            Stage::Look => self.look(hand),
+            Stage::Give(entry) => self.give(hand, entry),
+            Stage::Late(entry) => self.scan_late(hand, entry),
+            Stage::Aim(place) => self.aim(hand, place),
+            Stage::Pop(place, limit) => self.pop(hand, place, limit),
+            Stage::Offer(next) => self.offer(hand, next),
+            Stage::Done => unreachable!(),
         }
     }
 
@@ -70,11 +72,11 @@ impl<'a, R: Rows> Worker<'a, R> {
         match hand.claim() {
             Some(root) => {
                 self.walk.begin(root as u32);
-                self.phase = Phase::Look;
+                self.stage = Stage::Look;
                 Reply::Claimed(Some(root))
             }
             None => {
-                self.phase = Phase::Aim(0);
+                self.stage = Stage::Aim(0);
                 Reply::Claimed(None)
             }
         }
@@ -89,43 +91,43 @@ impl<'a, R: Rows> Worker<'a, R> {
         let limit = hand.read();
         match self.walk.next(self.task.view(), far(limit), self.start) {
             Some(entry) => {
-                self.bound = entry.bound;
-                self.phase = Phase::Give(entry.leaf);
+                self.stage = Stage::Give(entry);
                 Reply::Seen(limit)
             }
             None => {
-                self.phase = Phase::Claim;
+                self.stage = Stage::Claim;
                 Reply::Seen(limit)
             }
         }
     }
 
     // Puts a leaf into its queue; where that is refused, keeps it in hand.
-    fn give<S: Shared>(&mut self, hand: &mut S, leaf: u32) -> Reply
-        requires phase { self.old.phase ≡ Phase.Give leaf }
+    fn give<S: Shared>(&mut self, hand: &mut S, entry: Entry) -> Reply
+        requires phase { self.old.phase ≡ Phase.Give entry.leaf }
+        requires entry { IsEntry (view_in self.old.question) self.old.index entry }
         ensures { Acts S.floor S.roots S.did hand.old hand.new self.old self.new result }
     {
-        let bound = self.bound;
-        let told = hand.put(leaf % self.queues, Entry { bound, leaf });
-        self.phase = match told {
-            PutReply::Placed => Phase::Look,
-            PutReply::Shut(_) | PutReply::Filled(_) => Phase::Late(leaf),
+        let told = hand.put(entry.leaf % self.queues, entry);
+        self.stage = match told {
+            PutReply::Placed => Stage::Look,
+            PutReply::Shut(_) | PutReply::Filled(_) => Stage::Late(entry),
         };
         Reply::PutTold(told)
     }
 
     // Scans the leaf in its hand, whose put was refused, or cuts it where its bound is above the limit.
-    fn scan_late<S: Shared>(&mut self, hand: &mut S, leaf: u32) -> Reply
-        requires phase { self.old.phase ≡ Phase.Late leaf }
+    fn scan_late<S: Shared>(&mut self, hand: &mut S, entry: Entry) -> Reply
+        requires phase { self.old.phase ≡ Phase.Late entry.leaf }
+        requires entry { IsEntry (view_in self.old.question) self.old.index entry }
         requires floor { S.floor hand.old ≡ last_of self.old.question }
         ensures { Acts S.floor S.roots S.did hand.old hand.new self.old self.new result }
     {
         let limit = hand.read();
-        if self.bound_of(leaf) <= far(limit) {
-            self.take(leaf, limit, Onward::Look);
+        if entry.bound <= far(limit) {
+            self.take(entry.leaf, limit, Onward::Look);
             Reply::Seen(limit)
         } else {
-            self.phase = Phase::Look;
+            self.stage = Stage::Look;
             Reply::Seen(limit)
         }
     }
@@ -133,11 +135,12 @@ impl<'a, R: Rows> Worker<'a, R> {
     // Reads the limit of the next pop.
     fn aim<S: Shared>(&mut self, hand: &mut S, place: u32) -> Reply
         requires phase { self.old.phase ≡ Phase.Aim place }
+        requires place { place < self.old.queues }
         requires floor { S.floor hand.old ≡ last_of self.old.question }
         ensures { Acts S.floor S.roots S.did hand.old hand.new self.old self.new result }
     {
         let limit = hand.read();
-        self.phase = Phase::Pop(place, limit);
+        self.stage = Stage::Pop(place, limit);
         Reply::Seen(limit)
     }
 
@@ -145,6 +148,7 @@ impl<'a, R: Rows> Worker<'a, R> {
     // and is done after the last.
     fn pop<S: Shared>(&mut self, hand: &mut S, place: u32, limit: u64) -> Reply
         requires phase { self.old.phase ≡ Phase.Pop place limit }
+        requires place { place < self.old.queues }
         ensures { Acts S.floor S.roots S.did hand.old hand.new self.old self.new result }
     {
         match hand.pop((self.number + place) % self.queues, limit) {
@@ -153,7 +157,7 @@ impl<'a, R: Rows> Worker<'a, R> {
                 Reply::PopTold(PopReply::Leaf(entry))
             }
             PopReply::Closed(kept) => {
-                self.phase = phase_after_close(place, self.queues);
+                self.stage = Stage::after_close(place, self.queues);
                 Reply::PopTold(PopReply::Closed(kept))
             }
         }
@@ -162,11 +166,12 @@ impl<'a, R: Rows> Worker<'a, R> {
     // Offers the distance of its k-th pair.
     fn offer<S: Shared>(&mut self, hand: &mut S, next: Onward) -> Reply
         requires phase { self.old.phase ≡ Phase.Offer next }
+        requires next { OnwardInRange self.old.queues next }
         requires floor { S.floor hand.old ≡ last_of self.old.question }
         ensures { Acts S.floor S.roots S.did hand.old hand.new self.old self.new result }
     {
         let offered = hand.offer(self.worst());
-        self.phase = next.phase();
+        self.stage = Stage::onward(next);
         Reply::Offered(offered)
     }
 
@@ -177,14 +182,6 @@ impl<'a, R: Rows> Worker<'a, R> {
         ensures within { leaf < length self.now.marks }
     {
         self.marks[leaf as usize]
-    }
-
-    // The lower bound of a leaf.
-    fn bound_of(&self, leaf: u32) -> u64
-        requires { leaf < length self.now.index.leaves }
-        ensures { result ≡ (search_of self.now 1).bound leaf }
-    {
-        self.task.view().bound_word(self.index.leaf_word(leaf))
     }
 
     // The distance of its k-th pair, or `NONE` where it holds fewer.
@@ -206,7 +203,7 @@ impl<'a, R: Rows> Worker<'a, R> {
         if leaf < self.index.leaf_count() && !self.has_scanned(leaf) {
             self.scan(leaf, limit, next);
         } else {
-            self.phase = next.phase();
+            self.stage = Stage::onward(next);
         }
     }
 
@@ -222,30 +219,6 @@ impl<'a, R: Rows> Worker<'a, R> {
         self.task
             .scan(self.index.leaf_members(leaf), limit, &mut self.list);
         self.marks[leaf as usize] = true;
-        self.phase = phase_after_scan(distance_of_worst(&self.list), limit, next);
-    }
-}
-
-// After a queue that is closed comes the next of the round, and after the last nothing.
-fn phase_after_close(place: u32, queues: u32) -> Phase
-    requires few { queues ≤ 64 }
-    requires place { place < queues }
-    ensures { result ≡ cond (nat_lt (suc place) queues) (Phase.Aim (suc place)) Phase.Done }
-{
-    if place + 1 < queues {
-        Phase::Aim(place + 1)
-    } else {
-        Phase::Done
-    }
-}
-
-// An offer where the k-th pair is nearer than the limit, and else onward.
-fn phase_after_scan(worst: u64, limit: u64, next: Onward) -> Phase
-    ensures { result ≡ cond (nat_lt worst limit) (Phase.Offer next) (onward next) }
-{
-    if worst < limit {
-        Phase::Offer(next)
-    } else {
-        next.phase()
+        self.stage = Stage::after_scan(distance_of_worst(&self.list), limit, next);
     }
 }

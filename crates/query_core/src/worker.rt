@@ -3,14 +3,16 @@ ghost use Rattle.std.specs.Prelude.{◌≡◌, ◌<◌, ◌≤◌, ◌↔◌, Is
 ghost use Rattle.std.specs.Option.{option_map};
 ghost use Rattle.subtree_build.specs.Fits.{Fits as IndexFits};
 ghost use Rattle.search_machine.specs.Basics.{start_of};
+ghost use Rattle.search_machine.specs.declared.phase.Phase.TheVariants.{Done};
 ghost use Rattle.search_machine.specs.Workers.{fills};
 ghost use Rattle.query_core.specs.Questions.{search_over};
 ghost use Rattle.query_core.specs.Working.{AreOpeningMarks, IsOf, Shows, opened_list, opens_as};
 
+use crate::stage::Stage;
 use crate::task::Task;
 use crate::walk::Walk;
 use outside::NoMemory;
-use search_machine::{Onward, Phase, Start};
+use search_machine::{Onward, Start};
 use series_core::{KBest, Rows};
 use std::alloc::Global;
 use std::marker::Model;
@@ -25,9 +27,7 @@ pub struct Worker<'a, R: Rows> {
     pub(crate) number: u32,
     pub(crate) queues: u32,
     pub(crate) start: Option<u32>,
-    pub(crate) phase: Phase,
-    // in Give the lower bound of its leaf
-    pub(crate) bound: u64,
+    pub(crate) stage: Stage,
     pub(crate) walk: Walk<'a>,
     pub(crate) list: KBest,
     pub(crate) marks: Vec<bool>,
@@ -37,7 +37,7 @@ impl<'a, R: Rows> Model for Worker<'a, R> {
     ghost use Rattle.std.specs.Coded.{codes};
     ghost use Rattle.subtree_build.specs.contracts.node.Node as node;
     ghost use Rattle.search_machine.specs.Workers.{without};
-    ghost use Rattle.query_core.specs.Working.{Working, IsWorking};
+    ghost use Rattle.query_core.specs.Working.{Working, IsWorking, phase_of};
 
     ghost Value = { Working };
 
@@ -48,18 +48,18 @@ impl<'a, R: Rows> Model for Worker<'a, R> {
       index = w.index.now;
       number = w.number;
       queues = w.queues;
-      phase = w.phase;
+      phase = phase_of w.stage;
       rest = without w.start w.walk.leaves;
       list = w.list.pairs;
       marks = w.marks.items;
     } };
 
-    ghost invariant = { λ w. IsWorking w.start w.walk w.list w.bound (record {
+    ghost invariant = { λ w. IsWorking w.start w.walk w.list w.stage (record {
       question = w.task.now;
       index = w.index.now;
       number = w.number;
       queues = w.queues;
-      phase = w.phase;
+      phase = phase_of w.stage;
       rest = without w.start w.walk.leaves;
       list = w.list.pairs;
       marks = w.marks.items;
@@ -101,8 +101,7 @@ impl<'a, R: Rows> Worker<'a, R> {
             number,
             queues,
             start,
-            phase: Phase::Claim,
-            bound: 0,
+            stage: Stage::Claim,
             walk,
             list,
             marks,
@@ -113,18 +112,22 @@ impl<'a, R: Rows> Worker<'a, R> {
     pub fn filled(&self) -> bool
         ensures { result ≡ not (fills self.now.phase) }
     {
-        match self.phase {
-            Phase::Claim | Phase::Look | Phase::Give(_) | Phase::Late(_) => false,
-            Phase::Offer(Onward::Look) => false,
-            Phase::Aim(_) | Phase::Pop(_, _) | Phase::Offer(Onward::Aim(_)) | Phase::Done => true,
+        match self.stage {
+            Stage::Claim | Stage::Look | Stage::Give(_) | Stage::Late(_) => false,
+            Stage::Offer(Onward::Look) => false,
+            Stage::Aim(_) | Stage::Pop(_, _) | Stage::Offer(Onward::Aim(_)) | Stage::Done => true,
         }
     }
 
     /// Whether it is done.
     pub(crate) fn is_done(&self) -> bool
-        ensures { IsTrue result ↔ (self.now.phase ≡ Phase.Done) }
+        ensures { IsTrue result ↔ (self.now.phase ≡ Done) }
     {
-        self.phase == Phase::Done
+        match self.stage {
+            Stage::Claim | Stage::Look | Stage::Give(_) | Stage::Late(_) => false,
+            Stage::Aim(_) | Stage::Pop(_, _) | Stage::Offer(_) => false,
+            Stage::Done => true,
+        }
     }
 
     /// Lends its list.

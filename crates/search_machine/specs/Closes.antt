@@ -125,6 +125,12 @@ pub record Closes (g : Ground) (team : List Member) (qs : List PlainQueue) : Typ
   pub queue_count : length qs ≡ g.queues
   pub queues : (m : ℕ) (q : PlainQueue) → slice_get qs m ≡ Some q → QueueCloses g team m q
 
+-- what they say where no put was refused and each queue's entries were taken in order
+pub record ClosesStraight (g : Ground) (team : List Member) (qs : List PlainQueue) : Type 0 where
+  pub closes : Closes g team qs
+  pub placed : NoneRefused team
+  pub order : TakenInOrder qs
+
 -- the state that the members and the closed queues make: all root children are claimed
 abbrev pub final : Ground → List Member → List PlainQueue → State
 final g team queues = record {

@@ -9,21 +9,6 @@ pub enum Onward {
     Aim(u32),
 }
 
-impl Onward {
-    ghost use Rattle.std.specs.Prelude.{◌≡◌};
-    ghost use Rattle.search_machine.specs.Workers.{onward};
-
-    /// The phase in which it goes on.
-    pub fn phase(self) -> Phase
-        ensures { result ≡ onward self }
-    {
-        match self {
-            Onward::Look => Phase::Look,
-            Onward::Aim(place) => Phase::Aim(place),
-        }
-    }
-}
-
 /// What the next turn of a worker does: it makes one call, and the reply decides the phase after
 /// it.
 #[derive(Clone, Copy, PartialEq, Eq, Debug)]

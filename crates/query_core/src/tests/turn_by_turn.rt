@@ -1,28 +1,28 @@
-//! One search turn by turn: the phase, the list and the end of its worker after each turn, as worked by hand.
+//! One search turn by turn: the stage, the list and the end of its worker after each turn, as worked by hand.
 use crate::team::Team;
-use crate::{Phase, Task};
+use crate::{Stage, Task};
 use breakpoints::Table;
 use isax_word::Layout;
 use outside::NoGate;
 use segment_sums::Cuts;
-use series_core::{Flat, Pair};
+use series_core::{Entry, Flat, Pair};
 use std::test::*;
 use subtree_build::{Settings, build};
 
-// The phase after each of eleven turns, and the number of the nearest series that is known then.
-const PHASES: [(Phase, u32); 12] = [
-    (Phase::Claim, 1),
-    (Phase::Look, 1),
-    (Phase::Give(0), 1),
-    (Phase::Look, 1),
-    (Phase::Claim, 1),
-    (Phase::Look, 1),
-    (Phase::Claim, 1),
-    (Phase::Aim(0), 1),
-    (Phase::Pop(0, 1), 1),
-    (Phase::Aim(0), 0),
-    (Phase::Pop(0, 1), 0),
-    (Phase::Done, 0),
+// The stage after each of eleven turns, and the number of the nearest series that is known then.
+const STAGES: [(Stage, u32); 12] = [
+    (Stage::Claim, 1),
+    (Stage::Look, 1),
+    (Stage::Give(Entry { bound: 1, leaf: 0 }), 1),
+    (Stage::Look, 1),
+    (Stage::Claim, 1),
+    (Stage::Look, 1),
+    (Stage::Claim, 1),
+    (Stage::Aim(0), 1),
+    (Stage::Pop(0, 1), 1),
+    (Stage::Aim(0), 0),
+    (Stage::Pop(0, 1), 0),
+    (Stage::Done, 0),
 ];
 
 #[test]
@@ -40,9 +40,9 @@ fn eleven_turns_of_one_worker(rt: HostRuntime) -> Result<(), Fail> {
     let index = build(&rt, alloc, &rows, &settings, 1, &NoGate)?;
     let task = Task::new(&rows, &[0], 1, &layout);
     let mut team = Team::open(alloc, &task, &index, 1, 1)?;
-    for (turn, (phase, nearest)) in PHASES.iter().enumerate() {
+    for (turn, (stage, nearest)) in STAGES.iter().enumerate() {
         for worker in &team.workers {
-            assert_eq!(rt; worker.phase, *phase, "after {turn} turns");
+            assert_eq!(rt; worker.stage, *stage, "after {turn} turns");
             assert_eq!(rt; worker.filled(), turn >= 7, "after {turn} turns");
             let pair = Pair {
                 distance: 1,

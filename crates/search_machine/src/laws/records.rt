@@ -14,7 +14,7 @@ ghost use Rattle.search_machine.specs.OwnRecord.{Member, nothing_yet};
 ghost use Rattle.search_machine.specs.Stands.{Stands, StandsFor};
 ghost use Rattle.search_machine.specs.declared.calls.Reply.{Reply};
 ghost use Rattle.search_machine.specs.Replies.{ReplyFits, after};
-ghost use Rattle.search_machine.specs.Closes.{AllStand, ClaimedOnce, Closes, NoneRefused, TakenInOrder, final, puts_by, puts_into};
+ghost use Rattle.search_machine.specs.Closes.{AllStand, ClaimedOnce, Closes, ClosesStraight, final, puts_by, puts_into};
 
 /// As they open, worker 0 and the other workers stand for the empty record.
 pub fn empty_record_law()
@@ -38,8 +38,7 @@ pub fn closing_law()
 /// enough for a straight outcome.
 pub fn straight_closing_law()
     ensures { (g : Ground) → Fits g → (team : List Member) (queues : List PlainQueue)
-        → Closes g team queues → NoneRefused team → TakenInOrder queues
-        → IsStraight (outcome g (final g team queues)) }
+        → ClosesStraight g team queues → IsStraight (outcome g (final g team queues)) }
 {}
 
 /// Members that stand for their records, where no number was claimed twice, put no leaf twice, and make no more puts into a
@@ -59,7 +58,10 @@ pub fn workers_law()
 
 /// From its first aim on a worker neither claims nor puts, whatever a hand answers.
 pub fn draining_law()
-    ensures { (g : Ground) (i : ℕ) (x : Member) (reply : Reply)
-        → fills x.worker.phase ≡ false → let y = after g i x reply in
-        (fills y.worker.phase ≡ false) × (y.own.claims ≡ x.own.claims) × (y.own.puts ≡ x.own.puts) }
+    ensures ended { (g : Ground) (i : ℕ) (x : Member) (reply : Reply)
+        → fills x.worker.phase ≡ false → fills (after g i x reply).worker.phase ≡ false }
+    ensures claims { (g : Ground) (i : ℕ) (x : Member) (reply : Reply)
+        → fills x.worker.phase ≡ false → (after g i x reply).own.claims ≡ x.own.claims }
+    ensures puts { (g : Ground) (i : ℕ) (x : Member) (reply : Reply)
+        → fills x.worker.phase ≡ false → (after g i x reply).own.puts ≡ x.own.puts }
 {}

@@ -39,7 +39,7 @@ invariant_of-result g c =
           (sym (ap (λ (b : Best). b.pairs) c.requires.list))
           (opener_found search fits c.args.number c.in_ok-marks.marks.items marks);
       marks = marks.count;
-      phase = tt;
+      range = tt;
     }
 
 pub returns-clause-opens : goal.returns-clause-opens

@@ -1,6 +1,6 @@
 use Rattle.std.proofs.Common.{◌≡◌, ◌<◌, false, length, refl, sym, subst, arith}
-use Rattle.std.specs.Prelude.{nat_lt}
-use Rattle.query_core.specs.Working.{OnwardInRange, is_marked}
+use Rattle.query_core.specs.Questions.{view_in}
+use Rattle.query_core.specs.Working.{OnwardInRange, is_marked, phase_of}
 use Rattle.query_core.proofs.Homes.{leaf_is_members}
 use Rattle.query_core.proofs.Keeping.{scan_keeps}
 use Rattle.query_core.proofs.Showing.{scan_shown_as}
@@ -20,12 +20,13 @@ invariant_of-self g c =
     let inside = c.self.inside in
     let back = sym c.self.view_is in
     let pairs = c.scan.ensures.pairs inside.index.now 1 inside.queues in
-    scan_keeps inside.start inside.walk inside.list c.scan.new.list inside.bound _ c.args.leaf c.args.limit c.args.next
-    (nat_lt c.distance_of_worst.result c.args.limit) c.phase_after_scan-self-inside.result c.self.invariant refl
+    scan_keeps inside.start inside.walk inside.list c.scan.new.list inside.stage c.after_scan-self-inside.result _
+    c.args.leaf c.args.limit c.self.invariant refl
     (subst (λ w. c.args.leaf < length w.index.leaves) back c.requires.leaf)
     (subst (λ w. is_marked w.marks c.args.leaf ≡ false) back c.requires.new)
-    (subst (λ w. OnwardInRange w.queues c.args.next) back c.requires.next)
-    c.scan.ensures.k (rw (← c.leaf_members.ensures) pairs) c.phase_after_scan-self-inside.ensures
+    c.scan.ensures.k (rw (← c.leaf_members.ensures) pairs)
+    (c.after_scan-self-inside.ensures.range (view_in inside.task.now) inside.index.now inside.queues
+    (subst (λ w. OnwardInRange w.queues c.args.next) back c.requires.next))
 
 pub returns-clause-scanned : goal.returns-clause-scanned
 returns-clause-scanned g c workers m shows =
@@ -36,7 +37,7 @@ returns-clause-scanned g c workers m shows =
     let leaf : c.args.leaf < length inside.index.now.leaves =
     subst (λ w. c.args.leaf < length w.index.leaves) back c.requires.leaf in
     scan_shown_as _ c.args.self.now workers m c.args.leaf c.args.limit c.args.next c.scan.new.list.pairs
-    c.phase_after_scan-self-inside.result c.scan.new.list.k c.distance_of_worst.result c.self.view_is shows
+    (phase_of c.after_scan-self-inside.result) c.scan.new.list.k c.distance_of_worst.result c.self.view_is shows
     (subst (λ n. c.args.leaf < n) (sym kept.marks) leaf) (omega (arith, c.ranges.limit))
     (rw (← c.leaf_members.ensures) pairs) c.scan.ensures.k c.distance_of_worst.ensures
-    c.phase_after_scan-self-inside.ensures
+    c.after_scan-self-inside.ensures.phase
