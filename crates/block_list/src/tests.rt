@@ -12,6 +12,9 @@ fn numbers(alloc: Global, from: u32, to: u32) -> Result<BlockList<u32>, Unplaced
     Ok(list)
 }
 
+/// What a test says where a push is refused, and nothing may be refused.
+const REFUSED: &str = "a push was refused";
+
 /// How many numbers stand in the list, if they are those from 0 on in order.
 fn counted(list: &BlockList<u32>) -> Option<u32> {
     let mut next = 0u32;
@@ -25,48 +28,40 @@ fn counted(list: &BlockList<u32>) -> Option<u32> {
 }
 
 #[test]
-fn seventeen_and_twenty_are_thirty_seven(rt: HostRuntime) {
+fn seventeen_and_twenty_are_thirty_seven(rt: HostRuntime) -> Result<(), Fail> {
     let alloc = rt.alloc();
-    let (Ok(mut first), Ok(second)) = (numbers(alloc, 0, 17), numbers(alloc, 17, 37)) else {
-        return;
-    };
-    first.append(second);
+    let mut first = numbers(alloc, 0, 17).ok().ok_or(REFUSED)?;
+    first.append(numbers(alloc, 17, 37).ok().ok_or(REFUSED)?);
     assert_eq!(rt; counted(&first), Some(37));
+    Ok(())
 }
 
 #[test]
-fn each_two_lists_in_each_order(rt: HostRuntime) {
+fn each_two_lists_in_each_order(rt: HostRuntime) -> Result<(), Fail> {
     let alloc = rt.alloc();
     for a in [0u32, 1, 16, 17] {
         for b in [0u32, 1, 16, 17] {
-            let (Ok(mut first), Ok(second)) = (numbers(alloc, 0, a), numbers(alloc, a, a + b))
-            else {
-                return;
-            };
-            first.append(second);
+            let mut first = numbers(alloc, 0, a).ok().ok_or(REFUSED)?;
+            first.append(numbers(alloc, a, a + b).ok().ok_or(REFUSED)?);
             assert_eq!(rt; counted(&first), Some(a + b), "{a} and {b}");
-            if first.push(alloc, a + b).is_ok() {
-                assert_eq!(rt;
-                    counted(&first),
-                    Some(a + b + 1),
-                    "{a} and {b}, and one more"
-                );
-            }
+            first.push(alloc, a + b).ok().ok_or(REFUSED)?;
+            assert_eq!(rt;
+                counted(&first),
+                Some(a + b + 1),
+                "{a} and {b}, and one more"
+            );
         }
     }
+    Ok(())
 }
 
 #[test]
-fn a_million_items(rt: HostRuntime) {
+fn a_million_items(rt: HostRuntime) -> Result<(), Fail> {
     let alloc = rt.alloc();
-    let (Ok(mut list), Ok(rest)) = (
-        numbers(alloc, 0, 500_000),
-        numbers(alloc, 500_000, 1_000_000),
-    ) else {
-        return;
-    };
-    list.append(rest);
+    let mut list = numbers(alloc, 0, 500_000).ok().ok_or(REFUSED)?;
+    list.append(numbers(alloc, 500_000, 1_000_000).ok().ok_or(REFUSED)?);
     assert_eq!(rt; counted(&list), Some(1_000_000));
+    Ok(())
 }
 
 #[test]

@@ -1,13 +1,14 @@
--- Root numbers and one-bit words correspond: a full word is contained in the one-bit word of its
--- root number (`root_contains_own`) and in no other (`root_contains_one`).
-use Rattle.std.proofs.Common.{◌≡◌, ℕ, zero, suc, ◌+◌, ◌-◌, ◌*◌, ◌/◌, ◌%◌, ◌^◌, ◌<◌, ◌≤◌, true, arith, refl, sym, ap, ◌∙◌, List, [], ◌∷◌, length, drop, get_or}
+-- Root numbers and one-bit words correspond one to one (`one_bit_word_apart`, `one_bit_word_each`): a full word is
+-- contained in the one-bit word of its root number (`root_contains_own`) and in no other (`root_contains_one`).
+use Rattle.std.proofs.Common.{◌≡◌, ℕ, zero, suc, ◌+◌, ◌-◌, ◌*◌, ◌/◌, ◌%◌, ◌^◌, ◌<◌, ◌≤◌, true, arith, refl, sym, ap, subst, ◌∙◌, List, [], ◌∷◌, length, drop, get_or}
 use Rattle.std.specs.List.{All}
 use Rattle.std.proofs.lemmas.Bool.{and_parts, and_from, eqb-true, eq-eqb}
 use Rattle.std.proofs.lemmas.List.{at_drop_more, length-drop}
 use Rattle.std.proofs.lemmas.List.Elements.{All-head, All-tail, All-nil, All-cons}
 use Rattle.std.proofs.lemmas.Nat.{pow_pos, pow-add, shr_high, mod_low, shr_split, div_below, mod_below, mul-le}
 use Rattle.isax_word.specs.FullWord.{first_bit, root_number}
-use Rattle.isax_word.specs.Word.{IsPart, IsWord, word_contains, one_bit_word}
+use Rattle.isax_word.specs.declared.word.Part.{Part}
+use Rattle.isax_word.specs.Word.{IsPart, IsWord, part_at, word_contains, one_bit_word}
 
 -- a symbol of eight bits
 abbrev pub IsByte : ℕ → Type 0
@@ -88,6 +89,45 @@ IsWord-one_bit_word root w some few small =
       few_parts = omega (arith, long);
       parts = one_bit_word_parts root w small;
     }
+
+-- numbers of as many bits that have the same one-bit word are the same
+pub one_bit_word_apart : (root other w : ℕ) → root < 2 ^ w → other < 2 ^ w
+    → one_bit_word root w ≡ one_bit_word other w → root ≡ other
+one_bit_word_apart root other zero small less same = omega arith
+one_bit_word_apart root other (suc w) small less same =
+    let place = 2 ^ w in
+    let high : root / place ≡ other / place = ap (λ word. (part_at word 0).prefix) same in
+    let low : root % place ≡ other % place
+    = one_bit_word_apart (root % place) (other % place) w (mod_below root place (pow_pos w))
+    (mod_below other place (pow_pos w)) (ap (λ word. drop 1 word) same) in
+    sym (shr_split root w)
+    ∙ ap (λ b. b * place + root % place) high
+    ∙ ap (λ r. other / place * place + r) low
+    ∙ shr_split other w
+
+-- a word of one bit a segment is the one-bit word of a number of as many bits
+pub one_bit_word_each : (word : List Part) → All IsPart word → All (λ p. p.bits ≡ 1) word
+    → (root : ℕ) × (root < 2 ^ length word) × (one_bit_word root (length word) ≡ word)
+one_bit_word_each [] parts one = (0, omega arith, refl)
+one_bit_word_each (p ∷ word) parts one =
+    let OneBit = λ (q : Part). q.bits ≡ 1 in
+    let w = length word in
+    let rest = one_bit_word_each word (All-tail IsPart p word parts) (All-tail OneBit p word one) in
+    let own : p.bits ≡ 1 = All-head OneBit p word one in
+    let bit : p.prefix < 2
+    = subst (λ b. p.prefix < 2 ^ b) own (All-head IsPart p word parts).prefix_fits in
+    let most : p.prefix * 2 ^ w ≤ 1 * 2 ^ w
+    = mul-le p.prefix (2 ^ w) 1 (2 ^ w) (omega arith) (omega arith) in
+    let root = p.prefix * 2 ^ w + rest.0 in
+    let high : root / 2 ^ w ≡ p.prefix = shr_high p.prefix w rest.0 rest.1 in
+    let low : root % 2 ^ w ≡ rest.0 = mod_low p.prefix w rest.0 rest.1 in (
+      root,
+      omega (arith, pow_doubles w, rest.1),
+      ap (λ x. record { prefix = x; bits = 1 } ∷ one_bit_word (root % 2 ^ w) w) high
+          ∙ ap (λ r. record { prefix = p.prefix; bits = 1 } ∷ one_bit_word r w) low
+          ∙ ap (λ ps. record { prefix = p.prefix; bits = 1 } ∷ ps) rest.2
+          ∙ ap (λ b. record { prefix = p.prefix; bits = b } ∷ word) (sym own),
+    )
 
 -- reading one symbol more moves its first bit from the rest into the number read so far
 pub root_next : (symbols : List ℕ) (root j whole : ℕ) → j < length symbols

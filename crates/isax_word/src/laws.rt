@@ -1,8 +1,9 @@
 //! Laws of symbols and words that other crates rest on. Each is proved of the definitions alone.
-ghost use Rattle.std.specs.Prelude.{◌≡◌, ◌+◌, ◌-◌, ◌*◌, ◌^◌, ◌<◌, ◌≤◌, ◌↔◌, true, false, not, length, IsTrue, pos, ◌*ℤ◌, ◌<ℤ◌, ◌≤ℤ◌};
+ghost use Rattle.std.specs.Prelude.{ℕ, List, All, ◌≡◌, ◌+◌, ◌-◌, ◌*◌, ◌^◌, ◌<◌, ◌≤◌, ◌↔◌, true, false, not, length, IsTrue, pos, ◌*ℤ◌, ◌<ℤ◌, ◌≤ℤ◌};
 ghost use Rattle.isax_word.specs.Symbol.{symbol_of};
 ghost use Rattle.isax_word.specs.FullWord.{root_number};
-ghost use Rattle.isax_word.specs.Word.{part_at, part_contains, word_contains, child_word, next_bit_at, one_bit_word};
+ghost use Rattle.isax_word.specs.declared.word.Part.{Part};
+ghost use Rattle.isax_word.specs.Word.{IsWord, part_at, part_contains, word_contains, child_word, next_bit_at, one_bit_word};
 ghost use Rattle.breakpoints.specs.Breakpoint.{breakpoint};
 
 use crate::full::Full;
@@ -47,9 +48,17 @@ pub fn child_is_within(word: &Word, segment: u32, high: bool, full: &Full)
     ensures { word_contains word.now full.now ≡ true }
 {}
 
-/// The law that root numbers and words of one bit correspond one to one: the root number of a full word
-/// is below 2 to the number of segments, and of the one-bit words of such numbers the word of the root
-/// number contains it and no other does.
+/// The law that root numbers and words of one bit a segment correspond one to one: different roots have different
+/// words, and each word of one bit a segment is that of a root.
+pub fn roots_and_words_correspond()
+    ensures apart { (root other w : ℕ) → root < 2 ^ w → other < 2 ^ w
+        → one_bit_word root w ≡ one_bit_word other w → root ≡ other }
+    ensures each { (word : List Part) → IsWord word → All (λ p. p.bits ≡ 1) word
+        → (root : ℕ) × (root < 2 ^ length word) × (one_bit_word root (length word) ≡ word) }
+{}
+
+/// The law that just one root contains a full word: the root number of a full word is below 2 to the number of
+/// segments, and of the one-bit words of such numbers the word of the root number contains it and no other does.
 pub fn one_root_contains(full: &Full, root: u32)
     requires { root < 2 ^ length full.now }
     ensures root_is_below { root_number full.now < 2 ^ length full.now }

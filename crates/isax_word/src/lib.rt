@@ -13,7 +13,8 @@ mod word;
 
 pub use full::{Full, root_of};
 pub use laws::{
-    child_is_within, one_child_contains, one_root_contains, symbol_bracket, symbols_of_a_prefix,
+    child_is_within, one_child_contains, one_root_contains, roots_and_words_correspond,
+    symbol_bracket, symbols_of_a_prefix,
 };
 pub use layout::Layout;
 pub use member::Member;

@@ -1,7 +1,7 @@
 -- The visits of all passes at one run say what the closed run is.
-use Rattle.std.proofs.Common.{◌≡◌, ◌≢◌, ◌⊎◌, ℕ, ◌<◌, ◌≤◌, List, length, get_or, map, All, Any, Contains, Option, Some, None, IfSome, true, refl, sym, ◌∙◌, subst, ⊎_elim, arith}
+use Rattle.std.proofs.Common.{◌≡◌, ◌≢◌, ◌⊎◌, ℕ, zero, suc, ◌-◌, ◌*◌, ◌<◌, ◌≤◌, List, length, get_or, map, All, Any, Contains, Option, Some, None, IfSome, true, refl, sym, ap, ◌∙◌, subst, ⊎_elim, arith}
 use Rattle.std.proofs.lemmas.List.{get_or_default}
-use Rattle.std.proofs.lemmas.List.Elements.{All-map}
+use Rattle.std.proofs.lemmas.List.Elements.{All-map, Contains-get_or}
 use mathlib.Core.Logic.{dite}
 use native.Mathlib.Decide.{ℕ_discrete}
 use Rattle.series_core.proofs.EntryOrder.{bounds_rise}
@@ -12,13 +12,15 @@ use Rattle.list_totals.specs.Totals.{total, times, once_below}
 use Rattle.list_totals.proofs.Standing.{contains_in, in_contains}
 use Rattle.list_totals.proofs.Totals.{total_map, once_below_yes, once_below_most, total_le}
 use Rattle.list_totals.proofs.Greatest.{at_most_greatest, greatest_le, greatest_map}
-use Rattle.list_totals.proofs.Places.{total_some, total_two, times_at, times_contains}
+use Rattle.list_totals.proofs.Below.{sum_below_same, totals_by_number}
+use Rattle.list_totals.proofs.Places.{total_place, total_some, total_two, times_at, times_contains}
 use Rattle.series_core.specs.EntryOrder.{IsAscending}
 use Rattle.sealed_runs.specs.Entries.{Run, no_entry, entry_at}
 use Rattle.sealed_runs.specs.Visits.{Visit, handed, leaves, IsVisit, no_visit}
 use Rattle.sealed_runs.specs.Closed.{least_limit, IsLine}
 use Rattle.sealed_runs.specs.Tallied.{Refusals, reach_of, IsTally, Takes}
 use Rattle.sealed_runs.proofs.Members.{contains_map, map_contains, in_or_not}
+use Rattle.sealed_runs.proofs.Taking.{not_counted}
 use Rattle.sealed_runs.proofs.Handing.{handed_drawn, drawn_handed, handed_times}
 use Rattle.sealed_runs.proofs.Limits.{least_limit_at, above_least}
 
@@ -152,6 +154,50 @@ module _ (run : Run) (vs : List Visit) (own : All (IsVisit run) vs) (some : 0 < 
         let most = once_below_most x once.drawn in
         omega arith
 
+    -- a place below the reach is handed out once where it was refused by nobody, and else not
+    handed_count : (x : ℕ) → x < reach_of vs
+        → total (λ (v : Visit). times x (handed v)) vs ≡ 1 - times x refused
+    handed_count x low = ⊎_elim
+        (λ (is : Contains refused x).
+        let some = times_at x refused is.0 x is.1 is.2 in
+        let none = nobody (total (λ (v : Visit). times x (handed v)) vs) (λ handed_some.
+        let who = total_some (λ (v : Visit). times x (handed v)) vs no_visit handed_some in
+        not_refused who.0 x who.1 (times_contains x (handed (visit who.0)) who.2) is) in
+        omega arith)
+        (λ (not : ¬ (Contains refused x)).
+        let none = not_counted refused x not in
+        let who = drawn_by x low in
+        let mine = handed_drawn (visit who.0) x who.2 (λ is. not (refusals.all who.0 x who.1 is)) in
+        let some = times_at x (handed (visit who.0)) mine.0 x mine.1 mine.2 in
+        let part = total_place (λ (v : Visit). times x (handed v)) vs who.0 no_visit who.1 in
+        let most = handed_once x in
+        omega arith)
+        (in_or_not refused x)
+      where
+        nobody : (k : ℕ) → (0 < k → ⊥) → k ≡ 0
+        nobody zero not = refl
+        nobody (suc k) not = absurd (not (omega arith))
+
+    -- what a visit handed out is below the reach
+    handed_low : All (λ v. All (λ x. x < reach_of vs) (handed v)) vs
+    handed_low k d in_list = subst (λ (v : Visit). All (λ x. x < reach_of vs) (handed v))
+        (sym (get_or_default vs k d no_visit in_list))
+        (λ j e j_in.
+        let x = get_or (handed (visit k)) j e in
+        drawn_low k x in_list
+        (drawn_handed (visit k) x (Contains-get_or (handed (visit k)) j e j_in)).0)
+
+    -- what is counted of the taken entries is what is counted of all that was handed out
+    taken_counts : (f : Entry → ℕ) → total f taken ≡ total (λ v. total f (leaves run.entries v)) vs
+    taken_counts f =
+        let part = λ (x : ℕ). f (entry_at run.entries x) in
+        takes.counts f
+        ∙ sum_below_same (reach_of vs) (λ x. (1 - times x refused) * part x)
+        (λ x. total (λ (v : Visit). times x (handed v)) vs * part x)
+        (λ x low. ap (λ k. k * part x) (sym (handed_count x low)))
+        ∙ sym (totals_by_number (reach_of vs) part handed vs handed_low)
+        ∙ sym (λ i. total (λ (v : Visit). total_map f (entry_at run.entries) (handed v) i) vs)
+
     -- a refused place is above the least limit
     refused_above : (x : ℕ) → Contains refused x
         → IfSome (least_limit vs) (λ least. least < (entry_at run.entries x).bound)
@@ -210,6 +256,7 @@ module _ (run : Run) (vs : List Visit) (own : All (IsVisit run) vs) (some : 0 < 
     line = record {
       ascending = takes.ascending;
       exactly = λ e. (taken_handed e, handed_taken e);
+      counts = taken_counts;
       once = handed_once;
       kept = refl;
       rest = rest_above;

@@ -1,9 +1,15 @@
 -- What closing a run takes: the entries of all places up to one, without those that were refused.
-use Rattle.std.proofs.Common.{◌≡◌, ◌⊎◌, ℕ, ◌+◌, ◌<◌, List, [], ◌∷◌, ◌++◌, length, get_or, Contains, sym, subst, ⊎_elim, arith}
+use Rattle.std.proofs.Common.{◌≡◌, ◌⊎◌, ℕ, zero, suc, ◌+◌, ◌-◌, ◌*◌, ◌<◌, List, [], ◌∷◌, ◌++◌, length, get_or, Contains, refl, sym, ap, subst, ⊎_elim, arith}
 use Rattle.std.proofs.lemmas.List.Elements.{Contains-push, Contains-append_left, Contains-push_cases, Contains-get_or}
+use Rattle.std.proofs.Math.Numerals.{add-one}
 use Rattle.std.proofs.lemmas.List.Quantifiers.{all_pairs_push}
 use Rattle.series_core.specs.declared.queue_words.Entry.{Entry}
 use Rattle.series_core.specs.EntryOrder.{Before, IsAscending}
+use Rattle.list_totals.specs.Below.{sum_below}
+use Rattle.list_totals.specs.Totals.{times}
+use Rattle.list_totals.proofs.Below.{part_other, part_same}
+use Rattle.list_totals.proofs.Places.{times_at, times_contains}
+use Rattle.list_totals.proofs.Totals.{total_push}
 use Rattle.sealed_runs.specs.Entries.{no_entry, entry_at}
 use Rattle.sealed_runs.specs.Tallied.{Takes}
 use Rattle.sealed_runs.proofs.Members.{none_in}
@@ -14,7 +20,16 @@ takes_none es refused = record {
   from = λ e there. absurd (none_in e there);
   all = λ x low not_refused. absurd (omega arith);
   ascending = λ i j d before in_list. absurd (omega arith);
+  counts = λ f. refl;
 }
+
+-- a number that is not contained in a list stands there at no time
+pub not_counted : (xs : List ℕ) (x : ℕ) → ¬ (Contains xs x) → times x xs ≡ 0
+not_counted xs x not = none (times x xs) (λ some. not (times_contains x xs some))
+  where
+    none : (k : ℕ) → (0 < k → ⊥) → k ≡ 0
+    none zero not = refl
+    none (suc k) not = absurd (not (omega arith))
 
 -- the last place below n + 1 is n, or it is below n
 last_or_below : (x n : ℕ) → x < n + 1 → (x ≡ n) ⊎ (x < n)
@@ -31,6 +46,13 @@ takes_past es refused n taken is t = record {
       (λ (below : x < n). t.all x below not_refused)
       (last_or_below x n low);
   ascending = t.ascending;
+  counts = λ f.
+      let some = times_at n refused is.0 n is.1 is.2 in
+      let here = part_other (1 - times n refused) (f (entry_at es n)) (omega arith) in
+      let next = ap (λ k. sum_below k (λ x. (1 - times x refused) * f (entry_at es x))) (add-one n)
+      in
+      let was = t.counts f in
+      omega arith;
 }
 
 -- another place is taken
@@ -54,4 +76,12 @@ takes_more es refused n taken ascending low not t = record {
   ascending = all_pairs_push Before taken (entry_at es n) t.ascending (λ k d in_list.
       let x = t.from (get_or taken k d) (Contains-get_or taken k d in_list) in
       subst (λ y. Before y (entry_at es n)) x.3 (ascending x.0 n no_entry x.1 low));
+  counts = λ f.
+      let none = not_counted refused n not in
+      let here = part_same (1 - times n refused) (f (entry_at es n)) (omega arith) in
+      let next = ap (λ k. sum_below k (λ x. (1 - times x refused) * f (entry_at es x))) (add-one n)
+      in
+      let more = total_push f taken (entry_at es n) in
+      let was = t.counts f in
+      omega arith;
 }

@@ -31,12 +31,15 @@ abbrev pub least_limit : List Visit → Option ℕ
 least_limit [] = None
 least_limit (v ∷ vs) = lesser v.closed (least_limit vs)
 
--- the line of a run that these visits closed: the taken entries ascend and are exactly those of all Leaf replies, no
--- place was handed out twice, the least limit is kept, and where each visit had Closed, what was not taken is above it
+-- the line of a run that these visits closed: the taken entries ascend and are exactly those of all Leaf replies, each as
+-- often as it was a reply (what is counted of the taken entries is what is counted of the replies), no place was handed
+-- out twice, the least limit is kept, and where each visit had Closed, what was not taken is above it
 pub record IsLine (run : Run) (visits : List Visit) (line : Line) : Type 0 where
   pub ascending : IsAscending line.taken
   pub exactly : (e : Entry)
       → In e line.taken ↔ Any (λ v. In e (leaves run.entries v)) visits
+  pub counts : (f : Entry → ℕ)
+      → total f line.taken ≡ total (λ v. total f (leaves run.entries v)) visits
   pub once : (x : ℕ) → total (λ v. times x (handed v)) visits ≤ 1
   pub kept : line.kept ≡ least_limit visits
   pub rest : All (λ v. v.closed ≢ None) visits → (e : Entry) → In e run.entries

@@ -1,8 +1,9 @@
 -- What gathering the visits of one run keeps: the rule is that each visit adds its own part, whatever came before.
-use Rattle.std.specs.Prelude.{◌≡◌, ℕ, ◌<◌, List, [], ◌∷◌, ◌++◌, map, length, slice_index_or, Option, Some, None, Contains}
+use Rattle.std.specs.Prelude.{◌≡◌, ℕ, ◌-◌, ◌*◌, ◌<◌, List, [], ◌∷◌, ◌++◌, map, length, slice_index_or, Option, Some, None, Contains}
 use Rattle.series_core.specs.declared.queue_words.Entry.{Entry}
 use Rattle.claim_word.specs.Passes.{Pass}
-use Rattle.list_totals.specs.Totals.{greatest}
+use Rattle.list_totals.specs.Below.{sum_below}
+use Rattle.list_totals.specs.Totals.{total, times, greatest}
 use Rattle.series_core.specs.EntryOrder.{IsAscending}
 use Rattle.sealed_runs.specs.Entries.{entry_at}
 use Rattle.sealed_runs.specs.Visits.{Visit, no_visit}
@@ -32,9 +33,11 @@ pub record IsTally (vs : List Visit) (passes : List Pass) (most : ℕ) (places :
   pub refused : Refusals vs places
   pub kept : least ≡ least_limit vs
 
--- a list has exactly the entries of the places below n that were not refused, in ascending order
+-- a list has exactly the entries of the places below n that were not refused, each once and in ascending order
 pub record Takes (es : List Entry) (refused : List ℕ) (n : ℕ) (taken : List Entry) : Type 0 where
   pub from : (e : Entry) → Contains taken e → (x : ℕ) × (x < n) × (¬ (Contains refused x))
       × (entry_at es x ≡ e)
   pub all : (x : ℕ) → x < n → ¬ (Contains refused x) → Contains taken (entry_at es x)
   pub ascending : IsAscending taken
+  pub counts : (f : Entry → ℕ)
+      → total f taken ≡ sum_below n (λ x. (1 - times x refused) * f (entry_at es x))
