@@ -1,7 +1,7 @@
--- What a bound above the radius rules out: of a member's word that member, and of a node's word all below it
--- (`far_below`).
-use Rattle.std.proofs.Common.{◌≡◌, ℕ, ℤ, ◌<◌, ◌≤◌, List, [], ◌∷◌, ◌++◌, All, Some, length, refl, sym, ap, ◌∙◌, subst, true, false, arith}
-use Rattle.std.specs.Prelude.{slice_get}
+-- What a bound above the radius rules out: of a member's word that member (`far_member`), of a leaf's all of it (`far_leaf`),
+-- and of a root child's all below it (`far_root`).
+use Rattle.std.proofs.Common.{append-nil, ◌≡◌, ℕ, ℤ, ◌<◌, ◌≤◌, List, [], ◌∷◌, ◌++◌, All, Some, length, refl, sym, ap, ◌∙◌, subst, true, false, arith}
+use Rattle.std.specs.Prelude.{slice_get, slice_index}
 use Rattle.std.proofs.lemmas.Bool.{cond-true, cond-false, le-leb, lt-leb}
 use Rattle.std.proofs.lemmas.List.Concat.{flat_map-append}
 use Rattle.std.proofs.lemmas.List.Elements.{All-head, All-tail}
@@ -16,10 +16,15 @@ use Rattle.lower_bound.specs.Bound.{View, view_of, word_bound, eight_bit_word}
 use Rattle.lower_bound.proofs.Bounds.{child_bound, full_bound_below_distance}
 use Rattle.isax_word.specs.declared.member.Member.{Member}
 use Rattle.subtree_build.specs.Tree.{Tree, absent, leaf, split, leaves_of}
-use Rattle.subtree_build.specs.Index.{IndexParts, StandsUnder, leaf_at}
+use Rattle.subtree_build.specs.Index.{IndexParts, StandsUnder, leaf_at, root_word_at}
+use Rattle.subtree_build.specs.declared.node.Node.{Leaf}
+use Rattle.subtree_build.specs.Outline.{outline}
+use Rattle.subtree_build.specs.Start.{node_at, root_bound}
+use Rattle.isax_word.proofs.Roots.{IsWord-one_bit_word}
+use Rattle.std.proofs.lemmas.Option.{slice_get-get_or}
 use Rattle.subtree_build.specs.Members.{series_at}
 use Rattle.subtree_build.proofs.Bounds.{members_no_nearer}
-use Rattle.range_query.specs.Near.{Asked, IsAsked, near_series, near_members, near_leaf, near_leaves}
+use Rattle.range_query.specs.Near.{Asked, IsAsked, near_series, near_members, near_leaf, near_leaves, near_root}
 
 -- a row that is lent is the series
 pub series_is_row : (a : Asked) (i : ℕ) (row : List ℤ) → slice_get a.collection.series i ≡ Some row
@@ -104,3 +109,19 @@ module _ (a : Asked) (ix : IndexParts) (view : View) (is : IsAsked a ix view) wh
       (IsWord-child_word word segment false kept used divisible) stands.1 (omega arith))
       ∙ far_below (child_word word segment true) high
       (IsWord-child_word word segment true kept used divisible) stands.2 (omega arith)
+
+  -- below a root child whose bound is above the radius nothing is near
+  pub far_root : (i : ℕ) → i < length ix.roots → a.radius < root_bound view ix i → near_root a ix i ≡ []
+  far_root i inside above =
+      let low : i < length ix.nodes = omega (arith, is.index.one_node_each, inside) in
+      far_below (root_word_at ix i) (outline (node_at ix i))
+      (IsWord-one_bit_word (slice_index ix.roots i) ix.segments is.index.some_segments is.index.few_segments
+      (is.index.roots_fit i 0 inside))
+      (is.index.nodes_stand i (node_at ix i) (slice_get-get_or ix.nodes i (Leaf 0) low)) above
+
+  -- in a leaf whose bound is above the radius nothing is near
+  pub far_leaf : (l : ℕ) → l < length ix.leaves → IsWord (leaf_at ix.leaves l).word
+      → a.radius < word_bound view (leaf_at ix.leaves l).word → near_leaf a ix.leaves l ≡ []
+  far_leaf l inside kept above =
+      sym (append-nil (near_leaf a ix.leaves l))
+      ∙ far_below (leaf_at ix.leaves l).word (leaf l) kept (inside, refl) above

@@ -1,5 +1,5 @@
 -- What all workers find together is what the collection has within the radius (`all_found`).
-use Rattle.std.proofs.Common.{◌≡◌, ℕ, ℤ, ◌+◌, ◌<◌, Bool, true, false, cond, List, [], ◌∷◌, ◌++◌, All, length, get_or, map, drop, IsPermutation, refl, sym, ap, ◌∙◌, subst, arith}
+use Rattle.std.proofs.Common.{◌≡◌, ℕ, ℤ, ◌+◌, ◌<◌, ◌≤◌, Bool, true, false, cond, List, [], ◌∷◌, ◌++◌, All, length, get_or, map, drop, IsPermutation, refl, sym, ap, ◌∙◌, subst, arith}
 use Rattle.std.specs.Prelude.{nat_le}
 use Rattle.std.specs.List.{range_with_len, flat_map, filter}
 use Rattle.std.proofs.lemmas.List.{ext_get_or, get_or-drop, drop-drop}
@@ -28,7 +28,8 @@ use Rattle.worker_team.proofs.Deeds.{passes_have, same_pieces_made}
 use Rattle.std.specs.declared.vec.Vec.{Vec}
 use Rattle.std.specs.declared.alloc.Global.{Global}
 use Rattle.range_query.specs.Done.{IsDone}
-use Rattle.range_query.specs.Near.{Asked, IsAsked, near_series, near_members, near_leaves, near_root, near_drawn}
+use Rattle.range_query.specs.Near.{Asked, IsAsked, near_series, near_members, near_leaves, near_root, near_group, near_drawn, group_count, group_of}
+use Rattle.range_query.proofs.Groups.{all_groups}
 use Rattle.range_query.proofs.Ordering.{InOrder, permuted_ascending, sorted_is_ascending}
 
 -- the items of a list by their places are the list
@@ -108,27 +109,37 @@ near_from a s (xs ∷ rows) e =
     (filter (λ p. nat_le p.distance a.radius) (pairs_from (s + 1) rows a.query))
 
 -- what workers found is what is near below what their passes drew
-pub team_found : (a : Asked) (ix : IndexParts) (passes : List Pass) (made : List (Vec Pair Global))
-    → EachDid (λ p m. IsDone a ix p m.items) passes made
-    → flat_map (λ own. own.items) made ≡ near_drawn a ix (all_draws passes)
-team_found a ix passes made did =
-    same_pieces_made (λ p m. IsDone a ix p m.items) (λ (m : Vec Pair Global). m.items)
-    (λ (p : Pass). near_drawn a ix p.draws) (λ p m d. d.all_near) passes made did
-    ∙ pieces_of_pieces (near_root a ix) (λ (p : Pass). p.draws) passes
+pub team_found : (a : Asked) (ix : IndexParts) (size : ℕ) (passes : List Pass) (made : List (Vec Pair Global))
+    → EachDid (λ p m. IsDone a ix size p m.items) passes made
+    → flat_map (λ own. own.items) made ≡ near_drawn a ix size (all_draws passes)
+team_found a ix size passes made did =
+    same_pieces_made (λ p m. IsDone a ix size p m.items) (λ (m : Vec Pair Global). m.items)
+    (λ (p : Pass). near_drawn a ix size p.draws) (λ p m d. d.all_near) passes made did
+    ∙ pieces_of_pieces (near_group a ix size) (λ (p : Pass). p.draws) passes
 
 module _ (a : Asked) (ix : IndexParts) (view : View) (is : IsAsked a ix view) where
   -- what is near below all root children in a row is what is near of all members, leaf by leaf
-  near_all_roots : near_drawn a ix (range_with_len 0 (length ix.roots))
+  near_all_roots : flat_map (near_root a ix) (range_with_len 0 (length ix.roots))
       ≡ flat_map (near_series a) (all_numbers ix.leaves)
   near_all_roots =
       let below = λ (node : Node). near_leaves a ix.leaves (leaf_numbers node) in
       let of_leaf = λ (l : ℕ). near_members a (leaf_at ix.leaves l).members in
-      ap (λ n. near_drawn a ix (range_with_len 0 n)) (sym is.index.one_node_each)
+      ap (λ n. flat_map (near_root a ix) (range_with_len 0 n)) (sym is.index.one_node_each)
       ∙ pieces_by_place below ix.nodes (Leaf 0)
       ∙ pieces_of_pieces of_leaf leaf_numbers ix.nodes
       ∙ ap (flat_map of_leaf) is.index.in_order
       ∙ pieces_by_place (λ (x : TreeLeaf). near_members a x.members) ix.leaves no_leaf
       ∙ near_by_number a ix.leaves
+
+  -- what is near below all groups of them is the same
+  near_all_groups : (size : ℕ) → 1 ≤ size
+      → near_drawn a ix size (range_with_len 0 (group_count size (length ix.roots)))
+      ≡ flat_map (near_series a) (all_numbers ix.leaves)
+  near_all_groups size some =
+      pieces_of_pieces (near_root a ix) (group_of size (length ix.roots))
+      (range_with_len 0 (group_count size (length ix.roots)))
+      ∙ ap (flat_map (near_root a ix)) (all_groups size (length ix.roots) some)
+      ∙ near_all_roots
 
   -- what is near of all members is what is near of all series
   near_all_members : IsPermutation (flat_map (near_series a) (all_numbers ix.leaves))
@@ -140,40 +151,40 @@ module _ (a : Asked) (ix : IndexParts) (view : View) (is : IsAsked a ix view) wh
       ∙ sym (times_below i (length a.collection.series)))
 
   -- what all passes found, in order, is all that the collection has within the radius
-  pub all_found : (passes : List Pass) (found sorted : List Pair)
-      → EachDrawnOnce (length ix.roots) passes → 0 < length passes
-      → All (λ p. p.ended ≡ true) passes → found ≡ near_drawn a ix (all_draws passes)
+  pub all_found : (size : ℕ) (passes : List Pass) (found sorted : List Pair) → 1 ≤ size
+      → EachDrawnOnce (group_count size (length ix.roots)) passes → 0 < length passes
+      → All (λ p. p.ended ≡ true) passes → found ≡ near_drawn a ix size (all_draws passes)
       → IsPermutation found sorted → InOrder sorted
       → sorted ≡ within a.collection a.query a.radius
-  all_found passes found sorted drawn some ended is_found moved up =
-      let n = length ix.roots in
+  all_found size passes found sorted sized drawn some ended is_found moved up =
+      let n = group_count size (length ix.roots) in
       let all = all_drawn n passes drawn some ended in
-      let roots = range_with_len 0 n in
+      let groups = range_with_len 0 n in
       let series = range_with_len 0 (length a.collection.series) in
       let near = filter (λ (p : Pair). nat_le p.distance a.radius) (pairs_of a.collection a.query) in
-      let by_roots : IsPermutation (near_drawn a ix (all_draws passes)) (near_drawn a ix roots) =
-      same_pieces (near_root a ix) (all_draws passes) roots
+      let by_groups : IsPermutation (near_drawn a ix size (all_draws passes)) (near_drawn a ix size groups) =
+      same_pieces (near_group a ix size) (all_draws passes) groups
       (λ x. times_all x passes ∙ drawn.once x ∙ ap (once_below x) all ∙ sym (times_below x n)) in
       let whole : flat_map (near_series a) series ≡ near =
       near_from a 0 a.collection.series refl in
       let perm : IsPermutation found near =
       subst (λ l. IsPermutation l near) (sym is_found)
-      (subst (λ l. IsPermutation (near_drawn a ix (all_draws passes)) l) whole
-      (IsPermutation-trans _ _ _ by_roots
-      (subst (λ l. IsPermutation l (flat_map (near_series a) series)) (sym near_all_roots)
+      (subst (λ l. IsPermutation (near_drawn a ix size (all_draws passes)) l) whole
+      (IsPermutation-trans _ _ _ by_groups
+      (subst (λ l. IsPermutation l (flat_map (near_series a) series)) (sym (near_all_groups size sized))
       near_all_members))) in
       sorted_is_ascending found sorted moved up
       ∙ permuted_ascending found near perm
       ∙ sym (within-ascending a.collection a.query a.radius)
 
   -- what a team found, in order, is all that the collection has within the radius
-  pub found_by_team : (passes : List Pass) (made : List (Vec Pair Global)) (found sorted : List Pair)
-      → EachDrawnOnce (length ix.roots) passes → 0 < length passes
-      → EachDid (λ p m. IsDone a ix p m.items) passes made → found ≡ flat_map (λ own. own.items) made
+  pub found_by_team : (size : ℕ) (passes : List Pass) (made : List (Vec Pair Global)) (found sorted : List Pair)
+      → 1 ≤ size → EachDrawnOnce (group_count size (length ix.roots)) passes → 0 < length passes
+      → EachDid (λ p m. IsDone a ix size p m.items) passes made → found ≡ flat_map (λ own. own.items) made
       → IsPermutation found sorted → InOrder sorted
       → sorted ≡ within a.collection a.query a.radius
-  found_by_team passes made found sorted drawn some did all moved up =
-      let Did = λ (p : Pass) (m : Vec Pair Global). IsDone a ix p m.items in
-      all_found passes found sorted drawn some
+  found_by_team size passes made found sorted sized drawn some did all moved up =
+      let Did = λ (p : Pass) (m : Vec Pair Global). IsDone a ix size p m.items in
+      all_found size passes found sorted sized drawn some
       (passes_have Did (λ (p : Pass). p.ended ≡ true) (λ p m d. d.ended) passes made did)
-      (all ∙ team_found a ix passes made did) moved up
+      (all ∙ team_found a ix size passes made did) moved up

@@ -1,6 +1,6 @@
 -- The pairs within a radius that the parts of an index hold: of a series, of members, of leaves, of root children.
-use Rattle.std.specs.Prelude.{◌≡◌, ℕ, ℤ, List, [], ◌∷◌, length, nat_le, if◌then◌else◌}
-use Rattle.std.specs.List.{flat_map}
+use Rattle.std.specs.Prelude.{◌≡◌, ℕ, ℤ, ◌+◌, ◌-◌, ◌*◌, ◌/◌, min, List, [], ◌∷◌, length, nat_le, if◌then◌else◌}
+use Rattle.std.specs.List.{flat_map, range_with_len}
 use Rattle.series_core.specs.Collection.{Collection, IsCollection}
 use Rattle.series_core.specs.Answer.{pair_of}
 use Rattle.series_core.specs.Distance.{squared_distance}
@@ -52,9 +52,21 @@ near_below a ix node = near_leaves a ix.leaves (leaf_numbers node)
 abbrev pub near_root : Asked → IndexParts → ℕ → List Pair
 near_root a ix i = near_below a ix (node_at ix i)
 
--- those of these root children, one after another
-abbrev pub near_drawn : Asked → IndexParts → List ℕ → List Pair
-near_drawn a ix draws = flat_map (near_root a ix) draws
+-- how many groups of `size` root children in a row there are, where the last may have fewer
+abbrev pub group_count : ℕ → ℕ → ℕ
+group_count size count = (count + (size - 1)) / size
+
+-- the root children of a group
+abbrev pub group_of : ℕ → ℕ → ℕ → List ℕ
+group_of size count g = range_with_len (g * size) (min size (count - g * size))
+
+-- those of the root children of a group
+abbrev pub near_group : Asked → IndexParts → ℕ → ℕ → List Pair
+near_group a ix size g = flat_map (near_root a ix) (group_of size (length ix.roots) g)
+
+-- those of these groups, one after another
+abbrev pub near_drawn : Asked → IndexParts → ℕ → List ℕ → List Pair
+near_drawn a ix size draws = flat_map (near_group a ix size) draws
 
 -- an index that fits the collection under the layout of a view of the query, all of one length
 pub record IsAsked (a : Asked) (ix : IndexParts) (view : View) : Type 0 where

@@ -3,7 +3,7 @@ ghost use Rattle.std.specs.Prelude.{◌≡◌, ◌≤◌, IfOk, length};
 ghost use Rattle.series_core.specs.Answer.{within};
 ghost use Rattle.lower_bound.specs.Bound.{view_of};
 ghost use Rattle.subtree_build.specs.Fits.{Fits};
-ghost use Rattle.range_query.specs.Near.{IsAsked, ask};
+ghost use Rattle.range_query.specs.Near.{IsAsked, ask, group_count};
 
 use crate::team::draw_together;
 use crate::walk::Search;
@@ -19,7 +19,7 @@ use worker_team::{dismiss, hire, joined};
 
 /// All pairs of series whose distance to the query is at most the radius, nearer ones first, of two as near the one
 /// with the smaller number: whatever the number of workers, from 1 to 64, and whichever root children each of them
-/// draws. `gate.pass(worker, turn)` comes before each draw, turns counted from 0. It waits for nobody, and one
+/// draws. `gate.pass(worker, turn)` comes before each draw of some root children in a row, turns counted from 0. It waits for nobody, and one
 /// worker starts no thread.
 pub fn within<T: Threads + Sync, R: Rows + Sync, G: Gate + Sync>(
     rt: &T,
@@ -45,10 +45,11 @@ pub fn within<T: Threads + Sync, R: Rows + Sync, G: Gate + Sync>(
         view: &view,
         query,
         radius,
+        size: group_size(index.root_count(), workers),
     };
     search_law(rows, index, &view, query, radius);
-    let roots = u64::from(index.root_count());
-    let (claims, passes) = Claims::begin(alloc, roots, workers)?;
+    let groups = groups(index.root_count(), search.size);
+    let (claims, passes) = Claims::begin(alloc, groups, workers)?;
     let mut team = hire(alloc, &claims, passes, &[0; 64])?;
     draw_together(rt, alloc, &search, &claims, gate, &mut team);
     let (passes, made) = dismiss(alloc, team)?;
@@ -56,6 +57,23 @@ pub fn within<T: Threads + Sync, R: Rows + Sync, G: Gate + Sync>(
     let mut found = joined(alloc, made)?;
     found.sort_unstable();
     Ok(found)
+}
+
+/// How many root children a worker takes at a time: an eighth of its share, but no more than 64.
+fn group_size(roots: u32, workers: u32) -> u32
+    requires { (1 ≤ workers) × (workers ≤ 64) }
+    ensures { (1 ≤ result) × (result ≤ 64) }
+{
+    (roots / (8 * workers)).clamp(1, 64)
+}
+
+/// How many groups of so many root children there are.
+fn groups(roots: u32, size: u32) -> u64
+    requires size { 1 ≤ size }
+    ensures value { result ≡ group_count size roots }
+    ensures few { result ≤ roots }
+{
+    (u64::from(roots) + u64::from(size - 1)) / u64::from(size)
 }
 
 /// The law that an index that fits under the layout of a query's view is all that a search rests on.

@@ -1,8 +1,9 @@
-//! Workers that draw root children until none is left, each with what it found.
-ghost use Rattle.std.specs.Prelude.{◌≡◌, ◌<◌, All, IfOk, IfSome, length, vec_len};
+//! Workers that draw groups of root children until none is left, each with what it found.
+ghost use Rattle.std.specs.Prelude.{◌≡◌, ◌<◌, ◌≤◌, ◌++◌, All, IfOk, OnOk, IfSome, length, vec_len};
 ghost use Rattle.claim_word.specs.Passes.{fresh_pass};
 ghost use Rattle.range_query.specs.Searches.{IsReady, asked_of};
 ghost use Rattle.range_query.specs.Done.{IsDone};
+ghost use Rattle.range_query.specs.Near.{group_count, near_group};
 
 use crate::walk::Search;
 use claim_word::Claims;
@@ -13,7 +14,27 @@ use std::thread;
 use std::thread::Threads;
 use worker_team::TeamWorker;
 
-/// Draws root children until none is left, and finds the pairs below each that are within the radius.
+/// Finds the pairs within the radius below the root children of a group.
+fn search_group<R: Rows>(
+    search: &Search<'_, R>,
+    group: u64,
+    found: &mut Vec<Pair>,
+) -> Result<(), NoMemory>
+    requires ready { IsReady R.collection search.now }
+    requires size { (1 ≤ search.now.size) × (search.now.size ≤ 64) }
+    requires group { group < group_count search.now.size (length search.now.index.now.roots) }
+    ensures { let near = near_group (asked_of R.collection search.now) search.now.index.now search.now.size group in
+        OnOk result (found.new.items ≡ found.old.items ++ near) }
+{
+    let first = group as u32 * search.size;
+    let end = search.index.root_count().min(first + search.size);
+    for i in first..end {
+        search.walk(i, found)?;
+    }
+    Ok(())
+}
+
+/// Draws groups of root children until none is left, and finds the pairs below each that are within the radius.
 fn draw_all<R: Rows, G: Gate>(
     alloc: Global,
     search: &Search<'_, R>,
@@ -22,11 +43,12 @@ fn draw_all<R: Rows, G: Gate>(
     worker: &mut TeamWorker<Vec<Pair>>,
 ) -> Result<Vec<Pair>, NoMemory>
     requires ready { IsReady R.collection search.now }
-    requires count { claims.now.count ≡ length search.now.index.now.roots }
+    requires size { (1 ≤ search.now.size) × (search.now.size ≤ 64) }
+    requires count { claims.now.count ≡ group_count search.now.size (length search.now.index.now.roots) }
     requires fresh { worker.old.pass ≡ fresh_pass claims.now }
     ensures own { worker.new.pass.claims ≡ claims.now }
     ensures done { let asked = asked_of R.collection search.now in
-        IfOk result (λ found. IsDone asked search.now.index.now worker.new.pass found.items) }
+        IfOk result (λ found. IsDone asked search.now.index.now search.now.size worker.new.pass found.items) }
 {
     let mut found = Vec::new(alloc);
     loop {
@@ -35,8 +57,7 @@ fn draw_all<R: Rows, G: Gate>(
         let Some(drawn) = claims.draw(&mut worker.pass) else {
             return Ok(found);
         };
-        let i = drawn as u32;
-        search.walk(&search.index.root_word(i), search.index.root(i), &mut found)?;
+        search_group(search, drawn, &mut found)?;
     }
 }
 
@@ -49,11 +70,12 @@ fn work<R: Rows, G: Gate>(
     worker: &mut TeamWorker<Vec<Pair>>,
 )
     requires ready { IsReady R.collection search.now }
-    requires count { claims.now.count ≡ length search.now.index.now.roots }
+    requires size { (1 ≤ search.now.size) × (search.now.size ≤ 64) }
+    requires count { claims.now.count ≡ group_count search.now.size (length search.now.index.now.roots) }
     requires fresh { worker.old.pass ≡ fresh_pass claims.now }
     ensures own { worker.new.pass.claims ≡ claims.now }
     ensures done { let asked = asked_of R.collection search.now in
-        IfSome worker.new.made (λ found. IsDone asked search.now.index.now worker.new.pass found.items) }
+        IfSome worker.new.made (λ found. IsDone asked search.now.index.now search.now.size worker.new.pass found.items) }
 {
     worker.made = draw_all(alloc, search, claims, gate, worker).ok();
 }
@@ -68,13 +90,15 @@ pub(crate) fn draw_together<T: Threads + Sync, R: Rows + Sync, G: Gate + Sync>(
     team: &mut Vec<TeamWorker<Vec<Pair>>>,
 )
     requires ready { IsReady R.collection search.now }
-    requires count { claims.now.count ≡ length search.now.index.now.roots }
+    requires size { (1 ≤ search.now.size) × (search.now.size ≤ 64) }
+    requires count { claims.now.count ≡ group_count search.now.size (length search.now.index.now.roots) }
     requires some { 0 < vec_len team.old }
     requires fresh { All (λ w. w.pass ≡ fresh_pass claims.now) team.old.items }
     ensures len { vec_len team.new ≡ vec_len team.old }
     ensures own { All (λ w. w.pass.claims ≡ claims.now) team.new.items }
     ensures done { let asked = asked_of R.collection search.now in
-        All (λ w. IfSome w.made (λ found. IsDone asked search.now.index.now w.pass found.items)) team.new.items }
+        let done = IsDone asked search.now.index.now search.now.size in
+        All (λ w. IfSome w.made (λ found. done w.pass found.items)) team.new.items }
 {
     let workers = team.len();
     thread::for_each_mut(

@@ -1,24 +1,21 @@
-//! The walk over one root child: nodes whose bound is above the radius are cut, and the members of the leaves that
-//! remain are tested by their words' bounds and then by their distances.
-ghost use Rattle.std.specs.Prelude.{◌≡◌, ◌<◌, ◌++◌, OnOk, length, nat_lt};
+//! The walk over one root child: it is cut where its bound is above the radius, and so is each leaf below it; the members of
+//! the leaves that remain are tested by their words' bounds and then by their distances.
+ghost use Rattle.std.specs.Prelude.{◌≡◌, ◌<◌, ◌++◌, [], OnOk, length, true};
 ghost use Rattle.std.specs.Option.{option_to_list};
 ghost use Rattle.isax_word.specs.FullWord.{full_word};
-ghost use Rattle.isax_word.specs.Word.{IsWord};
-ghost use Rattle.lower_bound.specs.Bound.{word_bound};
-ghost use Rattle.subtree_build.specs.Index.{StandsUnder};
 ghost use Rattle.subtree_build.specs.Members.{series_at};
-ghost use Rattle.subtree_build.specs.Outline.{outline};
 ghost use Rattle.range_query.specs.Searches.{IsReady, asked_of};
-ghost use Rattle.range_query.specs.Near.{near_series, near_leaf, near_below};
+ghost use Rattle.range_query.specs.Near.{near_series, near_leaf, near_root};
 
-use isax_word::{Member, Word, child};
+use isax_word::Member;
 use lower_bound::QueryView;
 use outside::NoMemory;
 use series_core::{Pair, Rows};
 use simd_distance::distance_within;
-use subtree_build::{Index, Node};
+use subtree_build::Index;
 
-/// One query over one index: all pairs with a distance of at most the radius are sought.
+/// One query over one index: all pairs with a distance of at most the radius are sought, by workers that take `size` root
+/// children at a time.
 #[derive(Drop)]
 pub(crate) struct Search<'a, R> {
     pub rows: &'a R,
@@ -26,6 +23,7 @@ pub(crate) struct Search<'a, R> {
     pub view: &'a QueryView,
     pub query: &'a [i16],
     pub radius: u64,
+    pub size: u32,
 }
 
 /// Puts a pair, where there is one, behind those that were found.
@@ -57,65 +55,49 @@ impl<'a, R: Rows> Search<'a, R> {
         }
     }
 
-    /// Puts the pairs of a leaf's members that are within the radius behind those that were found.
+    /// Whether the bound of a leaf is above the radius; then none of its members is near.
+    fn is_cut(&self, leaf: u32) -> bool
+        requires ready { IsReady R.collection self.now }
+        requires leaf { leaf < length self.now.index.now.leaves }
+        ensures { result ≡ true → near_leaf (asked_of R.collection self.now) self.now.index.now.leaves leaf ≡ [] }
+    {
+        let word = self.index.leaf_word(leaf);
+        let _segments = word.segments();
+        self.view.bound_word(word) > self.radius
+    }
+
+    /// Puts the pairs of a leaf's members that are within the radius behind those that were found. There is none where the
+    /// leaf is cut.
     fn scan(&self, leaf: u32, found: &mut Vec<Pair>) -> Result<(), NoMemory>
         requires ready { IsReady R.collection self.now }
         requires leaf { leaf < length self.now.index.now.leaves }
         ensures { let near = near_leaf (asked_of R.collection self.now) self.now.index.now.leaves leaf in
             OnOk result (found.new.items ≡ found.old.items ++ near) }
     {
+        if self.is_cut(leaf) {
+            return Ok(());
+        }
         for member in self.index.leaf_members(leaf) {
             keep(found, self.near(member))?;
         }
         Ok(())
     }
 
-    /// Whether the word's bound is above the radius.
-    fn is_above(&self, word: &Word) -> bool
-        requires { length word.now ≡ self.now.view.now.layout.cuts.segments }
-        ensures above { result ≡ nat_lt self.now.radius (word_bound self.now.view.now word.now) }
-        ensures word { IsWord word.now }
-    {
-        let _segments = word.segments();
-        self.view.bound_word(word) > self.radius
-    }
-
-    /// Puts the pairs below a node of this word that are within the radius behind those that were found.
-    pub fn walk(&self, word: &Word, node: &Node, found: &mut Vec<Pair>) -> Result<(), NoMemory>
+    /// Puts the pairs below root child `i` that are within the radius behind those that were found. The bound of the root
+    /// child comes first, by two look-ups; the leaves below it lie in a row.
+    pub fn walk(&self, i: u32, found: &mut Vec<Pair>) -> Result<(), NoMemory>
         requires ready { IsReady R.collection self.now }
-        requires segments { length word.now ≡ self.now.index.now.segments }
-        requires stands { StandsUnder self.now.index.now.leaves word.now (outline node.now) }
-        ensures { let near = near_below (asked_of R.collection self.now) self.now.index.now node.now in
+        requires root { i < length self.now.index.now.roots }
+        ensures { let near = near_root (asked_of R.collection self.now) self.now.index.now i in
             OnOk result (found.new.items ≡ found.old.items ++ near) }
     {
-        if self.is_above(word) {
+        if self.index.root_bound(self.view, i) > self.radius {
             return Ok(());
         }
-        match node {
-            Node::Leaf(leaf) => self.scan(*leaf, found),
-            Node::Split {
-                segment,
-                low: Some(low),
-                high: Some(high),
-            } => {
-                self.walk(&child(word, *segment, false), low, found)?;
-                self.walk(&child(word, *segment, true), high, found)
-            }
-            Node::Split {
-                segment,
-                low: Some(low),
-                high: None,
-            } => self.walk(&child(word, *segment, false), low, found),
-            Node::Split {
-                segment,
-                low: None,
-                high: Some(high),
-            } => self.walk(&child(word, *segment, true), high, found),
-            Node::Split {
-                segment: _,
-                low: None,
-                high: None,
-            } => Ok(()),
+        let (first, end) = self.index.root_leaves(i);
+        for leaf in first..end {
+            self.scan(leaf, found)?;
         }
+        Ok(())
     }
 }

@@ -1,5 +1,5 @@
--- Members put into the order of their numbers: what a sort gives (`sorted_is_by_number`), a filter of them
--- (`filter_by_number`), and a list that ascends already (`permuted_by_number`).
+-- Members put into the order of their numbers: what a sort gives (`sorted_is_by_number`), and a list that ascends already
+-- (`permuted_by_number`).
 use Rattle.std.proofs.Common.{◌≡◌, ℕ, ◌+◌, ◌≤◌, ◌⊎◌, Bool, true, false, cond, List, [], ◌∷◌, length, refl, sym, ap, ◌∙◌, inl, inr, arith}
 use Rattle.std.specs.Prelude.{count_by, sum_by, filter, nat_lt, IsPermutation}
 use Rattle.std.specs.List.Sorted.{IsNonDecreasingBy}
@@ -37,22 +37,6 @@ total_by_number f (x ∷ xs) =
 pub sum_by_is_total : {X : Type 0} (f : X → ℕ) (xs : List X) → sum_by f xs ≡ total f xs
 sum_by_is_total f [] = refl
 sum_by_is_total f (x ∷ xs) = sum_by-cons f x xs ∙ ap (λ n. f x + n) (sum_by_is_total f xs)
-
--- as many members pass a test, in whatever order they stand
-pub count_by_number : (p : Member → Bool) (xs : List Member) → count_by p (by_number xs) ≡ count_by p xs
-count_by_number p xs =
-    let one : Member → ℕ = λ m. cond (p m) 1 0 in
-    sum_by_is_total one (by_number xs) ∙ total_by_number one xs ∙ sym (sum_by_is_total one xs)
-
--- a list's length is the total of ones
-length_is_total : (xs : List Member) → length xs ≡ total (λ m. 1) xs
-length_is_total [] = refl
-length_is_total (x ∷ xs) = let h = length_is_total xs in omega arith
-
--- there are as many members, in whatever order they stand
-pub length-by_number : (xs : List Member) → length (by_number xs) ≡ length xs
-length-by_number xs =
-    length_is_total (by_number xs) ∙ total_by_number (λ m. 1) xs ∙ sym (length_is_total xs)
 
 -- how often a number is that of a member, as a total over the members
 pub times_numbers : (i : ℕ) (xs : List Member)
@@ -202,71 +186,6 @@ permuted_by_number xs ys up differ moved =
     same_members (by_number ys) xs (ascending_by_number ys (differ_permuted xs ys moved differ)) up
     (λ m h. among_permuted ys xs (IsPermutation-sym xs ys moved) m (from_by_number ys m h))
     (λ m h. into_by_number ys m (among_permuted xs ys moved m h))
-
--- a member that no other precedes is inserted in front
-front_insert : (m : Member) (xs : List Member) → AllFrom m.number xs → insert_by_number m xs ≡ m ∷ xs
-front_insert m [] all = refl
-front_insert m (x ∷ xs) all =
-    cond-false (nat_lt x.number m.number) (x ∷ insert_by_number m xs) (m ∷ x ∷ xs)
-    (le-ltb x.number m.number all.0)
-
--- a filter of numbers from n on has such numbers
-from_filter : (n : ℕ) (p : Member → Bool) (xs : List Member) → AllFrom n xs → AllFrom n (filter p xs)
-from_filter n p [] all = tt
-from_filter n p (x ∷ xs) all =
-    cond_both (p x) (x ∷ filter p xs) (filter p xs) (AllFrom n)
-    (λ _. (all.0, from_filter n p xs all.1)) (λ _. from_filter n p xs all.1)
-
--- a filter of a list into which m was inserted: m is inserted if it passes
-filter_insert : (p : Member → Bool) (m : Member) (xs : List Member) → IsOrdered xs
-    → filter p (insert_by_number m xs) ≡ cond (p m) (insert_by_number m (filter p xs)) (filter p xs)
-filter_insert p m [] up = refl
-filter_insert p m (x ∷ xs) up = by_order (cases_Bool (nat_lt x.number m.number)) (filter_insert p m xs up.1)
-  where
-    -- m goes behind x
-    behind : (b c : Bool) → p x ≡ b → p m ≡ c → nat_lt x.number m.number ≡ true
-        → filter p (insert_by_number m xs) ≡ cond (p m) (insert_by_number m (filter p xs)) (filter p xs)
-        → cond b (x ∷ filter p (insert_by_number m xs)) (filter p (insert_by_number m xs))
-        ≡ cond (p m) (insert_by_number m (cond b (x ∷ filter p xs) (filter p xs)))
-        (cond b (x ∷ filter p xs) (filter p xs))
-    behind false c e f less rest = rest
-    behind true true e f less rest =
-        ap (λ (zs : List Member). x ∷ zs) (rest ∙ cond-true (p m) _ _ f)
-        ∙ sym (cond-true (nat_lt x.number m.number) (x ∷ insert_by_number m (filter p xs)) (m ∷ x ∷ filter p xs) less)
-        ∙ sym (cond-true (p m) (insert_by_number m (x ∷ filter p xs)) (x ∷ filter p xs) f)
-    behind true false e f less rest =
-        ap (λ (zs : List Member). x ∷ zs) (rest ∙ cond-false (p m) _ _ f)
-        ∙ sym (cond-false (p m) (insert_by_number m (x ∷ filter p xs)) (x ∷ filter p xs) f)
-
-    by_order : (nat_lt x.number m.number ≡ true) ⊎ (nat_lt x.number m.number ≡ false)
-        → filter p (insert_by_number m xs) ≡ cond (p m) (insert_by_number m (filter p xs)) (filter p xs)
-        → filter p (cond (nat_lt x.number m.number) (x ∷ (insert_by_number m xs)) (m ∷ x ∷ xs))
-        ≡ cond (p m) (insert_by_number m (filter p (x ∷ xs))) (filter p (x ∷ xs))
-    by_order (inl less) rest =
-        ap (filter p) (cond-true (nat_lt x.number m.number) (x ∷ (insert_by_number m xs)) (m ∷ x ∷ xs) less)
-        ∙ behind (p x) (p m) refl refl less rest
-    by_order (inr no_less) rest =
-        ap (filter p) (cond-false (nat_lt x.number m.number) (x ∷ (insert_by_number m xs)) (m ∷ x ∷ xs) no_less)
-        ∙ ap (λ (zs : List Member). cond (p m) zs (filter p (x ∷ xs)))
-        (sym (front_insert m (filter p (x ∷ xs))
-        (from_filter m.number p (x ∷ xs) (
-          ltb-false x.number m.number no_less,
-          from_less m.number x.number xs (ltb-false x.number m.number no_less) up.0,
-        ))))
-
--- the members that pass a test, in the order of their numbers
-pub filter_by_number : (p : Member → Bool) (xs : List Member)
-    → filter p (by_number xs) ≡ by_number (filter p xs)
-filter_by_number p [] = refl
-filter_by_number p (x ∷ xs) =
-    filter_insert p x (by_number xs) (ordered_by_number xs)
-    ∙ by_test (p x) (filter_by_number p xs)
-  where
-    by_test : (b : Bool) → filter p (by_number xs) ≡ by_number (filter p xs)
-        → cond b (insert_by_number x (filter p (by_number xs))) (filter p (by_number xs))
-        ≡ by_number (cond b (x ∷ filter p xs) (filter p xs))
-    by_test true rest = ap (insert_by_number x) rest
-    by_test false rest = rest
 
 -- a filter of members of different numbers has different numbers
 pub differ_filtered : (p : Member → Bool) (xs : List Member) → NumbersDiffer xs

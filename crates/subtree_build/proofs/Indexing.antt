@@ -31,7 +31,7 @@ use Rattle.subtree_build.proofs.Divisions.{few_leaves}
 use Rattle.subtree_build.proofs.Fitting.{total_flat_map, leaves_by_roots}
 
 -- numbers in a row, in two parts
-range_parts : (a m n : ℕ)
+pub range_parts : (a m n : ℕ)
     → range_with_len a (m + n) ≡ range_with_len a m ++ range_with_len (a + m) n
 range_parts a zero n =
     ap (range_with_len a) (zero-add n) ∙ ap (λ k. range_with_len k n) (sym (add-zero a))
@@ -43,7 +43,7 @@ range_parts a (suc m) n =
     (range_parts (a + 1) m n ∙ ap (λ k. range_with_len (a + 1) m ++ range_with_len k n) from)
 
 -- the leaves of a numbered tree are numbered in order
-leaves_numbered : {A : Type 0} (first : ℕ) (t : Tree A)
+pub leaves_numbered : {A : Type 0} (first : ℕ) (t : Tree A)
     → leaves_of (numbered first t) ≡ range_with_len first (length (leaves_of t))
 leaves_numbered first absent = refl
 leaves_numbered first (leaf x) = refl
@@ -74,7 +74,7 @@ numbers_of_outlines [] = refl
 numbers_of_outlines (n ∷ nodes) = ap (λ xs. leaf_numbers n ++ xs) (numbers_of_outlines nodes)
 
 -- as many numbered trees as trees
-length-all_numbered : {A : Type 0} (first : ℕ) (trees : List (Tree A))
+pub length-all_numbered : {A : Type 0} (first : ℕ) (trees : List (Tree A))
     → length (all_numbered first trees) ≡ length trees
 length-all_numbered first [] = refl
 length-all_numbered first (t ∷ trees) =
@@ -125,7 +125,7 @@ length-members layout i [] = refl
 length-members layout i (row ∷ rows) = let rest = length-members layout (i + 1) rows in omega arith
 
 -- a list's length is the total of ones
-length_is_ones : {X : Type 0} (xs : List X) → length xs ≡ total (λ x. 1) xs
+pub length_is_ones : {X : Type 0} (xs : List X) → length xs ≡ total (λ x. 1) xs
 length_is_ones [] = refl
 length_is_ones (x ∷ xs) = let rest = length_is_ones xs in omega arith
 

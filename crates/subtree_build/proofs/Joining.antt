@@ -4,14 +4,22 @@ use Rattle.std.specs.Prelude.{flat_map}
 use Rattle.list_totals.specs.Totals.{total}
 use Rattle.list_totals.proofs.Totals.{total_append}
 use Rattle.subtree_build.specs.declared.leaf.TreeLeaf.{TreeLeaf}
+use Rattle.isax_word.specs.declared.member.Member.{Member}
+use Rattle.subtree_build.specs.declared.leaf.GrownLeaf.{GrownLeaf}
 use Rattle.subtree_build.specs.declared.part.Part.{Part}
+use Rattle.subtree_build.specs.Building.{leaves_of_part}
+use Rattle.subtree_build.proofs.Growing.{length-cut}
 use Rattle.subtree_build.specs.Tree.{Tree, absent, leaf, split, leaves_of, numbered, IsBuilt}
 use Rattle.subtree_build.specs.Outline.{outline, moved_up, AllLeaves}
-use Rattle.subtree_build.specs.Parts.{leaves_in, joined_nodes, NumbersWithin}
+use Rattle.subtree_build.specs.Parts.{leaves_in, joined_nodes, part_firsts, NumbersWithin}
 
 -- the leaves of parts, one part after another
-abbrev pub part_leaves : List Part → List TreeLeaf
+abbrev pub part_leaves : List Part → List GrownLeaf
 part_leaves parts = flat_map (λ p. p.leaves.items) parts
+
+-- the members of parts, one part after another
+abbrev pub part_members : List Part → List Member
+part_members parts = flat_map (λ p. p.members.items) parts
 
 -- one part more
 pub joined_nodes_push : (first : ℕ) (parts : List Part) (p : Part)
@@ -24,6 +32,16 @@ joined_nodes_push first (q ∷ parts) p =
     (joined_nodes_push (first + leaves_in q) parts p
     ∙ ap (λ n. joined_nodes (first + leaves_in q) parts ++ moved_up n (outline p.node) ∷ [])
     (add_assoc first (leaves_in q) (total leaves_in parts)))
+
+-- the number behind the leaves of one part more
+pub part_firsts_push : (first : ℕ) (parts : List Part) (p : Part)
+    → part_firsts first (parts ++ p ∷ [])
+    ≡ part_firsts first parts ++ (first + (total leaves_in parts + leaves_in p)) ∷ []
+part_firsts_push first [] p = ap (λ n. first ∷ n ∷ []) (omega arith)
+part_firsts_push first (q ∷ parts) p =
+    ap (λ xs. first ∷ xs)
+    (part_firsts_push (first + leaves_in q) parts p
+    ∙ ap (λ n. part_firsts (first + leaves_in q) parts ++ n ∷ []) (omega arith))
 
 -- the leaves of all parts are as many as those of each together
 pub length-part_leaves : (parts : List Part) → length (part_leaves parts) ≡ total leaves_in parts
@@ -39,6 +57,14 @@ part_leaves_push [] p = append-nil p.leaves.items
 part_leaves_push (q ∷ parts) p =
     ap (λ xs. q.leaves.items ++ xs) (part_leaves_push parts p)
     ∙ sym (append_assoc q.leaves.items (part_leaves parts) p.leaves.items)
+
+-- the members of one part more
+pub part_members_push : (parts : List Part) (p : Part)
+    → part_members (parts ++ p ∷ []) ≡ part_members parts ++ p.members.items
+part_members_push [] p = append-nil p.members.items
+part_members_push (q ∷ parts) p =
+    ap (λ xs. q.members.items ++ xs) (part_members_push parts p)
+    ∙ sym (append_assoc q.members.items (part_members parts) p.members.items)
 
 -- leaf numbers below a count, moved up, fit where the count does
 pub moved_fits : (t : Tree ℕ) (count by room : ℕ) → AllLeaves (λ l. l < count) t → count + by ≤ room
@@ -82,12 +108,13 @@ numbered_within (split j low high) first =
     less (split j low high) a b le all = (less low a b le all.0, less high a b le all.1)
 
 -- a part that was built has the numbers of its own leaves
-pub built_within : (t : Tree TreeLeaf) (p : Part) → IsBuilt t [] (outline p.node) p.leaves.items
+pub built_within : (t : Tree TreeLeaf) (p : Part) → IsBuilt t [] (outline p.node) (leaves_of_part p)
     → NumbersWithin p
 built_within t p built =
     let P : Tree ℕ → Type 0 = λ n. AllLeaves (λ l. l < leaves_in p) n in
     let Q : ℕ → Type 0 = λ k. AllLeaves (λ l. l < k) (numbered 0 t) in
-    let long : leaves_in p ≡ length (leaves_of t) = ap length built.leaves_are in
+    let long : leaves_in p ≡ length (leaves_of t)
+    = sym (length-cut p.leaves.items p.members.items) ∙ ap length built.leaves_are in
     subst P (sym built.node_is)
     (subst Q (sym long) (subst Q (zero-add (length (leaves_of t))) (numbered_within t 0)))
 

@@ -10,6 +10,9 @@ pub mod Ascending
 pub mod ByNumber
 pub mod Divisions
 pub mod Children
+pub mod Dividing
+pub mod Growing
+pub mod LeafWords
 pub mod Standing
 pub mod Joining
 pub mod Partition
@@ -18,7 +21,9 @@ pub mod Contained
 pub mod OfCollection
 pub mod Fitting
 pub mod Indexing
+pub mod Placed
 pub mod Gathering
 pub mod Spliced
 pub mod Placing
+pub mod Rooting
 pub mod Assembling

@@ -37,17 +37,3 @@ not_all_in_range p a (suc n) k low high fails =
     (λ other. and_right (p a) rest
     (not_all_in_range p (a + 1) n k (omega (arith, other)) (omega arith) fails))
     (cases_eq a k)
-
--- two tests that agree pass alike for all
-pub list_all_agree : (p q : ℕ → Bool) → ((k : ℕ) → p k ≡ q k) → (xs : List ℕ)
-    → list_all p xs ≡ list_all q xs
-list_all_agree p q same [] = refl
-list_all_agree p q same (x ∷ xs) =
-    ap (λ b. b && list_all p xs) (same x) ∙ ap (λ b. q x && b) (list_all_agree p q same xs)
-
--- two tests that agree find the same
-pub find_agree : (p q : ℕ → Bool) → ((k : ℕ) → p k ≡ q k) → (xs : List ℕ) → find p xs ≡ find q xs
-find_agree p q same [] = refl
-find_agree p q same (x ∷ xs) =
-    ap (λ b. cond b (Some x) (find p xs)) (same x)
-    ∙ ap (λ o. cond (q x) (Some x) o) (find_agree p q same xs)

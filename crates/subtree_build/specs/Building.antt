@@ -14,6 +14,7 @@ use Rattle.subtree_build.specs.declared.part.Part.{Part}
 use Rattle.subtree_build.specs.declared.settings.Settings.{Settings}
 use Rattle.subtree_build.specs.declared.splicing.RootLists.{RootLists}
 use Rattle.subtree_build.specs.Division.{node_of, roots_of}
+use Rattle.subtree_build.specs.Grown.{cut_leaves, members_in}
 use Rattle.subtree_build.specs.Members.{NumbersDiffer, HaveSegments, by_number}
 use Rattle.subtree_build.specs.Outline.{outline}
 use Rattle.subtree_build.specs.Tree.{Tree, IsBuilt}
@@ -46,10 +47,15 @@ child_at settings found i =
     node_of settings.leaf_size (one_bit_word (root_at found i) settings.layout.cuts.segments)
     (by_number (list_at found i))
 
--- a part is the root child at its place
+-- the leaves of a part with their members
+abbrev pub leaves_of_part : Part → List TreeLeaf
+leaves_of_part p = cut_leaves p.leaves.items p.members.items
+
+-- a part is the root child at its place, and each of its members lies in one of its leaves
 pub record IsPartAt (settings : Settings) (found : RootLists) (p : Part) : Type 0 where
   pub placed : p.place < length found.roots.items
-  pub built : IsBuilt (child_at settings found p.place) [] (outline p.node) p.leaves.items
+  pub built : IsBuilt (child_at settings found p.place) [] (outline p.node) (leaves_of_part p)
+  pub whole : members_in p.leaves.items ≡ length p.members.items
 
 -- the places of parts
 abbrev pub places_of : List Part → List ℕ

@@ -1,5 +1,6 @@
 -- The definitions of this crate, and those of the crates below that its public clauses cite.
 pub mod Tree
+pub mod Grown
 pub mod Members
 pub mod Splitting
 pub mod Division
@@ -8,6 +9,7 @@ pub mod Index
 pub mod Fits
 pub mod Start
 pub mod Parts
+pub mod Places
 pub mod Summaries
 pub mod Splicing
 pub mod Building

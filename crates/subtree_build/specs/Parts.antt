@@ -16,3 +16,9 @@ NumbersWithin p = AllLeaves (λ l. l < leaves_in p) (outline p.node)
 abbrev pub joined_nodes : ℕ → List Part → List (Tree ℕ)
 joined_nodes first [] = []
 joined_nodes first (p ∷ parts) = moved_up first (outline p.node) ∷ joined_nodes (first + leaves_in p) parts
+
+-- the number of the first leaf of each part, and behind them that of all leaves, where the leaves of the parts are numbered
+-- on from `first`
+abbrev pub part_firsts : ℕ → List Part → List ℕ
+part_firsts first [] = first ∷ []
+part_firsts first (p ∷ parts) = first ∷ part_firsts (first + leaves_in p) parts

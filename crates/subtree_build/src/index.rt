@@ -1,16 +1,23 @@
-//! The index: root children by root number, the nodes below them, and the leaves in order.
-ghost use Rattle.std.specs.Prelude.{◌≡◌, ◌<◌, ◌^◌, length, map, Some, slice_get, slice_index};
+//! The index: root children by root number, the nodes and the range of leaves below each, the leaves in order, and the
+//! members of all leaves in that order in one row.
+ghost use Rattle.std.specs.Prelude.{◌≡◌, ◌<◌, ◌^◌, IfOk, length, map, Some, slice_get, slice_index};
 ghost use Rattle.subtree_build.specs.Division.{roots_of, tree, tree_leaves};
 ghost use Rattle.subtree_build.specs.Fits.{Fits, IsTreeOf};
+ghost use Rattle.subtree_build.specs.Grown.{cut_leaves, members_in};
 ghost use Rattle.subtree_build.specs.Index.{IsIndex, leaf_at, root_word_at};
 ghost use Rattle.subtree_build.specs.Outline.{outline};
+ghost use Rattle.subtree_build.specs.Places.{tree_firsts, IsRange};
+ghost use Rattle.subtree_build.specs.Start.{node_at};
 ghost use Rattle.subtree_build.specs.Tree.{all_numbered};
 
-use crate::leaf::TreeLeaf;
+use crate::leaf::LeafPlace;
 use crate::node::Node;
+use crate::part::{Joined, placed};
 use crate::settings::Settings;
 use isax_word::Word;
+use outside::NoMemory;
 use series_core::Rows;
+use std::alloc::Global;
 use std::marker::Model;
 use summary_phase::Member;
 
@@ -20,13 +27,16 @@ pub struct Index {
     segments: u32,
     roots: Vec<u32>,
     nodes: Vec<Node>,
-    leaves: Vec<TreeLeaf>,
+    firsts: Vec<u32>,
+    leaves: Vec<LeafPlace>,
+    members: Vec<Member>,
 }
 
 impl Model for Index {
     ghost use Rattle.std.specs.Coded.{codes};
     ghost use Rattle.subtree_build.specs.contracts.node.Node as node;
     ghost use Rattle.subtree_build.specs.Index.{IndexParts, IsIndex};
+    ghost use Rattle.subtree_build.specs.Places.{leaves_seen, ArePlaces, AreRanges};
 
     ghost Value = { IndexParts };
 
@@ -36,40 +46,56 @@ impl Model for Index {
       segments = x.segments;
       roots = x.roots.items;
       nodes = x.nodes.items;
-      leaves = x.leaves.items;
+      leaves = leaves_seen x.members.items x.leaves.items;
     } };
 
     ghost invariant = { λ x. IsIndex (record {
       segments = x.segments;
       roots = x.roots.items;
       nodes = x.nodes.items;
-      leaves = x.leaves.items;
-    }) };
+      leaves = leaves_seen x.members.items x.leaves.items;
+    }) × ArePlaces x.members.items x.leaves.items
+        × AreRanges x.nodes.items x.firsts.items x.leaves.items };
 }
 
 impl Index {
-    /// The index of these root numbers, nodes and leaves, which are those of the tree of the rows.
+    /// The index of these root numbers and of the nodes, leaves and members of all parts, which are those of the tree of
+    /// the rows.
     pub(crate) fn of_tree<R: Rows>(
+        alloc: Global,
         rows: &R,
         settings: &Settings,
         roots: Vec<u32>,
-        nodes: Vec<Node>,
-        leaves: Vec<TreeLeaf>,
-    ) -> Index
+        joined: Joined,
+    ) -> Result<Index, NoMemory>
         requires roots { roots.items ≡ roots_of (R.collection rows.now) settings.now.layout }
         requires nodes { let trees = tree (R.collection rows.now) settings.now.layout settings.now.leaf_size in
-            map outline nodes.items ≡ all_numbered 0 trees }
-        requires leaves { leaves.items ≡ tree_leaves (R.collection rows.now) settings.now.layout settings.now.leaf_size }
-        ensures tree { IsTreeOf (R.collection rows.now) settings.now.layout settings.now.leaf_size result }
-        ensures fits { Fits (R.collection rows.now) settings.now.layout result }
+            map outline joined.nodes.items ≡ all_numbered 0 trees }
+        requires firsts { let trees = tree (R.collection rows.now) settings.now.layout settings.now.leaf_size in
+            joined.firsts.items ≡ tree_firsts 0 trees }
+        requires leaves { let leaves = tree_leaves (R.collection rows.now) settings.now.layout settings.now.leaf_size in
+            cut_leaves joined.leaves.items joined.members.items ≡ leaves }
+        requires whole { members_in joined.leaves.items ≡ length joined.members.items }
+        ensures tree { IfOk result (IsTreeOf (R.collection rows.now) settings.now.layout settings.now.leaf_size) }
+        ensures fits { IfOk result (Fits (R.collection rows.now) settings.now.layout) }
     {
         let _count = rows.count();
-        Index {
-            segments: settings.layout.cuts.segments(),
+        let Joined {
+            nodes,
+            firsts,
+            leaves,
+            members,
+        } = joined;
+        let segments = settings.layout.cuts.segments();
+        let leaves = placed(alloc, leaves.as_slice())?;
+        Ok(Index {
+            segments,
             roots,
             nodes,
+            firsts,
             leaves,
-        }
+            members,
+        })
     }
 
     /// How many leaves there are.
@@ -94,6 +120,16 @@ impl Index {
         ensures { slice_get self.now.nodes i ≡ Some result.now }
     {
         &self.nodes[i as usize]
+    }
+
+    /// The leaves below root child number `i`, in order: those from the first of the two numbers up to but not including
+    /// the second.
+    pub fn root_leaves(&self, i: u32) -> (u32, u32)
+        requires { i < length self.now.roots }
+        ensures { IsRange (length self.now.leaves) result.0 result.1 (node_at self.now i) }
+    {
+        let i = i as usize;
+        (self.firsts[i], self.firsts[i + 1])
     }
 
     /// The root number of root child number `i`, of one bit for each segment.
@@ -127,7 +163,8 @@ impl Index {
         requires { l < length self.now.leaves }
         ensures { result.now ≡ (leaf_at self.now.leaves l).members }
     {
-        self.leaves[l as usize].members.items.as_slice()
+        let place = &self.leaves[l as usize];
+        &self.members[place.first as usize..place.end as usize]
     }
 
     /// How many segments the words have, from 1 to 16.

@@ -1,11 +1,14 @@
 //! The parts of the tree: a root child with all below it, as one worker builds it, and how parts are put together.
-ghost use Rattle.std.specs.Prelude.{◌≡◌, ℕ, ◌+◌, ◌^◌, ◌<◌, All, length, map, flat_map, IfOk};
+ghost use Rattle.std.specs.Prelude.{◌≡◌, ℕ, ◌+◌, ◌^◌, ◌<◌, All, length, map, flat_map, IfOk, IsPermutation};
 ghost use Rattle.list_totals.specs.Totals.{total};
 ghost use Rattle.subtree_build.specs.Building.{CanBuild, IsPartAt};
+ghost use Rattle.subtree_build.specs.Grown.{members_in};
+ghost use Rattle.subtree_build.specs.Members.{NumbersDiffer, by_number};
 ghost use Rattle.subtree_build.specs.Outline.{outline, moved_up, AllLeaves};
-ghost use Rattle.subtree_build.specs.Parts.{leaves_in, joined_nodes, NumbersWithin};
+ghost use Rattle.subtree_build.specs.Parts.{leaves_in, joined_nodes, part_firsts, NumbersWithin};
+ghost use Rattle.subtree_build.specs.Places.{places_from};
 
-use crate::leaf::TreeLeaf;
+use crate::leaf::{GrownLeaf, LeafPlace};
 use crate::node::Node;
 use crate::settings::Settings;
 use crate::splicing::RootLists;
@@ -16,12 +19,24 @@ use outside::NoMemory;
 use std::alloc::Global;
 use summary_phase::Member;
 
-/// A root child: its place among the root children, its node, whose leaves are numbered from 0, and these leaves.
+/// A root child: its place among the root children, its node, whose leaves are numbered from 0, these leaves, and the
+/// members of all of them in a row.
 #[derive(Drop)]
 pub(crate) struct Part {
     pub(crate) place: u64,
     pub(crate) node: Node,
-    pub(crate) leaves: Vec<TreeLeaf>,
+    pub(crate) leaves: Vec<GrownLeaf>,
+    pub(crate) members: Vec<Member>,
+}
+
+/// All parts in one: the nodes, the number of the first leaf below each of them and behind these that of all leaves, the
+/// leaves, and the members of all of them in a row.
+#[derive(Drop)]
+pub(crate) struct Joined {
+    pub(crate) nodes: Vec<Node>,
+    pub(crate) firsts: Vec<u32>,
+    pub(crate) leaves: Vec<GrownLeaf>,
+    pub(crate) members: Vec<Member>,
 }
 
 /// The members of a list in one vector.
@@ -33,6 +48,15 @@ fn gathered(alloc: Global, list: &BlockList<Member>) -> Result<Vec<Member>, NoMe
         members.push(member)?;
     }
     Ok(members)
+}
+
+/// The members ascending by number.
+fn sort_members(members: &mut Vec<Member>)
+    requires { NumbersDiffer members.old.items }
+    ensures sorted { members.new.items ≡ by_number members.old.items }
+    ensures moved { IsPermutation members.old.items members.new.items }
+{
+    members.sort_unstable_by_key(|member| member.number);
 }
 
 impl Part {
@@ -51,13 +75,23 @@ impl Part {
         let root = found.root_at(place);
         let word = Word::of_root(root, settings.layout.cuts.segments());
         let list = found.list_at(place);
-        let members = gathered(alloc, list)?;
+        let mut members = gathered(alloc, list)?;
+        sort_members(&mut members);
+        let mut scratch = Vec::with_capacity(alloc, members.len())?;
         let mut leaves = Vec::new(alloc);
-        let node = subtree(alloc, settings.leaf_size, &word, members, &mut leaves)?;
+        let node = subtree(
+            alloc,
+            settings.leaf_size,
+            &word,
+            members.as_mut_slice(),
+            &mut scratch,
+            &mut leaves,
+        )?;
         Ok(Part {
             place,
             node,
             leaves,
+            members,
         })
     }
 }
@@ -80,27 +114,59 @@ fn renumber(node: &mut Node, by: u32)
     }
 }
 
-/// The nodes of the parts with their leaves numbered on from part to part, and the leaves of all parts.
-pub(crate) fn join_parts(
-    alloc: Global,
-    parts: Vec<Part>,
-) -> Result<(Vec<Node>, Vec<TreeLeaf>), NoMemory>
+/// The parts in one: leaves are numbered on from part to part, and the members of all parts, of which there are `count`,
+/// lie behind one another.
+pub(crate) fn join_parts(alloc: Global, parts: Vec<Part>, count: u32) -> Result<Joined, NoMemory>
     requires within { All NumbersWithin parts.items }
     requires few { total leaves_in parts.items < 2 ^ 32 }
-    ensures nodes { IfOk result (λ r. map outline r.0.items ≡ joined_nodes 0 parts.items) }
-    ensures leaves { IfOk result (λ r. r.1.items ≡ flat_map (λ p. p.leaves.items) parts.items) }
+    ensures nodes { IfOk result (λ r. map outline r.nodes.items ≡ joined_nodes 0 parts.items) }
+    ensures firsts { IfOk result (λ r. r.firsts.items ≡ part_firsts 0 parts.items) }
+    ensures leaves { IfOk result (λ r. r.leaves.items ≡ flat_map (λ p. p.leaves.items) parts.items) }
+    ensures members { IfOk result (λ r. r.members.items ≡ flat_map (λ p. p.members.items) parts.items) }
 {
     let mut nodes = Vec::with_capacity(alloc, parts.len())?;
+    let mut firsts = Vec::new(alloc);
+    firsts.push(0)?;
     let mut leaves = Vec::new(alloc);
+    let mut members = Vec::with_capacity(alloc, count as usize)?;
     for part in parts {
         let Part {
             mut node,
             leaves: mut own,
+            members: mut own_members,
             ..
         } = part;
-        renumber(&mut node, leaves.len() as u32);
-        leaves.append(&mut own)?;
+        let first = leaves.len() as u32;
+        renumber(&mut node, first);
         nodes.push(node)?;
+        leaves.append(&mut own)?;
+        members.append(&mut own_members)?;
+        let end = leaves.len() as u32;
+        firsts.push(end)?;
     }
-    Ok((nodes, leaves))
+    Ok(Joined {
+        nodes,
+        firsts,
+        leaves,
+        members,
+    })
+}
+
+/// Where the members of each leaf lie in the row of all members.
+pub(crate) fn placed(alloc: Global, leaves: &[GrownLeaf]) -> Result<Vec<LeafPlace>, NoMemory>
+    requires { members_in leaves.now < 2 ^ 32 }
+    ensures { IfOk result (λ places. places.items ≡ places_from 0 leaves.now) }
+{
+    let mut places = Vec::with_capacity(alloc, leaves.len())?;
+    let mut first = 0;
+    for leaf in leaves {
+        let end = first + leaf.count;
+        places.push(LeafPlace {
+            word: leaf.word,
+            first,
+            end,
+        })?;
+        first = end;
+    }
+    Ok(places)
 }

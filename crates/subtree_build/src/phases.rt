@@ -34,8 +34,10 @@ pub fn build<H: Threads + Sync, R: Rows + Sync, G: Gate + Sync>(
 {
     let (found, turns) = gather_roots(rt, alloc, rows, &settings.layout, workers, gate)?;
     let parts = build_parts(rt, alloc, settings, &found, turns.as_slice(), gate)?;
-    let (nodes, leaves) = join_parts(alloc, parts)?;
-    Ok(Index::of_tree(rows, settings, found.roots, nodes, leaves))
+    let RootLists { roots, lists } = found;
+    drop(lists);
+    let joined = join_parts(alloc, parts, rows.count())?;
+    Index::of_tree(alloc, rows, settings, roots, joined)
 }
 
 /// The first phase: the members of each root number that some series has, and how many turns each worker took.

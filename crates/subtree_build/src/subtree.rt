@@ -1,12 +1,14 @@
-//! A whole subtree: from the members under a word to the node and its leaves.
-ghost use Rattle.std.specs.Prelude.{◌≡◌, ℕ, ◌+◌, ◌*◌, ◌^◌, ◌<◌, ◌≤◌, ◌++◌, ◌⊎◌, length, vec_len, filter, IfOk, IfSome, IfNone};
-ghost use Rattle.subtree_build.specs.Division.{node_of, leaf_with, bits_left};
-ghost use Rattle.subtree_build.specs.Members.{NumbersDiffer, HaveSegments, by_number};
+//! A whole subtree: the members under a word are divided in place, until those of each leaf lie side by side in the order of
+//! the leaves. Members that ascend by number still do so in each leaf.
+ghost use Rattle.std.specs.Prelude.{◌≡◌, ℕ, ◌+◌, ◌*◌, ◌^◌, ◌<◌, ◌≤◌, ◌++◌, ◌⊎◌, length, vec_len, vec_capacity, filter, IfOk, IfSome, IfNone};
+ghost use Rattle.subtree_build.specs.Division.{node_of, bits_left};
+ghost use Rattle.subtree_build.specs.Grown.{IsGrown, IsPut, grown_leaf};
+ghost use Rattle.subtree_build.specs.Members.{HaveSegments};
 ghost use Rattle.subtree_build.specs.Outline.{outline, child_outline};
 ghost use Rattle.subtree_build.specs.Splitting.{goes_high, goes_low, IsSplitOf};
-ghost use Rattle.subtree_build.specs.Tree.{leaf, split, IsBuilt};
+ghost use Rattle.subtree_build.specs.Tree.{split};
 
-use crate::leaf::{MemberList, TreeLeaf};
+use crate::leaf::GrownLeaf;
 use crate::node::Node;
 use crate::split::{best_segment, next_bit};
 use isax_word::{Word, child};
@@ -14,57 +16,41 @@ use outside::NoMemory;
 use std::alloc::Global;
 use summary_phase::Member;
 
-/// The members of a node whose next bit in a segment is 0, and those whose next bit is 1, each in the order of the
-/// node.
-fn divided(
-    alloc: Global,
-    word: &Word,
-    segment: u32,
-    members: Vec<Member>,
-) -> Result<(Vec<Member>, Vec<Member>), NoMemory>
+/// Puts the members whose next bit in a segment is 0 before those whose next bit is 1, each in the order that they had, and
+/// counts the first. The others wait in `scratch`, which has room for all.
+fn divide(word: &Word, segment: u32, members: &mut [Member], scratch: &mut Vec<Member>) -> usize
     requires used { segment < length word.now }
-    requires segments { HaveSegments (length word.now) members.items }
-    ensures low { IfOk result (λ r. r.0.items ≡ filter (goes_low word.now segment) members.items) }
-    ensures high { IfOk result (λ r. r.1.items ≡ filter (goes_high word.now segment) members.items) }
+    requires segments { HaveSegments (length word.now) members.old }
+    requires room { length members.old ≤ vec_capacity scratch.old }
+    ensures divided { members.new
+        ≡ filter (goes_low word.now segment) members.old ++ filter (goes_high word.now segment) members.old }
+    ensures low { result ≡ length (filter (goes_low word.now segment) members.old) }
+    ensures capacity { vec_capacity scratch.new ≡ vec_capacity scratch.old }
 {
-    let mut low = Vec::new(alloc);
-    let mut high = Vec::new(alloc);
-    for member in &members {
+    scratch.clear();
+    let mut low = 0;
+    for i in 0..members.len() {
+        let member = members[i];
         if next_bit(word, &member.full, segment) == 1 {
-            high.push(*member)?;
+            scratch.push_reserved(member);
         } else {
-            low.push(*member)?;
+            members[low] = member;
+            low += 1;
         }
     }
-    Ok((low, high))
+    let (_, high) = members.split_at_mut(low);
+    high.copy_from_slice(scratch.as_slice());
+    low
 }
 
-/// The members ascending by number.
-fn sort_members(members: &mut Vec<Member>)
-    requires { NumbersDiffer members.old.items }
-    ensures { members.new.items ≡ by_number members.old.items }
-{
-    members.sort_unstable_by_key(|member| member.number);
-}
-
-/// The leaf of a word and its members, put behind the others.
-fn leaf_node(
-    word: &Word,
-    mut members: Vec<Member>,
-    leaves: &mut Vec<TreeLeaf>,
-) -> Result<Node, NoMemory>
-    requires numbers { NumbersDiffer members.items }
+/// The leaf of a word and so many members, put behind the others.
+fn leaf_node(word: &Word, count: u32, leaves: &mut Vec<GrownLeaf>) -> Result<Node, NoMemory>
     requires room { vec_len leaves.old < 2 ^ 32 }
-    ensures { let tree = leaf (leaf_with word.now (by_number members.items)) in
-        IfOk result (λ node. IsBuilt tree leaves.old.items (outline node) leaves.new.items) }
+    ensures { let put = grown_leaf word.now count in
+        IfOk result (λ node. IsPut put leaves.old.items (outline node) leaves.new.items) }
 {
     let number = leaves.len() as u32;
-    sort_members(&mut members);
-    let members = MemberList { items: members };
-    leaves.push(TreeLeaf {
-        word: *word,
-        members,
-    })?;
+    leaves.push(GrownLeaf { word: *word, count })?;
     Ok(Node::Leaf(number))
 }
 
@@ -88,30 +74,34 @@ fn split_node(segment: u32, low: Option<Box<Node>>, high: Option<Box<Node>>) -> 
     Node::Split { segment, low, high }
 }
 
-/// The node of a word and its members, which are some; its leaves are put behind the others.
+/// The node of a word and its members, which are some; its leaves are put behind the others. `scratch` has room for all
+/// members.
 #[cycle(subtree)]
 pub(crate) fn subtree(
     alloc: Global,
     leaf_size: u32,
     word: &Word,
-    members: Vec<Member>,
-    leaves: &mut Vec<TreeLeaf>,
+    members: &mut [Member],
+    scratch: &mut Vec<Member>,
+    leaves: &mut Vec<GrownLeaf>,
 ) -> Result<Node, NoMemory>
-    requires some { 0 < vec_len members }
-    requires segments { HaveSegments (length word.now) members.items }
-    requires numbers { NumbersDiffer members.items }
-    requires room { vec_len leaves.old + vec_len members < 2 ^ 32 }
-    ensures { let tree = node_of leaf_size word.now (by_number members.items) in
-        IfOk result (λ node. IsBuilt tree leaves.old.items (outline node) leaves.new.items) }
+    requires some { 0 < length members.old }
+    requires segments { HaveSegments (length word.now) members.old }
+    requires room { vec_len leaves.old + length members.old < 2 ^ 32 }
+    requires scratch { length members.old ≤ vec_capacity scratch.old }
+    ensures grown { let tree = node_of leaf_size word.now members.old in
+        IfOk result (λ node. IsGrown tree leaves.old.items (outline node) leaves.new.items members.new) }
+    ensures capacity { vec_capacity scratch.new ≡ vec_capacity scratch.old }
 {
-    let Some(segment) = split_of(leaf_size, word, members.as_slice()) else {
-        return leaf_node(word, members, leaves);
+    let Some(segment) = split_of(leaf_size, word, members) else {
+        return leaf_node(word, members.len() as u32, leaves);
     };
-    let (low, high) = divided(alloc, word, segment, members)?;
+    let count = divide(word, segment, members, scratch);
+    let (low, high) = members.split_at_mut(count);
     let low_word = child(word, segment, false);
-    let low = child_node(alloc, leaf_size, &low_word, low, leaves)?;
+    let low = child_node(alloc, leaf_size, &low_word, low, scratch, leaves)?;
     let high_word = child(word, segment, true);
-    let high = child_node(alloc, leaf_size, &high_word, high, leaves)?;
+    let high = child_node(alloc, leaf_size, &high_word, high, scratch, leaves)?;
     Ok(split_node(segment, low, high))
 }
 
@@ -121,18 +111,20 @@ fn child_node(
     alloc: Global,
     leaf_size: u32,
     word: &Word,
-    members: Vec<Member>,
-    leaves: &mut Vec<TreeLeaf>,
+    members: &mut [Member],
+    scratch: &mut Vec<Member>,
+    leaves: &mut Vec<GrownLeaf>,
 ) -> Result<Option<Box<Node>>, NoMemory>
-    requires segments { HaveSegments (length word.now) members.items }
-    requires numbers { NumbersDiffer members.items }
-    requires room { vec_len leaves.old + vec_len members < 2 ^ 32 }
-    ensures { let tree = node_of leaf_size word.now (by_number members.items) in
-        IfOk result (λ node. IsBuilt tree leaves.old.items (child_outline node) leaves.new.items) }
+    requires segments { HaveSegments (length word.now) members.old }
+    requires room { vec_len leaves.old + length members.old < 2 ^ 32 }
+    requires scratch { length members.old ≤ vec_capacity scratch.old }
+    ensures grown { let tree = node_of leaf_size word.now members.old in
+        IfOk result (λ node. IsGrown tree leaves.old.items (child_outline node) leaves.new.items members.new) }
+    ensures capacity { vec_capacity scratch.new ≡ vec_capacity scratch.old }
 {
     if members.is_empty() {
         return Ok(None);
     }
-    let node = subtree(alloc, leaf_size, word, members, leaves)?;
+    let node = subtree(alloc, leaf_size, word, members, scratch, leaves)?;
     Ok(Some(Box::new(alloc, node)?))
 }

@@ -17,7 +17,11 @@ fn two_workers_are_dismissed_with_what_they_made(rt: HostRuntime) -> Result<(), 
     let Ok((_passes, made)) = dismiss(rt.alloc(), team) else {
         return Err(Fail::new("no memory for what two workers made"));
     };
-    assert_eq!(rt; made.as_slice(), [5, 7].as_slice(), "what each made of its turns");
+    assert_eq!(rt;
+        made.as_slice(),
+        [5, 7].as_slice(),
+        "what each made of its turns"
+    );
     Ok(())
 }
 
@@ -32,6 +36,9 @@ fn a_worker_that_made_nothing_is_want_of_memory(rt: HostRuntime) -> Result<(), F
     if let Some(first) = team.first_mut() {
         first.made = Some(1);
     }
-    assert!(rt; dismiss(rt.alloc(), team).is_err(), "the second worker made nothing");
+    assert!(rt;
+        dismiss(rt.alloc(), team).is_err(),
+        "the second worker made nothing"
+    );
     Ok(())
 }

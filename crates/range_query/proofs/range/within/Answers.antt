@@ -5,7 +5,7 @@ use Rattle.std.proofs.lemmas.List.Elements.{All-map}
 use Rattle.claim_word.specs.Passes.{Pass, EachDrawnOnce, fresh_pass}
 use Rattle.worker_team.proofs.Deeds.{each_did}
 use Rattle.range_query.specs.Done.{IsDone}
-use Rattle.range_query.specs.Near.{ask}
+use Rattle.range_query.specs.Near.{ask, group_count}
 use Rattle.range_query.proofs.Together.{found_by_team}
 use Rattle.range_query.proofs.range.within.Goals as goal
 
@@ -35,11 +35,13 @@ returns g c =
       ap length c.in_ok-passes.ensures.passes,
       length-map team.items (λ w. w.pass),
     ) in
-    let count : c.in_ok-claims.claims.count ≡ length index.roots
-    = c.in_ok-claims.ensures.count ∙ c.from-roots.ensures ∙ c.root_count.ensures.count in
+    let size = c.group_size.result in
+    let count : c.in_ok-claims.claims.count ≡ group_count size (length index.roots)
+    = c.in_ok-claims.ensures.count ∙ c.groups-groups.ensures.value
+    ∙ ap (group_count size) c.root_count-2.ensures.count in
     let P : ℕ → Type 0 = λ n. EachDrawnOnce n passes in
-    found_by_team asked index _ c.search_law.ensures passes made c.in_ok-found.found.items
-    c.sort_unstable.new.self.items (subst P count c.close.ensures) some
-    (each_did (λ p m. IsDone asked index p m.items) team.items passes made
+    found_by_team asked index _ c.search_law.ensures size passes made c.in_ok-found.found.items
+    c.sort_unstable.new.self.items c.group_size.ensures.0 (subst P count c.close.ensures) some
+    (each_did (λ p m. IsDone asked index size p m.items) team.items passes made
     c.draw_together.ensures.done c.in_ok-passes.ensures.passes c.in_ok-passes.ensures.made)
     c.in_ok-found.ensures c.sort_unstable.ensures.permutation c.sort_unstable.ensures.sorted

@@ -1,4 +1,4 @@
--- What is near below one root child more is found.
+-- What is near below one group more is found.
 use Rattle.std.proofs.Common.{ap, ◌∙◌, arith}
 use Rattle.claim_word.specs.Passes.{Pass}
 use Rattle.range_query.specs.Searches.{asked_of}
@@ -16,9 +16,8 @@ loop-drawn-preserved g c =
       goes_on = ap (λ (p : Pass). p.ended) drawn ∙ was.goes_on;
       met = omega (arith, met);
       all_near =
-          drawn_more
-          (asked_of g.R.Rows.collection c.args.search.now)
-          c.args.search.now.index.now c.loop-drawn.worker.pass.draws c.draw.new.pass.draws
-          c.in-Some.drawn c.root.result.now c.loop-drawn.found.items c.walk.new.found.items
-          c.root.ensures was.all_near (ap (λ (p : Pass). p.draws) drawn) c.in_ok-walk.ensures;
+          drawn_more (asked_of g.R.Rows.collection c.args.search.now) c.args.search.now.index.now
+          c.args.search.now.size c.loop-drawn.worker.pass.draws c.draw.new.pass.draws c.in-Some.drawn
+          c.loop-drawn.found.items c.search_group.new.found.items was.all_near
+          (ap (λ (p : Pass). p.draws) drawn) c.in_ok-search_group.ensures;
     }

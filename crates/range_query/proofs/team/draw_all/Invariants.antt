@@ -11,7 +11,7 @@ invariant-loop-drawn g l = record {
   met : l.worker.pass.met ≤ l.claims.count;
   all_near :
       l.found.items
-      ≡ near_drawn (asked_of g.R.Rows.collection l.search) l.search.index.now l.worker.pass.draws;
+      ≡ near_drawn (asked_of g.R.Rows.collection l.search) l.search.index.now l.search.size l.worker.pass.draws;
 }
 
 -- each draw leaves fewer root children undrawn

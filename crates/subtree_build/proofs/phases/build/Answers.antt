@@ -1,6 +1,10 @@
 -- The parts of all root children, put together, are the tree of the collection.
-use Rattle.std.proofs.Common.{◌∙◌, rules}
-use Rattle.subtree_build.proofs.Assembling.{can_build, few_roots, within_all, few_parts, nodes_are, leaves_all}
+use Rattle.std.proofs.Common.{List, length, sym, ap, ◌∙◌, rules}
+use Rattle.isax_word.specs.declared.member.Member.{Member}
+use Rattle.subtree_build.specs.Grown.{cut_leaves, members_in}
+use Rattle.subtree_build.proofs.Rooting.{can_build, few_roots}
+use Rattle.subtree_build.proofs.Assembling.{within_all, few_parts, nodes_are, firsts_are, leaves_all, whole_all}
+use Rattle.subtree_build.proofs.Joining.{part_leaves}
 use Rattle.subtree_build.proofs.phases.build.Goals as goal
 
 pub build_parts-requires-clause-found : goal.build_parts-requires-clause-found
@@ -27,14 +31,28 @@ join_parts-requires-clause-few g c =
 
 pub of_tree-requires-clause-nodes : goal.of_tree-requires-clause-nodes
 of_tree-requires-clause-nodes g c =
-    c.in_ok-nodes.ensures.nodes
+    c.in_ok-joined.ensures.nodes
     ∙ nodes_are c.args.settings.now (g.R.Rows.collection c.args.rows.now) c.in_ok-found.found
+    c.in_ok-parts.parts.items c.in_ok-found.ensures.roots c.in_ok-parts.ensures.places
+    c.in_ok-parts.ensures.built
+
+pub of_tree-requires-clause-firsts : goal.of_tree-requires-clause-firsts
+of_tree-requires-clause-firsts g c =
+    c.in_ok-joined.ensures.firsts
+    ∙ firsts_are c.args.settings.now (g.R.Rows.collection c.args.rows.now) c.in_ok-found.found
     c.in_ok-parts.parts.items c.in_ok-found.ensures.roots c.in_ok-parts.ensures.places
     c.in_ok-parts.ensures.built
 
 pub of_tree-requires-clause-leaves : goal.of_tree-requires-clause-leaves
 of_tree-requires-clause-leaves g c =
-    c.in_ok-nodes.ensures.leaves
-    ∙ leaves_all c.args.settings.now (g.R.Rows.collection c.args.rows.now) c.in_ok-found.found
-    c.in_ok-parts.parts.items c.in_ok-found.ensures.roots c.in_ok-parts.ensures.places
-    c.in_ok-parts.ensures.built
+    let parts = c.in_ok-parts.parts.items in
+    ap (λ ls. cut_leaves ls c.in_ok-joined.joined.members.items) c.in_ok-joined.ensures.leaves
+    ∙ ap (cut_leaves (part_leaves parts)) c.in_ok-joined.ensures.members
+    ∙ leaves_all c.args.settings.now (g.R.Rows.collection c.args.rows.now) c.in_ok-found.found parts
+    c.in_ok-found.ensures.roots c.in_ok-parts.ensures.places c.in_ok-parts.ensures.built
+
+pub of_tree-requires-clause-whole : goal.of_tree-requires-clause-whole
+of_tree-requires-clause-whole g c =
+    ap members_in c.in_ok-joined.ensures.leaves
+    ∙ whole_all c.args.settings.now c.in_ok-found.found c.in_ok-parts.parts.items c.in_ok-parts.ensures.built
+    ∙ ap (λ (ms : List Member). length ms) (sym c.in_ok-joined.ensures.members)

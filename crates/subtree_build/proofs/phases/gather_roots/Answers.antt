@@ -2,7 +2,7 @@
 use Rattle.std.proofs.Common.{List, sym, subst}
 use Rattle.isax_word.specs.declared.member.Member.{Member}
 use Rattle.subtree_build.specs.Summaries.{HoldAllMembers}
-use Rattle.subtree_build.proofs.Assembling.{holds_roots}
+use Rattle.subtree_build.proofs.Rooting.{holds_roots}
 use Rattle.subtree_build.proofs.phases.gather_roots.Goals as goal
 
 pub returns-clause-roots : goal.returns-clause-roots

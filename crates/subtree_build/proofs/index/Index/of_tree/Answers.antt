@@ -1,44 +1,71 @@
--- What is the tree of a collection keeps the facts of every index, and fits.
-use Rattle.subtree_build.specs.Index.{IndexParts}
-use Rattle.subtree_build.specs.Fits.{IsTreeOf}
+-- What is the tree of a collection keeps the facts of every index, and fits; and each thing lies at its place.
+use Rattle.std.proofs.Common.{◌≡◌, ℕ, ◌^◌, ◌<◌, List, ◌∙◌, sym, ap, length, subst, arith}
+use Rattle.subtree_build.specs.declared.leaf.GrownLeaf.{GrownLeaf}
+use Rattle.subtree_build.specs.declared.leaf.LeafPlace.{LeafPlace}
+use Rattle.subtree_build.specs.Grown.{members_in}
+use Rattle.std.proofs.lemmas.List.{length-map}
+use Rattle.subtree_build.specs.declared.leaf.TreeLeaf.{TreeLeaf}
+use Rattle.subtree_build.specs.Division.{tree, tree_leaves}
+use Rattle.subtree_build.specs.Outline.{outline}
+use Rattle.subtree_build.specs.Tree.{Tree}
+use Rattle.subtree_build.specs.Places.{places_from, ArePlaces}
 use Rattle.subtree_build.proofs.Fitting.{tree_fits}
-use Rattle.subtree_build.proofs.Indexing.{tree_is_index}
+use Rattle.subtree_build.proofs.Growing.{length-cut}
+use Rattle.subtree_build.proofs.Indexing.{length-all_numbered, tree_is_index}
+use Rattle.subtree_build.proofs.Placed.{length-places, tree_is_seen, are_places, are_ranges, few_members}
 use Rattle.subtree_build.proofs.index.Index.of_tree.Goals as goal
+
+pub placed-requires : goal.placed-requires
+placed-requires g c =
+    let rows = g.R.Rows.collection c.args.rows.now in
+    let layout = c.args.settings.now.layout in
+    let joined = c.args.joined in
+    let P : List GrownLeaf → Type 0 = λ ls. members_in ls < 2 ^ 32 in
+    subst P (sym c.as_slice.ensures.value)
+    (few_members rows layout c.args.settings.now.leaf_size joined.leaves.items joined.members.items
+    c.segments-segments.ensures.divides c.count-count.ensures.sound c.requires.leaves c.requires.whole)
 
 pub invariant_of-result : goal.invariant_of-result
 invariant_of-result g c =
     let rows = g.R.Rows.collection c.args.rows.now in
     let layout = c.args.settings.now.layout in
     let size = c.args.settings.now.leaf_size in
-    let ix : IndexParts = record {
-      segments = c.segments.result;
-      roots = c.args.roots.items;
-      nodes = c.args.nodes.items;
-      leaves = c.args.leaves.items;
-    } in
-    let is_tree : IsTreeOf rows layout size ix = record {
-      segments = c.segments.ensures.value;
-      roots = c.requires.roots;
-      nodes = c.requires.nodes;
-      leaves = c.requires.leaves;
-    } in
-    tree_is_index rows layout size ix c.segments.ensures.divides c.count-count.ensures.sound is_tree
+    let joined = c.args.joined in
+    let places : c.in_ok-leaves.leaves.items ≡ places_from 0 joined.leaves.items
+    = c.in_ok-leaves.ensures ∙ ap (places_from 0) c.as_slice.ensures.value in
+    let seen = tree_is_seen rows layout size c.segments-segments.result c.args.roots.items joined c.in_ok-leaves.leaves.items
+    c.segments-segments.ensures.value c.requires.roots c.requires.nodes c.requires.leaves places in
+    let P : List LeafPlace → Type 0 = λ ps. ArePlaces joined.members.items ps in
+    let long : length c.in_ok-leaves.leaves.items ≡ length (tree_leaves rows layout size) = omega (
+      arith,
+      ap (λ (ps : List LeafPlace). length ps) places,
+      length-places 0 joined.leaves.items,
+      length-cut joined.leaves.items joined.members.items,
+      ap (λ (ls : List TreeLeaf). length ls) c.requires.leaves,
+    ) in
+    let many : length joined.nodes.items ≡ length (tree rows layout size)
+    = sym (length-map joined.nodes.items outline) ∙ ap (λ (ts : List (Tree ℕ)). length ts) c.requires.nodes
+    ∙ length-all_numbered 0 (tree rows layout size) in (
+      tree_is_index rows layout size _ c.segments-segments.ensures.divides c.count-count.ensures.sound seen,
+      subst P (sym places) (are_places joined.members.items 0 joined.leaves.items (omega (arith, c.requires.whole))),
+      are_ranges (tree rows layout size) joined.nodes.items joined.firsts.items c.in_ok-leaves.leaves.items
+          c.requires.nodes c.requires.firsts long many,
+    )
+
+pub returns-clause-tree : goal.returns-clause-tree
+returns-clause-tree g c =
+    let joined = c.args.joined in
+    tree_is_seen (g.R.Rows.collection c.args.rows.now) c.args.settings.now.layout c.args.settings.now.leaf_size
+    c.segments-segments.result c.args.roots.items joined c.in_ok-leaves.leaves.items c.segments-segments.ensures.value
+    c.requires.roots c.requires.nodes c.requires.leaves
+    (c.in_ok-leaves.ensures ∙ ap (places_from 0) c.as_slice.ensures.value)
 
 pub returns-clause-fits : goal.returns-clause-fits
 returns-clause-fits g c =
     let rows = g.R.Rows.collection c.args.rows.now in
     let layout = c.args.settings.now.layout in
     let size = c.args.settings.now.leaf_size in
-    let ix : IndexParts = record {
-      segments = c.segments.result;
-      roots = c.args.roots.items;
-      nodes = c.args.nodes.items;
-      leaves = c.args.leaves.items;
-    } in
-    let is_tree : IsTreeOf rows layout size ix = record {
-      segments = c.segments.ensures.value;
-      roots = c.requires.roots;
-      nodes = c.requires.nodes;
-      leaves = c.requires.leaves;
-    } in
-    tree_fits rows layout size ix c.segments.ensures.divides is_tree
+    tree_fits rows layout size _ c.segments-segments.ensures.divides
+    (tree_is_seen rows layout size c.segments-segments.result c.args.roots.items c.args.joined c.in_ok-leaves.leaves.items
+    c.segments-segments.ensures.value c.requires.roots c.requires.nodes c.requires.leaves
+    (c.in_ok-leaves.ensures ∙ ap (places_from 0) c.as_slice.ensures.value))

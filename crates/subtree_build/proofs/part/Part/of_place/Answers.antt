@@ -1,9 +1,33 @@
--- A one-bit word has as many parts as there are segments, and so has each member's full word symbols.
-use Rattle.std.proofs.Common.{◌≡◌, ℕ, List, length, sym, ap, ◌∙◌, subst}
+-- The members, sorted, are as many as in the list, and each has as many symbols as the root child's word parts.
+use Rattle.std.proofs.Common.{◌≡◌, ℕ, List, length, sym, ap, ◌∙◌, subst, arith}
+use Rattle.std.proofs.lemmas.List.Sorted.{All-permutation, length_permutation}
 use Rattle.isax_word.proofs.Roots.{length-one_bit_word}
 use Rattle.isax_word.specs.declared.member.Member.{Member}
 use Rattle.subtree_build.specs.Members.{HaveSegments}
 use Rattle.subtree_build.proofs.part.Part.of_place.Goals as goal
+
+pub subtree-requires-clause-some : goal.subtree-requires-clause-some
+subtree-requires-clause-some c =
+    let child = c.requires.found.each c.args.place c.requires.place in
+    omega (
+      arith,
+      child.some,
+      ap (λ (ms : List Member). length ms) (c.in_ok-members.ensures ∙ c.list_at-list.ensures),
+      length_permutation _ _ c.sort_members.ensures.moved,
+      ap (λ (ms : List Member). length ms) c.as_mut_slice.ensures.value,
+    )
+
+pub subtree-requires-clause-room : goal.subtree-requires-clause-room
+subtree-requires-clause-room c =
+    let child = c.requires.found.each c.args.place c.requires.place in
+    omega (
+      arith,
+      child.few,
+      c.new-leaves.ensures.len,
+      ap (λ (ms : List Member). length ms) (c.in_ok-members.ensures ∙ c.list_at-list.ensures),
+      length_permutation _ _ c.sort_members.ensures.moved,
+      ap (λ (ms : List Member). length ms) c.as_mut_slice.ensures.value,
+    )
 
 pub subtree-requires-clause-segments : goal.subtree-requires-clause-segments
 subtree-requires-clause-segments c =
@@ -15,4 +39,7 @@ subtree-requires-clause-segments c =
     let P : List Member → Type 0 = λ ms. HaveSegments (length c.of_root-word.result) ms in
     let Q : ℕ → Type 0 = λ n. HaveSegments n c.in_ok-members.members.items in
     let R : List Member → Type 0 = λ ms. HaveSegments w ms in
-    subst Q (sym long) (subst R (sym (c.in_ok-members.ensures ∙ c.list_at-list.ensures)) child.segments)
+    subst P (sym c.as_mut_slice.ensures.value)
+    (All-permutation (λ (m : Member). length m.full ≡ length c.of_root-word.result) c.in_ok-members.members.items
+    c.sort_members.new.members.items c.sort_members.ensures.moved
+    (subst Q (sym long) (subst R (sym (c.in_ok-members.ensures ∙ c.list_at-list.ensures)) child.segments)))

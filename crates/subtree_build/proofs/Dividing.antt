@@ -1,0 +1,108 @@
+-- Members divided in place, one after another (`next_high`, `next_low`), until all are (`all_are_divided`).
+use Rattle.std.proofs.Common.{◌≡◌, ℕ, ◌+◌, ◌<◌, Bool, true, false, List, [], ◌∷◌, ◌++◌, length, get_or, set, take, drop, refl, sym, ap, ◌∙◌, arith, append-nil, length-append}
+use Rattle.std.specs.Prelude.{filter, not}
+use Rattle.std.proofs.lemmas.Bool.{cond-true, cond-false}
+use Rattle.std.proofs.lemmas.List.{length-set, take_more, take_more_set, take_all, get_or-drop, drop-drop, drop-set-lt, length-take-le}
+use Rattle.std.proofs.lemmas.List.Elements.{filter-append}
+use Rattle.std.proofs.Math.Seq.{take-append_seam, drop-append_seam}
+use Rattle.isax_word.specs.declared.member.Member.{Member}
+
+-- The first i members are divided: those that do not pass stand in front, the others wait, and the rest lies as it did.
+pub record IsDivided (p : Member → Bool) (all now waiting : List Member) (low i : ℕ) : Type 0 where
+  pub front : take low now ≡ filter (λ m. not (p m)) (take i all)
+  pub others : waiting ≡ filter p (take i all)
+  pub rest : drop i now ≡ drop i all
+  pub long : length now ≡ length all
+  pub count : low + length waiting ≡ i
+
+-- nothing is divided
+pub none_divided : (p : Member → Bool) (all : List Member) → IsDivided p all all [] 0 0
+none_divided p all = record { front = refl; others = refl; rest = refl; long = refl; count = refl }
+
+module _ (p : Member → Bool) (all now waiting : List Member) (low i : ℕ) (was : IsDivided p all now waiting low i)
+    (m : Member) (is : m ≡ get_or now i m) (inside : i < length all) where
+  -- the next member is the one that stood there
+  pub same_next : m ≡ get_or all i m
+  same_next =
+      is
+      ∙ ap (λ k. get_or now k m) (let e : i ≡ i + 0 = omega arith in e)
+      ∙ sym (get_or-drop i now 0 m)
+      ∙ ap (λ (l : List Member). get_or l 0 m) was.rest
+      ∙ get_or-drop i all 0 m
+      ∙ ap (λ k. get_or all k m) (let e : i + 0 ≡ i = omega arith in e)
+
+  -- what passes of one member more
+  filter_more : (q : Member → Bool) → filter q (take (i + 1) all) ≡ filter q (take i all) ++ filter q (m ∷ [])
+  filter_more q =
+      ap (filter q) (take_more all i m inside) ∙ filter-append q (take i all) (get_or all i m ∷ [])
+      ∙ ap (λ x. filter q (take i all) ++ filter q (x ∷ [])) (sym same_next)
+
+  -- the rest behind one member more
+  rest_more : drop (i + 1) now ≡ drop (i + 1) all
+  rest_more = drop_next now ∙ ap (λ (l : List Member). drop 1 l) was.rest ∙ sym (drop_next all)
+    where
+      drop_next : (xs : List Member) → drop (i + 1) xs ≡ drop 1 (drop i xs)
+      drop_next xs = ap (λ (k : ℕ). drop k xs) (let e : i + 1 ≡ i + 1 = omega arith in e) ∙ sym (drop-drop 1 i xs)
+
+  -- the next member passes, and waits
+  pub next_high : p m ≡ true → IsDivided p all now (waiting ++ m ∷ []) low (i + 1)
+  next_high passes = record {
+    front = was.front
+        ∙ sym (append-nil (filter (λ x. not (p x)) (take i all)))
+        ∙ ap (λ l. filter (λ x. not (p x)) (take i all) ++ l) (sym (cond-false _ _ _ (ap not passes)))
+        ∙ sym (filter_more (λ x. not (p x)));
+    others = ap (λ l. l ++ m ∷ []) was.others
+        ∙ ap (λ l. filter p (take i all) ++ l) (sym (cond-true _ _ _ passes))
+        ∙ sym (filter_more p);
+    rest = rest_more;
+    long = was.long;
+    count = omega (arith, was.count, length-append waiting (m ∷ []));
+  }
+
+  -- the next member does not pass, and goes to the front
+  pub next_low : p m ≡ false → IsDivided p all (set now low m) waiting (low + 1) (i + 1)
+  next_low fails = record {
+    front = take_more_set now low m (omega (arith, was.count, was.long))
+        ∙ ap (λ l. l ++ m ∷ []) was.front
+        ∙ ap (λ l. filter (λ x. not (p x)) (take i all) ++ l) (sym (cond-true _ _ _ (ap not fails)))
+        ∙ sym (filter_more (λ x. not (p x)));
+    others = was.others
+        ∙ sym (append-nil (filter p (take i all)))
+        ∙ ap (λ l. filter p (take i all) ++ l) (sym (cond-false _ _ _ fails))
+        ∙ sym (filter_more p);
+    rest = drop-set-lt (i + 1) now low m (omega (arith, was.count)) ∙ rest_more;
+    long = length-set now low m ∙ was.long;
+    count = omega (arith, was.count);
+  }
+
+-- all members are divided once those that wait stand behind the front
+pub all_are_divided : (p : Member → Bool) (all now waiting : List Member) (low i : ℕ)
+    → IsDivided p all now waiting low i → i ≡ length all
+    → take low now ++ waiting ≡ filter (λ m. not (p m)) all ++ filter p all
+all_are_divided p all now waiting low i is end =
+    let whole : take i all ≡ all = ap (λ (k : ℕ). take k all) end ∙ take_all (length all) all (omega arith) in
+    ap (λ l. l ++ waiting) is.front
+    ∙ ap (λ l. filter (λ m. not (p m)) (take i all) ++ l) is.others
+    ∙ ap (λ (l : List Member). filter (λ m. not (p m)) l ++ filter p l) whole
+
+-- so many stand in front
+pub front_count : (p : Member → Bool) (all now waiting : List Member) (low i : ℕ)
+    → IsDivided p all now waiting low i → i ≡ length all → low ≡ length (filter (λ m. not (p m)) all)
+front_count p all now waiting low i is end =
+    let whole : take i all ≡ all = ap (λ (k : ℕ). take k all) end ∙ take_all (length all) all (omega arith) in
+    sym (length-take-le low now (omega (arith, is.count, is.long)))
+    ∙ ap length is.front ∙ ap (λ (l : List Member). length (filter (λ m. not (p m)) l)) whole
+
+-- the front of two lists is the first
+pub front_is : (all front back some : List Member) (n : ℕ) → all ≡ front ++ back → n ≡ length front
+    → some ≡ take n all → some ≡ front
+front_is all front back some n whole long is =
+    is ∙ ap (λ (k : ℕ). take k all) long ∙ ap (λ (l : List Member). take (length front) l) whole
+    ∙ take-append_seam front back
+
+-- what lies behind it is the second
+pub back_is : (all front back some : List Member) (n : ℕ) → all ≡ front ++ back → n ≡ length front
+    → some ≡ drop n all → some ≡ back
+back_is all front back some n whole long is =
+    is ∙ ap (λ (k : ℕ). drop k all) long ∙ ap (λ (l : List Member). drop (length front) l) whole
+    ∙ drop-append_seam front back

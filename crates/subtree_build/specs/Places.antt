@@ -1,0 +1,52 @@
+-- Where an index keeps things: the members of each leaf in the row of all members, and the leaves below each root child.
+use Rattle.std.specs.Prelude.{◌≡◌, ℕ, ◌+◌, ◌-◌, ◌≤◌, List, [], ◌∷◌, Some, length, map, take, drop, slice_get, slice_index}
+use Rattle.std.specs.List.{All, range_with_len}
+use Rattle.isax_word.specs.declared.member.Member.{Member}
+use Rattle.subtree_build.specs.declared.leaf.GrownLeaf.{GrownLeaf}
+use Rattle.subtree_build.specs.declared.leaf.LeafPlace.{LeafPlace}
+use Rattle.subtree_build.specs.declared.leaf.TreeLeaf.{TreeLeaf}
+use Rattle.subtree_build.specs.declared.node.Node.{Node}
+use Rattle.subtree_build.specs.Division.{leaf_with}
+use Rattle.subtree_build.specs.Outline.{leaf_numbers}
+use Rattle.subtree_build.specs.Tree.{Tree, leaves_of}
+
+-- the places of leaves whose members lie behind one another, from `first` on
+abbrev pub places_from : ℕ → List GrownLeaf → List LeafPlace
+places_from first [] = []
+places_from first (l ∷ leaves) =
+    record { word = l.word; first = first; end = first + l.count } ∷ places_from (first + l.count) leaves
+
+-- the leaf at a place
+abbrev pub leaf_seen : List Member → LeafPlace → TreeLeaf
+leaf_seen members p = leaf_with p.word (take (p.end - p.first) (drop p.first members))
+
+-- the leaves at places
+abbrev pub leaves_seen : List Member → List LeafPlace → List TreeLeaf
+leaves_seen members places = map (leaf_seen members) places
+
+-- a place lies among these members
+pub record IsPlace (members : List Member) (p : LeafPlace) : Type 0 where
+  pub order : p.first ≤ p.end
+  pub inside : p.end ≤ length members
+
+-- all of these places do
+abbrev pub ArePlaces : List Member → List LeafPlace → Type 0
+ArePlaces members places = All (IsPlace members) places
+
+-- the leaves below a node are those from the first up to but not including the end, which are some of these leaves
+pub record IsRange (count first end : ℕ) (node : Node) : Type 0 where
+  pub order : first ≤ end
+  pub inside : end ≤ count
+  pub leaves : leaf_numbers node ≡ range_with_len first (end - first)
+
+-- the leaves below node i are those from number i of `firsts` up to but not including the next number
+pub record AreRanges (nodes : List Node) (firsts : List ℕ) (leaves : List LeafPlace) : Type 0 where
+  pub long : length firsts ≡ length nodes + 1
+  pub each : (i : ℕ) (node : Node) → slice_get nodes i ≡ Some node
+      → IsRange (length leaves) (slice_index firsts i) (slice_index firsts (i + 1)) node
+
+-- the number of the first leaf of each tree, and behind them that of all leaves, where their leaves are numbered on from
+-- `first`
+abbrev pub tree_firsts : {A : Type 0} → ℕ → List (Tree A) → List ℕ
+tree_firsts first [] = first ∷ []
+tree_firsts first (t ∷ trees) = first ∷ tree_firsts (first + length (leaves_of t)) trees
