@@ -82,10 +82,14 @@ fn plain_gap(table: Table, length: u32, sum: i64, first: u32, end: u32) -> i64 {
 fn compare(rt: &impl Abort, table: Table, view: &QueryView, segment: (u32, i64), part: (u8, u8)) {
     let (length, sum) = segment;
     let (prefix, bits) = part;
-    let Some(word) = Word::of_parts(&[prefix], &[bits]) else {
+    let is_part = bits <= 8 && u32::from(prefix) < 1 << bits;
+    let word = Word::of_parts(&[prefix], &[bits]);
+    assert_eq!(rt; word.is_some(), is_part, "a word of {prefix} at {bits} bits");
+    let Some(word) = word else {
         return;
     };
-    if bits <= 8 && view.segments() == word.segments() {
+    assert_eq!(rt; view.segments(), word.segments(), "segments");
+    if bits <= 8 {
         let place = 1u32 << (8 - bits);
         let first = u32::from(prefix) * place;
         let cost = plain_cost(plain_gap(table, length, sum, first, first + place), length);
