@@ -6,6 +6,7 @@ mod argument;
 mod command;
 mod error;
 mod given;
+mod laws;
 mod matching;
 mod name;
 mod number;
@@ -15,6 +16,7 @@ mod text;
 
 pub use command::Command;
 pub use error::WordsError;
+pub use laws::one_command_law;
 pub use options::Options;
 pub use parse::parse_words;
 pub use text::Text;
