@@ -84,7 +84,11 @@ fn compare(rt: &impl Abort, table: Table, view: &QueryView, segment: (u32, i64),
     let (prefix, bits) = part;
     let is_part = bits <= 8 && u32::from(prefix) < 1 << bits;
     let word = Word::of_parts(&[prefix], &[bits]);
-    assert_eq!(rt; word.is_some(), is_part, "a word of {prefix} at {bits} bits");
+    assert_eq!(rt;
+        word.is_some(),
+        is_part,
+        "a word of {prefix} at {bits} bits"
+    );
     let Some(word) = word else {
         return;
     };
