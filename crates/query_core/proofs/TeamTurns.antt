@@ -14,7 +14,7 @@ use Rattle.search_machine.specs.Ground.{Ground, last}
 use Rattle.search_machine.specs.Machine.{State, answered, shared, state_of, turn, turn_by_phase, turn_of}
 use Rattle.search_machine.specs.Workers.{Worker}
 use Rattle.search_machine.specs.Shared.{Did, Held, held_after}
-use Rattle.search_machine.specs.OwnRecord.{Member, nothing_yet}
+use Rattle.search_machine.specs.OwnRecord.{RecordedWorker, nothing_yet}
 use Rattle.search_machine.specs.Basics.{start_of}
 use Rattle.query_core.specs.Questions.{Question, search_over}
 use Rattle.search_machine.specs.Replies.{after}
@@ -79,7 +79,7 @@ module _ (t : TeamParts) (team : IsTeam t) (i : ℕ) (w : Working)
       m : (m : Worker) × (slice_get s.workers i ≡ Some m)
       m = shown s stands
 
-      x : Member
+      x : RecordedWorker
       x = record { worker = m.0; own = nothing_yet }
 
       of : IsOf t.question t.index t.queues i w

@@ -6,7 +6,7 @@ use Rattle.search_machine.specs.declared.calls.Reply.TheVariants.{Seen, Offered}
 use Rattle.search_machine.specs.declared.phase.Onward.{Onward}
 use Rattle.search_machine.specs.Ground.{Ground}
 use Rattle.search_machine.specs.Workers.{Worker, in_phase, is_new, onward, scanned_by}
-use Rattle.search_machine.specs.OwnRecord.{Member}
+use Rattle.search_machine.specs.OwnRecord.{RecordedWorker}
 use Rattle.search_machine.specs.Calls.{call_of}
 use Rattle.query_core.specs.Questions.{last_of, search_over}
 use Rattle.search_machine.specs.Replies.{ReplyFits, after}
@@ -26,11 +26,11 @@ ReplyNotLow last _ = Unit {0}
 -- that reply what the code's worker became
 pub record TurnsBy {H : Type 0} (did : H → Call → Reply → H → Type 0) (before after_it : H) (w v : Working)
     (reply : Reply) : Type 0 where
-  pub called : (workers : ℕ) (x : Member) → Shows w x.worker
+  pub called : (workers : ℕ) (x : RecordedWorker) → Shows w x.worker
       → did before (call_of (search_of w workers) w.number x.worker) reply after_it
   pub fits : (workers : ℕ) → ReplyFits (search_of w workers) reply
   pub not_low : ReplyNotLow (last_of w.question) reply
-  pub next : (workers : ℕ) (x : Member) → Shows w x.worker
+  pub next : (workers : ℕ) (x : RecordedWorker) → Shows w x.worker
       → Shows v (after (search_of w workers) w.number x reply).worker
 
 -- one turn with its reply: the worker keeps its place, and the hand its floor and its root children

@@ -8,7 +8,7 @@ use Rattle.search_machine.specs.declared.phase.Phase.{Phase}
 use Rattle.search_machine.specs.declared.phase.Phase.TheVariants.{Aim, Claim, Done, Give, Late, Look, Offer, Pop}
 use Rattle.search_machine.specs.declared.phase.Onward.TheVariants.{Look as ToLook, Aim as ToAim}
 use Rattle.search_machine.specs.Ground.{Ground, answer, last, pair_of, pairs_from, plain, with_workers}
-use Rattle.search_machine.specs.OwnRecord.{Floored, Member, OwnRecord}
+use Rattle.search_machine.specs.OwnRecord.{Floored, RecordedWorker, OwnRecord}
 use Rattle.search_machine.specs.Stands.{OwnDrains, OwnPhase, StandsFor}
 
 module _ (g : Ground) (n : ℕ) where
@@ -52,7 +52,7 @@ module _ (g : Ground) (n : ℕ) where
   floored_any r f v h = subst (λ (d : ℕ). d ≤ v) last_any (f v h)
 
   -- a worker stands for its record
-  pub stands_any : (i : ℕ) (x : Member) → StandsFor g i x → StandsFor (with_workers n g) i x
+  pub stands_any : (i : ℕ) (x : RecordedWorker) → StandsFor g i x → StandsFor (with_workers n g) i x
   stands_any i x s = record {
     covers = s.covers;
     puts = λ p h. let right = s.puts p h in record {

@@ -9,7 +9,7 @@ use Rattle.series_core.specs.declared.queue_words.PopReply.TheVariants.{Closed, 
 use Rattle.series_core.specs.declared.queue_words.PutReply.{PutReply}
 use Rattle.series_core.specs.declared.queue_words.PutReply.TheVariants.{Filled, Placed, Shut}
 use Rattle.search_machine.specs.Closes.{leaf_of, placed_of, popped_of}
-use Rattle.search_machine.specs.OwnRecord.{Member, PopMade, PutMade, is_refused, put_of}
+use Rattle.search_machine.specs.OwnRecord.{RecordedWorker, PopMade, PutMade, is_refused, put_of}
 use Rattle.search_machine.proofs.Counts.{counts_or_not, same_counts}
 
 -- how often a put that was answered Shut or Filled names leaf l
@@ -17,7 +17,7 @@ abbrev pub refused_of : ℕ → PutMade → ℕ
 refused_of l p = cond (is_refused p.reply) (one_if_same l p.entry.leaf) 0
 
 -- how often a member's refused puts name leaf l
-abbrev pub refusals_by : ℕ → Member → ℕ
+abbrev pub refusals_by : ℕ → RecordedWorker → ℕ
 refusals_by l x = total (refused_of l) x.own.puts
 
 -- a put is placed or refused, not both
@@ -78,5 +78,5 @@ not_refused (Shut v) = inl refl
 not_refused (Filled c) = inl refl
 
 -- how often a member scanned leaf l
-abbrev pub scans_by : ℕ → Member → ℕ
+abbrev pub scans_by : ℕ → RecordedWorker → ℕ
 scans_by l x = times l x.worker.scanned

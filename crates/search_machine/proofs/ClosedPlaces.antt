@@ -12,7 +12,7 @@ use Rattle.search_machine.specs.Closes.{Closes, claimed_by, final, placed_by, pl
 use Rattle.search_machine.specs.Ground.{Fits, Ground, last}
 use Rattle.search_machine.specs.Workers.{without}
 use Rattle.list_totals.specs.Standing.{In}
-use Rattle.search_machine.specs.OwnRecord.{Below, Far, Member, WasPut, claims_of, is_refused}
+use Rattle.search_machine.specs.OwnRecord.{Below, Far, RecordedWorker, WasPut, claims_of, is_refused}
 use Rattle.search_machine.specs.Sound.{held, in_hand, places, scans, takes, unclaimed, waits}
 use Rattle.search_machine.specs.Stands.{OwnDrains, OwnPhase, in_late}
 use Rattle.search_machine.proofs.CallCounts.{not_refused, popped_is, scans_by}
@@ -22,7 +22,7 @@ use Rattle.list_totals.proofs.Standing.{in_total, total_in}
 use Rattle.search_machine.proofs.Places.{get_some, total_at, total_none, total_some}
 use Rattle.search_machine.proofs.PutsOnce.{put_below}
 
-module _ (g : Ground) (fits : Fits g) (team : List Member) (qs : List PlainQueue)
+module _ (g : Ground) (fits : Fits g) (team : List RecordedWorker) (qs : List PlainQueue)
     (c : Closes g team qs) where
   -- a put leaf is real
   pub put_real : (l : ℕ) → 0 < total (puts_by l) team → l < g.leaves
@@ -48,11 +48,11 @@ module _ (g : Ground) (fits : Fits g) (team : List Member) (qs : List PlainQueue
 
   -- the scans of the final state are those of the members
   pub scans_is : (l : ℕ)
-      → total (scans l) (map (λ (x : Member). x.worker) team) ≡ total (scans_by l) team
-  scans_is l = total_map (scans l) (λ (x : Member). x.worker) team
+      → total (scans l) (map (λ (x : RecordedWorker). x.worker) team) ≡ total (scans_by l) team
+  scans_is l = total_map (scans l) (λ (x : RecordedWorker). x.worker) team
 
   -- each member has ended
-  pub own_done : (i : ℕ) (x : Member) → slice_get team i ≡ Some x
+  pub own_done : (i : ℕ) (x : RecordedWorker) → slice_get team i ≡ Some x
       → OwnDrains g x.own i g.queues x.worker.rest
   own_done i x at =
       subst (OwnPhase g x.own i x.worker.rest x.worker.list) (c.done i x at) (c.stands i x at).phase
@@ -65,8 +65,8 @@ module _ (g : Ground) (fits : Fits g) (team : List Member) (qs : List PlainQueue
       let b : unclaimed g (length g.roots) l ≡ 0 = ap
       (λ (rs : List (List ℕ)). total (λ (r : List ℕ). times l (without g.start r)) rs)
       (drop-length g.roots) in
-      let d = total_map (held l) (λ (x : Member). x.worker) team in
-      let e = total_none (λ (x : Member). held l x.worker) team
+      let d = total_map (held l) (λ (x : RecordedWorker). x.worker) team in
+      let e = total_none (λ (x : RecordedWorker). held l x.worker) team
       (λ i x at. let r = ap (times l) (own_done i x at).rest in
       let p = ap (in_hand l) (c.done i x at) in omega arith) in
       omega arith
@@ -129,10 +129,10 @@ module _ (g : Ground) (fits : Fits g) (team : List Member) (qs : List PlainQueue
           (λ (k : ℕ). In (Some k) os) (sym d.1) i)
           (λ (d : one_if_same n m ≡ 0). absurd (omega arith)) (counts_or_not n m)
 
-      far : (i : ℕ) (x : Member) → slice_get team i ≡ Some x → Far g x.own l → last g < g.bound l
+      far : (i : ℕ) (x : RecordedWorker) → slice_get team i ≡ Some x → Far g x.own l → last g < g.bound l
       far i x at h = let a = (c.reads i x h.0 at h.1).0 in let b = h.2 in omega arith
 
-      lost : (i : ℕ) (x : Member) → slice_get team i ≡ Some x → (p : WasPut x.own l)
+      lost : (i : ℕ) (x : RecordedWorker) → slice_get team i ≡ Some x → (p : WasPut x.own l)
           → not (is_refused p.0.reply) ≡ true → ⊥
       lost i x at p r =
           let right = (c.stands i x at).puts p.0 p.1 in

@@ -6,7 +6,7 @@ use Rattle.list_totals.specs.Totals.{one_if_same, total}
 use Rattle.leaf_queues.specs.PlainQueue.{PlainQueue}
 use Rattle.search_machine.specs.Closes.{Closes, placed_by, placed_of, popped_by, popped_of, puts_by}
 use Rattle.search_machine.specs.Ground.{Fits, Ground, queue_of}
-use Rattle.search_machine.specs.OwnRecord.{Member, WasRefused, WasTaken, is_refused, put_of}
+use Rattle.search_machine.specs.OwnRecord.{RecordedWorker, WasRefused, WasTaken, is_refused, put_of}
 use Rattle.search_machine.specs.Sound.{takes, waits}
 use Rattle.search_machine.proofs.CallCounts.{both_of, placed_is, popped_some, refusals_by, refused_of}
 use Rattle.search_machine.proofs.Counts.{same_counts}
@@ -14,7 +14,7 @@ use Rattle.list_totals.proofs.Standing.{in_total, total_in}
 use Rattle.search_machine.proofs.Places.{at_most_one, get_some, total_at, total_most, total_some, total_two}
 use Rattle.search_machine.proofs.PutsOnce.{placed_put, put_below, puts_once}
 
-module _ (g : Ground) (fits : Fits g) (team : List Member) (qs : List PlainQueue)
+module _ (g : Ground) (fits : Fits g) (team : List RecordedWorker) (qs : List PlainQueue)
     (c : Closes g team qs) where
   -- an entry of a queue was put, by its number
   pub in_queue : (m : ℕ) (q : PlainQueue) (l : ℕ) → slice_get qs m ≡ Some q
@@ -39,7 +39,7 @@ module _ (g : Ground) (fits : Fits g) (team : List Member) (qs : List PlainQueue
       (λ m n q p a b h k. sym (in_queue m q l a h).0 ∙ (in_queue n p l b k).0)
 
   -- a leaf that was taken
-  pub taken_in : (i : ℕ) (x : Member) (l : ℕ) → slice_get team i ≡ Some x → WasTaken x.own l
+  pub taken_in : (i : ℕ) (x : RecordedWorker) (l : ℕ) → slice_get team i ≡ Some x → WasTaken x.own l
       → (m : ℕ) × (q : PlainQueue) × (slice_get qs m ≡ Some q) × (0 < popped_by m l x)
       × (0 < takes l q)
   taken_in i x l at h =
@@ -54,7 +54,7 @@ module _ (g : Ground) (fits : Fits g) (team : List Member) (qs : List PlainQueue
       (h.0.queue, r.0, r.1, d, omega arith)
 
   -- a leaf whose put was refused is counted
-  pub refused_some : (x : Member) (l : ℕ) → WasRefused x.own l → 0 < refusals_by l x
+  pub refused_some : (x : RecordedWorker) (l : ℕ) → WasRefused x.own l → 0 < refusals_by l x
   refused_some x l h =
       let a = in_total (refused_of l) h.0 x.own.puts h.1 in
       let b : refused_of l h.0
@@ -65,7 +65,7 @@ module _ (g : Ground) (fits : Fits g) (team : List Member) (qs : List PlainQueue
       omega arith
 
   -- what was refused was put
-  pub refused_put : (x : Member) (l : ℕ) → refusals_by l x ≤ puts_by l x
+  pub refused_put : (x : RecordedWorker) (l : ℕ) → refusals_by l x ≤ puts_by l x
   refused_put x l =
       total_most (refused_of l) (put_of l) x.own.puts (λ p. let a = both_of 0 l p in omega arith)
 
@@ -75,13 +75,13 @@ module _ (g : Ground) (fits : Fits g) (team : List Member) (qs : List PlainQueue
       (put_below g fits team c.stands c.claims r.0 r.1 l r.2 r.3).2
 
   -- a leaf that was taken was put, and no put of it was refused
-  pub taken_put : (i : ℕ) (x : Member) (l : ℕ) → slice_get team i ≡ Some x → WasTaken x.own l
+  pub taken_put : (i : ℕ) (x : RecordedWorker) (l : ℕ) → slice_get team i ≡ Some x → WasTaken x.own l
       → (0 < total (puts_by l) team) × (total (refusals_by l) team ≡ 0)
   taken_put i x l at h = let r = taken_in i x l at h in
       let s = in_queue r.0 r.1 l r.2 (omega arith) in (s.1, s.2)
 
   -- a leaf whose put was refused was put
-  pub refused_is : (i : ℕ) (x : Member) (l : ℕ) → slice_get team i ≡ Some x → WasRefused x.own l
+  pub refused_is : (i : ℕ) (x : RecordedWorker) (l : ℕ) → slice_get team i ≡ Some x → WasRefused x.own l
       → (0 < total (refusals_by l) team) × (0 < total (puts_by l) team)
   refused_is i x l at h =
       let a = refused_some x l h in
@@ -91,7 +91,7 @@ module _ (g : Ground) (fits : Fits g) (team : List Member) (qs : List PlainQueue
       (omega arith, omega arith)
 
   -- the same queue takes a leaf once, for one member
-  pub same_taker : (l i j : ℕ) (x y : Member) → slice_get team i ≡ Some x
+  pub same_taker : (l i j : ℕ) (x y : RecordedWorker) → slice_get team i ≡ Some x
       → slice_get team j ≡ Some y → WasTaken x.own l → WasTaken y.own l → i ≡ j
   same_taker l i j x y a b h k =
       let r = taken_in i x l a h in

@@ -5,17 +5,17 @@ use Rattle.list_totals.specs.Totals.{total}
 use Rattle.leaf_queues.specs.PlainQueue.{PlainQueue}
 use Rattle.search_machine.specs.Closes.{Closes}
 use Rattle.search_machine.specs.Ground.{Fits, Ground}
-use Rattle.search_machine.specs.OwnRecord.{Member, WasRefused, WasTaken}
+use Rattle.search_machine.specs.OwnRecord.{RecordedWorker, WasRefused, WasTaken}
 use Rattle.search_machine.specs.Sound.{takes, waits}
 use Rattle.search_machine.proofs.CallCounts.{scans_by}
 use Rattle.search_machine.proofs.ClosedQueues.{in_queue, put_other, queue_once, refused_is, refused_put, refused_some, same_taker, taken_in, taken_put}
 use Rattle.search_machine.proofs.Places.{at_most_one, total_add, total_at, total_some}
 use Rattle.search_machine.proofs.PutsOnce.{put_below, same_claimer}
 
-module _ (g : Ground) (fits : Fits g) (team : List Member) (qs : List PlainQueue)
+module _ (g : Ground) (fits : Fits g) (team : List RecordedWorker) (qs : List PlainQueue)
     (c : Closes g team qs) where
   -- of one leaf one member's put was refused
-  same_refused : (l i j : ℕ) (x y : Member) → slice_get team i ≡ Some x → slice_get team j ≡ Some y
+  same_refused : (l i j : ℕ) (x y : RecordedWorker) → slice_get team i ≡ Some x → slice_get team j ≡ Some y
       → WasRefused x.own l → WasRefused y.own l → i ≡ j
   same_refused l i j x y a b h k =
       let p = refused_some g fits team qs c x l h in
@@ -27,11 +27,11 @@ module _ (g : Ground) (fits : Fits g) (team : List Member) (qs : List PlainQueue
       (put_below g fits team c.stands c.claims j y l b (omega arith)).0
 
   -- why member i scanned leaf l
-  abbrev why : ℕ → Member → ℕ → Type 0
+  abbrev why : ℕ → RecordedWorker → ℕ → Type 0
   why i x l = ((i ≡ 0) × (g.start ≡ Some l)) ⊎ WasTaken x.own l ⊎ WasRefused x.own l
 
   -- of one leaf there is one scanner
-  same_scanner : (l i j : ℕ) (x y : Member) → slice_get team i ≡ Some x → slice_get team j ≡ Some y
+  same_scanner : (l i j : ℕ) (x y : RecordedWorker) → slice_get team i ≡ Some x → slice_get team j ≡ Some y
       → why i x l → why j y l → i ≡ j
   same_scanner l i j x y a b h k = ⊎_elim
       (λ (s : (i ≡ 0) × (g.start ≡ Some l)). ⊎_elim

@@ -9,7 +9,7 @@ use Rattle.search_machine.specs.Ground.{Fits, Ground}
 use Rattle.search_machine.specs.Closes.{Closes, NoneRefused, TakenInOrder, final}
 use Rattle.search_machine.specs.Legal.{IsStraight}
 use Rattle.search_machine.specs.Outcome.{outcome}
-use Rattle.search_machine.specs.OwnRecord.{Member, WasRefused, WasTaken}
+use Rattle.search_machine.specs.OwnRecord.{RecordedWorker, WasRefused, WasTaken}
 use Rattle.search_machine.specs.Sound.{scans, takes}
 use Rattle.search_machine.proofs.CallCounts.{scans_by}
 use Rattle.search_machine.proofs.ClosedPlaces.{scans_is}
@@ -18,7 +18,7 @@ use Rattle.search_machine.proofs.Closing.{final_done, final_sound}
 use Rattle.search_machine.proofs.OneWorker.{straight_ends}
 use Rattle.search_machine.proofs.Places.{total_at, total_some}
 
-module _ (g : Ground) (fits : Fits g) (team : List Member) (qs : List PlainQueue)
+module _ (g : Ground) (fits : Fits g) (team : List RecordedWorker) (qs : List PlainQueue)
     (c : Closes g team qs) (placed : NoneRefused team) (order : TakenInOrder qs) where
   -- each leaf that was scanned is the start leaf or was taken from a queue
   scanned_taken : (l : ℕ) → 0 < total (scans l) (final g team qs).workers

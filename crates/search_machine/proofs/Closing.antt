@@ -13,7 +13,7 @@ use Rattle.search_machine.specs.Legal.{Legal}
 use Rattle.search_machine.specs.Workers.{Worker, round_queue}
 use Rattle.list_totals.specs.Standing.{In}
 use Rattle.search_machine.specs.Outcome.{AllDone, outcome}
-use Rattle.search_machine.specs.OwnRecord.{Member, Near, PutRight, WasClosed, WasRefused, WasTaken}
+use Rattle.search_machine.specs.OwnRecord.{RecordedWorker, Near, PutRight, WasClosed, WasRefused, WasTaken}
 use Rattle.search_machine.specs.Sound.{IsShut, PhaseSound, QueueSound, Sound, WorkerSound, takes, waits}
 use Rattle.search_machine.specs.Basics.{Between, EntryRight}
 use Rattle.search_machine.specs.Stands.{Stands}
@@ -27,15 +27,15 @@ use Rattle.search_machine.proofs.Places.{get_map, total_some}
 use Rattle.search_machine.proofs.PutsOnce.{put_below}
 use Rattle.search_machine.proofs.Scans.{last_start}
 
-module _ (g : Ground) (fits : Fits g) (team : List Member) (qs : List PlainQueue)
+module _ (g : Ground) (fits : Fits g) (team : List RecordedWorker) (qs : List PlainQueue)
     (c : Closes g team qs) where
   -- a worker of the final state is a member's
-  member_at : (i : ℕ) (w : Worker) → slice_get (map (λ (x : Member). x.worker) team) i ≡ Some w
-      → (x : Member) × (slice_get team i ≡ Some x) × (x.worker ≡ w)
-  member_at i w e = get_map (λ (x : Member). x.worker) team i w e
+  member_at : (i : ℕ) (w : Worker) → slice_get (map (λ (x : RecordedWorker). x.worker) team) i ≡ Some w
+      → (x : RecordedWorker) × (slice_get team i ≡ Some x) × (x.worker ≡ w)
+  member_at i w e = get_map (λ (x : RecordedWorker). x.worker) team i w e
 
   -- a near leaf has a bound not above the starting limit
-  near_limit : (i : ℕ) (x : Member) (l : ℕ) → slice_get team i ≡ Some x → Near g x.own l
+  near_limit : (i : ℕ) (x : RecordedWorker) (l : ℕ) → slice_get team i ≡ Some x → Near g x.own l
       → g.bound l ≤ start_limit g
   near_limit i x l at h = let a = (c.reads i x h.0 at h.1).1 in let b = h.2 in omega arith
 
@@ -45,12 +45,12 @@ module _ (g : Ground) (fits : Fits g) (team : List Member) (qs : List PlainQueue
       near_limit r.0 r.1 l r.2 (put_below g fits team c.stands c.claims r.0 r.1 l r.2 r.3).1
 
   -- a queue that gave a Closed reply is shut
-  closed_shut : (i : ℕ) (x : Member) (m : ℕ) → slice_get team i ≡ Some x → WasClosed x.own m
+  closed_shut : (i : ℕ) (x : RecordedWorker) (m : ℕ) → slice_get team i ≡ Some x → WasClosed x.own m
       → IsShut qs m
   closed_shut i x m at h q e = let k = (c.queues m q e).shut i x at h in ap is_some k.1
 
   -- each worker is sound
-  final_worker : (i : ℕ) (x : Member) → slice_get team i ≡ Some x
+  final_worker : (i : ℕ) (x : RecordedWorker) → slice_get team i ≡ Some x
       → WorkerSound g (length g.roots) qs i x.worker
   final_worker i x at = record {
     list = record {
@@ -160,7 +160,7 @@ module _ (g : Ground) (fits : Fits g) (team : List Member) (qs : List PlainQueue
         subst (WorkerSound g (length g.roots) qs i) r.2 (final_worker i r.0 r.1);
     queues = final_queue;
     queue_count = c.queue_count;
-    worker_count = length-map team (λ (x : Member). x.worker) ∙ c.members;
+    worker_count = length-map team (λ (x : RecordedWorker). x.worker) ∙ c.members;
   }
 
   -- in it all workers are done

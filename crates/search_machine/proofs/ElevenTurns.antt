@@ -13,7 +13,7 @@ use Rattle.search_machine.specs.Closes.{CameByPut, Closes, QueueCloses, claimed_
 use Rattle.search_machine.specs.Examples.{eleven_member, eleven_opening, eleven_queue, eleven_replies, entry, two_series}
 use Rattle.search_machine.specs.Ground.{Fits, Ground}
 use Rattle.list_totals.specs.Standing.{In}
-use Rattle.search_machine.specs.OwnRecord.{Member}
+use Rattle.search_machine.specs.OwnRecord.{RecordedWorker}
 use Rattle.search_machine.specs.Replies.{ReplyFits, after, after_all}
 use Rattle.search_machine.specs.Stands.{StandsFor}
 use Rattle.search_machine.proofs.EveryReply.{own_leader, reply_stands}
@@ -25,7 +25,7 @@ AllFit g [] = Unit {0}
 AllFit g (r ∷ rs) = ReplyFits g r × AllFit g rs
 
 -- after them a worker stands for its record
-all_stand : (g : Ground) → Fits g → (i : ℕ) (rs : List Reply) (x : Member) → AllFit g rs
+all_stand : (g : Ground) → Fits g → (i : ℕ) (rs : List Reply) (x : RecordedWorker) → AllFit g rs
     → StandsFor g i x → StandsFor g i (after_all g i x rs)
 all_stand g fits i [] x fit s = s
 all_stand g fits i (r ∷ rs) x fit s =

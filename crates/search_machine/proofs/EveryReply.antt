@@ -5,7 +5,7 @@ use Rattle.search_machine.specs.declared.phase.Phase.{Phase}
 use Rattle.search_machine.specs.declared.phase.Phase.TheVariants.{Aim, Claim, Give, Late, Look, Offer, Pop}
 use Rattle.search_machine.specs.Ground.{Fits, Ground, worst}
 use Rattle.search_machine.specs.Workers.{Worker, after_claim, idle, leader, start_list, after_reply, leaves_below}
-use Rattle.search_machine.specs.OwnRecord.{Floored, Member, OwnRecord, nothing_yet, with_claim}
+use Rattle.search_machine.specs.OwnRecord.{Floored, RecordedWorker, OwnRecord, nothing_yet, with_claim}
 use Rattle.search_machine.specs.Replies.{ReplyFits, after, own_after}
 use Rattle.search_machine.specs.declared.calls.Reply.{Reply}
 use Rattle.search_machine.specs.declared.calls.Reply.TheVariants.{Claimed, Offered, PopTold, PutTold, Seen}
@@ -93,7 +93,7 @@ replied g fits i w r (Offer next) (Offered v) low s e =
 replied g fits i w r _ _ low s e = s
 
 -- a member that stands for its record stands for the longer record after a reply
-pub reply_stands : (g : Ground) → Fits g → (i : ℕ) (x : Member) (reply : Reply)
+pub reply_stands : (g : Ground) → Fits g → (i : ℕ) (x : RecordedWorker) (reply : Reply)
     → ReplyFits g reply → Stands g i x.worker x.own
     → Stands g i (after g i x reply).worker (after g i x reply).own
 reply_stands g fits i x reply low s =

@@ -6,17 +6,17 @@ use Rattle.list_totals.specs.Totals.{times, total}
 use Rattle.search_machine.specs.Closes.{claimed_by, placed_by, placed_of, puts_by}
 use Rattle.search_machine.specs.Ground.{Fits, Ground}
 use Rattle.list_totals.specs.Standing.{In}
-use Rattle.search_machine.specs.OwnRecord.{Below, Member, Near, put_of}
+use Rattle.search_machine.specs.OwnRecord.{Below, RecordedWorker, Near, put_of}
 use Rattle.search_machine.specs.Stands.{Stands}
 use Rattle.search_machine.proofs.CallCounts.{both_of, refusals_by, refused_of}
 use Rattle.search_machine.proofs.OwnClaims.{claim_in, put_in}
 use Rattle.search_machine.proofs.Places.{at_most_one, total_add, total_at, total_most, total_two}
 
-module _ (g : Ground) (fits : Fits g) (team : List Member) (stands : (i : ℕ) (x : Member)
+module _ (g : Ground) (fits : Fits g) (team : List RecordedWorker) (stands : (i : ℕ) (x : RecordedWorker)
     → slice_get team i ≡ Some x → Stands g i x.worker x.own) (claims : (n : ℕ)
     → total (claimed_by n) team ≤ 1) where
   -- two members whose claimed root children have the same leaf are one
-  pub same_claimer : (l i j : ℕ) (x y : Member) → slice_get team i ≡ Some x
+  pub same_claimer : (l i j : ℕ) (x y : RecordedWorker) → slice_get team i ≡ Some x
       → slice_get team j ≡ Some y → Below g x.own l → Below g y.own l → i ≡ j
   same_claimer l i j x y a b h k = ⊎_elim
       (λ (same : i ≡ j). same)
@@ -36,7 +36,7 @@ module _ (g : Ground) (fits : Fits g) (team : List Member) (stands : (i : ℕ) (
 
   -- a leaf that a member put is below a root child that it claimed, is near, and is not the start
   -- leaf
-  pub put_below : (i : ℕ) (x : Member) (l : ℕ) → slice_get team i ≡ Some x → 0 < puts_by l x
+  pub put_below : (i : ℕ) (x : RecordedWorker) (l : ℕ) → slice_get team i ≡ Some x → 0 < puts_by l x
       → Below g x.own l × Near g x.own l × (g.start ≢ Some l)
   put_below i x l at h =
       let p = put_in l x.own.puts h in

@@ -8,7 +8,7 @@ use Rattle.list_totals.specs.Totals.{one_if_same, times, total}
 use Rattle.search_machine.specs.Ground.{Fits, Ground, queue_of}
 use Rattle.search_machine.specs.Machine.{capacity_of}
 use Rattle.search_machine.specs.Closes.{AllStand, ClaimedOnce, put_in, puts_by, puts_into}
-use Rattle.search_machine.specs.OwnRecord.{Member, PutMade, put_of}
+use Rattle.search_machine.specs.OwnRecord.{RecordedWorker, PutMade, put_of}
 use Rattle.search_machine.proofs.Counts.{counts_or_not, length_sum, same_counts, sum_le}
 use Rattle.search_machine.proofs.Filling.{capacity_sum}
 use Rattle.list_totals.proofs.Standing.{total_in}
@@ -21,7 +21,7 @@ abbrev named : ℕ → ℕ → PutMade → ℕ
 named m l p = cond (eqb m p.queue) (one_if_same l p.entry.leaf) 0
 
 -- how often a member's puts into queue m name leaf l
-abbrev named_by : ℕ → ℕ → Member → ℕ
+abbrev named_by : ℕ → ℕ → RecordedWorker → ℕ
 named_by m l x = total (named m l) x.own.puts
 
 -- what a put that is counted names
@@ -73,12 +73,12 @@ times_in m l (p ∷ ps) = by (times_in m l ps) (eqb m p.queue)
     by a false = omega arith
 
 -- the leaves of all members' puts into queue m
-abbrev all_in : ℕ → List Member → List ℕ
+abbrev all_in : ℕ → List RecordedWorker → List ℕ
 all_in m [] = []
 all_in m (x ∷ xs) = leaves_in m x.own.puts ++ all_in m xs
 
 -- they are as many as the puts
-length_all : (m : ℕ) (xs : List Member) → length (all_in m xs) ≡ total (puts_into m) xs
+length_all : (m : ℕ) (xs : List RecordedWorker) → length (all_in m xs) ≡ total (puts_into m) xs
 length_all m [] = omega arith
 length_all m (x ∷ xs) =
     let a = length_all m xs in
@@ -87,7 +87,7 @@ length_all m (x ∷ xs) =
     omega arith
 
 -- and a leaf is one of them as often as it is named
-times_all : (m l : ℕ) (xs : List Member) → times l (all_in m xs) ≡ total (named_by m l) xs
+times_all : (m l : ℕ) (xs : List RecordedWorker) → times l (all_in m xs) ≡ total (named_by m l) xs
 times_all m l [] = omega arith
 times_all m l (x ∷ xs) =
     let a = times_all m l xs in
@@ -95,7 +95,7 @@ times_all m l (x ∷ xs) =
     let c = total_append (one_if_same l) (leaves_in m x.own.puts) (all_in m xs) in
     omega arith
 
-module _ (g : Ground) (fits : Fits g) (team : List Member) (stands : AllStand g team)
+module _ (g : Ground) (fits : Fits g) (team : List RecordedWorker) (stands : AllStand g team)
     (claims : ClaimedOnce team) (m : ℕ) where
   -- each of them is a leaf of the queue
   real_in : (l : ℕ) → 0 < times l (all_in m team) → (m ≡ queue_of g l) × (l < g.leaves)

@@ -11,7 +11,7 @@ use Rattle.search_machine.specs.Ground.{Ground, start_limit}
 use Rattle.search_machine.specs.Machine.{State, capacity_of}
 use Rattle.search_machine.specs.Sound.{waits, takes}
 use Rattle.search_machine.specs.Basics.{Between, Ordered}
-use Rattle.search_machine.specs.OwnRecord.{PutMade, PopMade, Member, is_refused, WasClosed, claims_of, put_of}
+use Rattle.search_machine.specs.OwnRecord.{PutMade, PopMade, RecordedWorker, is_refused, WasClosed, claims_of, put_of}
 use Rattle.search_machine.specs.Stands.{StandsFor}
 
 -- how often a put placed leaf l in queue m
@@ -27,69 +27,69 @@ leaf_of l (Closed v) = 0
 abbrev pub popped_of : ℕ → ℕ → PopMade → ℕ
 popped_of m l p = cond (nat_eq p.queue m) (leaf_of l p.reply) 0
 
--- how often a member's puts name leaf l
-abbrev pub puts_by : ℕ → Member → ℕ
+-- how often a worker's puts name leaf l
+abbrev pub puts_by : ℕ → RecordedWorker → ℕ
 puts_by l x = total (put_of l) x.own.puts
 
 -- how often a put names queue m
 abbrev pub put_in : ℕ → PutMade → ℕ
 put_in m p = one_if_same m p.queue
 
--- how many of a member's puts name queue m
-abbrev pub puts_into : ℕ → Member → ℕ
+-- how many of a worker's puts name queue m
+abbrev pub puts_into : ℕ → RecordedWorker → ℕ
 puts_into m x = total (put_in m) x.own.puts
 
--- how often a member's claims gave the number c
-abbrev pub claimed_by : ℕ → Member → ℕ
+-- how often a worker's claims gave the number c
+abbrev pub claimed_by : ℕ → RecordedWorker → ℕ
 claimed_by c x = total (claims_of c) x.own.claims
 
--- how often a member's puts placed leaf l in queue m
-abbrev pub placed_by : ℕ → ℕ → Member → ℕ
+-- how often a worker's puts placed leaf l in queue m
+abbrev pub placed_by : ℕ → ℕ → RecordedWorker → ℕ
 placed_by m l x = total (placed_of m l) x.own.puts
 
--- how often a member's pops took leaf l from queue m
-abbrev pub popped_by : ℕ → ℕ → Member → ℕ
+-- how often a worker's pops took leaf l from queue m
+abbrev pub popped_by : ℕ → ℕ → RecordedWorker → ℕ
 popped_by m l x = total (popped_of m l) x.own.pops
 
--- each member stands for its record
-abbrev pub AllStand : Ground → List Member → Type 0
-AllStand g team = (i : ℕ) (x : Member) → slice_get team i ≡ Some x → StandsFor g i x
+-- each worker stands for its record
+abbrev pub AllStand : Ground → List RecordedWorker → Type 0
+AllStand g team = (i : ℕ) (x : RecordedWorker) → slice_get team i ≡ Some x → StandsFor g i x
 
 -- each number was claimed once at most
-abbrev pub ClaimedOnce : List Member → Type 0
+abbrev pub ClaimedOnce : List RecordedWorker → Type 0
 ClaimedOnce team = (c : ℕ) → total (claimed_by c) team ≤ 1
 
--- no put of a member was answered Shut or Filled
-abbrev pub NoneRefused : List Member → Type 0
+-- no put of a worker was answered Shut or Filled
+abbrev pub NoneRefused : List RecordedWorker → Type 0
 NoneRefused team =
-    (i : ℕ) (x : Member) (p : PutMade) → slice_get team i ≡ Some x → In p x.own.puts
+    (i : ℕ) (x : RecordedWorker) (p : PutMade) → slice_get team i ≡ Some x → In p x.own.puts
     → is_refused p.reply ≡ false
 
 -- what was taken from each queue ascends by bound and leaf
 abbrev pub TakenInOrder : List PlainQueue → Type 0
 TakenInOrder qs = (m : ℕ) (q : PlainQueue) → slice_get qs m ≡ Some q → Ordered q.taken
 
--- some member's put of this entry named queue m
-pub record CameByPut (team : List Member) (m : ℕ) (e : Entry) : Type 0 where
+-- some worker's put of this entry named queue m
+pub record CameByPut (team : List RecordedWorker) (m : ℕ) (e : Entry) : Type 0 where
   pub place : ℕ
-  pub member : Member
+  pub member : RecordedWorker
   pub at : slice_get team place ≡ Some member
   pub made : PutMade
   pub has : In made member.own.puts
   pub queue : made.queue ≡ m
   pub entry : made.entry ≡ e
 
--- some member's pop had the limit v
-pub record CameByPop (team : List Member) (v : ℕ) : Type 0 where
+-- some worker's pop had the limit v
+pub record CameByPop (team : List RecordedWorker) (v : ℕ) : Type 0 where
   pub place : ℕ
-  pub member : Member
+  pub member : RecordedWorker
   pub at : slice_get team place ≡ Some member
   pub made : PopMade
   pub has : In made member.own.pops
   pub limit : made.limit ≡ v
 
--- what the closed queue m says by the calls of all members
-pub record QueueCloses (g : Ground) (team : List Member) (m : ℕ) (q : PlainQueue) : Type 0 where
+-- what the closed queue m says by the calls of all workers
+pub record QueueCloses (g : Ground) (team : List RecordedWorker) (m : ℕ) (q : PlainQueue) : Type 0 where
   -- it is a queue of the plain kind, with room for the leaves that belong to it
   pub ordered : Ordered q.waiting
   pub placed : q.placed ≡ length q.waiting + length q.taken
@@ -102,40 +102,40 @@ pub record QueueCloses (g : Ground) (team : List Member) (m : ℕ) (q : PlainQue
   pub popped : (l : ℕ) → takes l q ≡ total (popped_by m l) team
   -- where it gave a Closed reply it is shut; the limit that it keeps is that of a pop, and what
   -- waits has a bound above that limit
-  pub shut : (i : ℕ) (x : Member) → slice_get team i ≡ Some x → WasClosed x.own m
+  pub shut : (i : ℕ) (x : RecordedWorker) → slice_get team i ≡ Some x → WasClosed x.own m
       → (v : ℕ) × (q.kept ≡ Some v)
   pub kept : (v : ℕ) → q.kept ≡ Some v → CameByPop team v
   pub above : (v : ℕ) → q.kept ≡ Some v → (e : Entry) → In e q.waiting → v < e.bound
 
--- what the members and the closed objects say
-pub record Closes (g : Ground) (team : List Member) (qs : List PlainQueue) : Type 0 where
+-- what the workers and the closed objects say
+pub record Closes (g : Ground) (team : List RecordedWorker) (qs : List PlainQueue) : Type 0 where
   -- each worker stands for its record, and is done
   pub members : length team ≡ g.workers
   pub stands : AllStand g team
-  pub done : (i : ℕ) (x : Member) → slice_get team i ≡ Some x → x.worker.phase ≡ Done
+  pub done : (i : ℕ) (x : RecordedWorker) → slice_get team i ≡ Some x → x.worker.phase ≡ Done
   -- each number was claimed once at most, and each root child was where some claim was answered
   -- None
   pub claims : ClaimedOnce team
-  pub all_claimed : (i : ℕ) (x : Member) (c : ℕ) → slice_get team i ≡ Some x
+  pub all_claimed : (i : ℕ) (x : RecordedWorker) (c : ℕ) → slice_get team i ≡ Some x
       → In None x.own.claims → c < length g.roots → 0 < total (claimed_by c) team
   -- each reply to a read is at least the last distance and at most the starting limit
-  pub reads : (i : ℕ) (x : Member) (v : ℕ) → slice_get team i ≡ Some x → In v x.own.reads
+  pub reads : (i : ℕ) (x : RecordedWorker) (v : ℕ) → slice_get team i ≡ Some x → In v x.own.reads
       → Between g v
   -- there are as many closed queues as queues, and each says what it should
   pub queue_count : length qs ≡ g.queues
   pub queues : (m : ℕ) (q : PlainQueue) → slice_get qs m ≡ Some q → QueueCloses g team m q
 
 -- what they say where no put was refused and each queue's entries were taken in order
-pub record ClosesStraight (g : Ground) (team : List Member) (qs : List PlainQueue) : Type 0 where
+pub record ClosesStraight (g : Ground) (team : List RecordedWorker) (qs : List PlainQueue) : Type 0 where
   pub closes : Closes g team qs
   pub placed : NoneRefused team
   pub order : TakenInOrder qs
 
--- the state that the members and the closed queues make: all root children are claimed
-abbrev pub final : Ground → List Member → List PlainQueue → State
+-- the state that the workers and the closed queues make: all root children are claimed
+abbrev pub final : Ground → List RecordedWorker → List PlainQueue → State
 final g team queues = record {
   word = start_limit g;
   claimed = length g.roots;
   queues = queues;
-  workers = map (λ (x : Member). x.worker) team;
+  workers = map (λ (x : RecordedWorker). x.worker) team;
 }

@@ -16,7 +16,7 @@ use Rattle.search_machine.specs.declared.outcome.QueueLine.{QueueLine}
 use Rattle.search_machine.specs.declared.outcome.Outcome.{Outcome}
 use Rattle.search_machine.specs.Ground.{Ground, enough_turns}
 use Rattle.search_machine.specs.Workers.{leader}
-use Rattle.search_machine.specs.OwnRecord.{Member, nothing_yet}
+use Rattle.search_machine.specs.OwnRecord.{RecordedWorker, nothing_yet}
 
 -- Two series of one point, -1 and 1, and the query 0: each is 1 away, and each has a leaf of its
 -- own.
@@ -84,11 +84,11 @@ eleven_replies =
     ∷ Seen 1 ∷ PopTold (Leaf (entry 1 0)) ∷ Seen 1 ∷ PopTold (Closed 1) ∷ []
 
 -- the worker as it opens, with no record yet
-abbrev pub eleven_opening : Member
+abbrev pub eleven_opening : RecordedWorker
 eleven_opening = record { worker = leader (two_series 1); own = nothing_yet }
 
 -- the worker after them, with its record
-abbrev pub eleven_member : Member
+abbrev pub eleven_member : RecordedWorker
 eleven_member = record {
   worker = record { phase = Done; rest = []; list = pair 1 0 ∷ []; scanned = 0 ∷ 1 ∷ [] };
   own = record {

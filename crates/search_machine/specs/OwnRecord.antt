@@ -37,7 +37,7 @@ pub record OwnRecord : Type 0 where
   pub pops : List PopMade
 
 -- a worker with its own record
-pub record Member : Type 0 where
+pub record RecordedWorker : Type 0 where
   pub worker : Worker
   pub own : OwnRecord
 

@@ -9,7 +9,7 @@ use Rattle.search_machine.specs.declared.phase.Phase.TheVariants.{Done}
 use Rattle.search_machine.specs.Ground.{Ground}
 use Rattle.search_machine.specs.Workers.{Worker, after_reply}
 use Rattle.search_machine.specs.Calls.{call_in}
-use Rattle.search_machine.specs.OwnRecord.{OwnRecord, Member, with_claim, with_read, with_offer, with_put, with_pop}
+use Rattle.search_machine.specs.OwnRecord.{OwnRecord, RecordedWorker, with_claim, with_read, with_offer, with_put, with_pop}
 
 -- a reply that a hand may give: a number that a claim gives is that of a root child
 abbrev pub ReplyFits : Ground → Reply → Type 0
@@ -34,13 +34,13 @@ own_after g i w r Done reply = r
 own_after g i w r phase reply = with_call (call_in g i w phase) reply r
 
 -- a worker with its record after this reply
-abbrev pub after : Ground → ℕ → Member → Reply → Member
+abbrev pub after : Ground → ℕ → RecordedWorker → Reply → RecordedWorker
 after g i x reply = record {
   worker = after_reply g x.worker x.worker.phase reply;
   own = own_after g i x.worker x.own x.worker.phase reply;
 }
 
 -- a worker with its record after these replies, one after the other
-abbrev pub after_all : Ground → ℕ → Member → List Reply → Member
+abbrev pub after_all : Ground → ℕ → RecordedWorker → List Reply → RecordedWorker
 after_all g i x [] = x
 after_all g i x (reply ∷ replies) = after_all g i (after g i x reply) replies

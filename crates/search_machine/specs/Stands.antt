@@ -10,7 +10,7 @@ use Rattle.list_totals.specs.Standing.{In}
 use Rattle.search_machine.specs.Ground.{Ground}
 use Rattle.search_machine.specs.Workers.{Worker, round_queue}
 use Rattle.search_machine.specs.Sound.{ListUnder, held}
-use Rattle.search_machine.specs.OwnRecord.{PutMade, PopMade, OwnRecord, Member, Below, Near, Far, WasPut, WasRefused, WasTaken, WasClosed, PutRight, Floored, Different, put_of}
+use Rattle.search_machine.specs.OwnRecord.{PutMade, PopMade, OwnRecord, RecordedWorker, Below, Near, Far, WasPut, WasRefused, WasTaken, WasClosed, PutRight, Floored, Different, put_of}
 
 -- how often leaf l is in the hand in Give, where it is not put yet
 abbrev pub in_give : ℕ → Phase → ℕ
@@ -89,5 +89,5 @@ pub record Stands (g : Ground) (i : ℕ) (w : Worker) (r : OwnRecord) : Type 0 w
   pub phase : OwnPhase g r i w.rest w.list w.phase
 
 -- member i stands for its record
-abbrev pub StandsFor : Ground → ℕ → Member → Type 0
+abbrev pub StandsFor : Ground → ℕ → RecordedWorker → Type 0
 StandsFor g i x = Stands g i x.worker x.own
