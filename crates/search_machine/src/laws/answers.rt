@@ -27,7 +27,7 @@ pub fn rank_law()
         → HasRank g n p }
 {}
 
-/// A scan may go member by member: it begins with the list, and each worker within the limit is
+/// A scan may go member by member: it begins with the list, and each member within the limit is
 /// added.
 pub fn scan_law()
     ensures none { (g : Ground) (v : ℕ) (ps : List Pair) → ShortList g ps → scan g v [] ps ≡ ps }
