@@ -1,7 +1,7 @@
 -- Tests over the numbers from a on: the first that passes (`find_in_range`), and all of them
 -- (`all_in_range`).
-use Rattle.std.proofs.Common.{◌≡◌, ℕ, zero, suc, ◌+◌, ◌<◌, ◌≤◌, Bool, true, false, cond, List, [], ◌∷◌, refl, ap, ◌∙◌, ⊎_elim, arith}
-use Rattle.std.specs.Prelude.{Some, find, ◌&&◌}
+use Rattle.std.proofs.Common.{◌≡◌, ℕ, zero, suc, ◌+◌, ◌<◌, ◌≤◌, Bool, true, false, refl, ap, ◌∙◌, ⊎_elim, arith}
+use Rattle.std.specs.Prelude.{Some, find}
 use Rattle.std.specs.List.{list_all, range_with_len}
 use Rattle.std.proofs.lemmas.Bool.{cond-true, cond-false, cases_eq, and_from, and_left, and_right}
 

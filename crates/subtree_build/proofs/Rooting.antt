@@ -1,42 +1,29 @@
 -- From the lists of all roots to what each root child is built from: the root numbers (`holds_roots`), and each of their lists
 -- (`can_build`).
-use Rattle.std.proofs.Common.{◌≡◌, ℕ, zero, suc, ◌+◌, ◌^◌, ◌<◌, ◌≤◌, Bool, true, false, cond, List, [], ◌∷◌, ◌++◌, length, get_or, map, length-append, refl, sym, ap, ◌∙◌, subst, arith, All, zero-add}
-use Rattle.std.specs.Prelude.{filter, flat_map, ◌||◌, IsPermutation}
+use Rattle.std.proofs.Common.{◌≡◌, ℕ, zero, suc, ◌+◌, ◌^◌, ◌<◌, ◌≤◌, Bool, true, false, cond, List, [], ◌∷◌, length, get_or, map, refl, sym, ap, ◌∙◌, subst, arith, All}
+use Rattle.std.specs.Prelude.{filter, ◌||◌, IsPermutation}
 use Rattle.std.specs.List.{range_with_len, list_any}
 use Rattle.std.proofs.lemmas.List.{length-map, get_or-map}
 use Rattle.std.proofs.lemmas.List.Sums.{length-filter, count_by-le-length}
-use Rattle.std.proofs.lemmas.List.Elements.{All-filter, All-head, All-tail, All-get_or, filter_passes}
+use Rattle.std.proofs.lemmas.List.Elements.{All-filter, All-get_or, filter_passes}
 use Rattle.std.proofs.lemmas.List.Sorted.{length_permutation, All-permutation}
 use Rattle.std.proofs.Math.Nat.{pow-le-pow_right}
-use Rattle.list_totals.specs.Totals.{total}
-use Rattle.list_totals.proofs.Totals.{total_append}
 use Rattle.series_core.specs.Collection.{Collection, IsCollection}
 use Rattle.segment_sums.specs.Division.{IsDivision}
 use Rattle.isax_word.specs.declared.layout.Layout.{Layout}
-use Rattle.isax_word.specs.Word.{one_bit_word}
 use Rattle.isax_word.specs.declared.member.Member.{Member}
 use Rattle.summary_phase.specs.Members.{members_of}
 use Rattle.summary_phase.specs.Roots.{has_root, of_root, root_of_all}
-use Rattle.subtree_build.specs.declared.leaf.GrownLeaf.{GrownLeaf}
-use Rattle.subtree_build.specs.declared.leaf.TreeLeaf.{TreeLeaf}
-use Rattle.subtree_build.specs.Grown.{cut_leaves, members_in}
-use Rattle.subtree_build.specs.Places.{tree_firsts}
-use Rattle.subtree_build.proofs.Growing.{length-cut, cut_both}
-use Rattle.subtree_build.specs.declared.part.Part.{Part}
 use Rattle.subtree_build.specs.declared.settings.Settings.{Settings}
 use Rattle.subtree_build.specs.declared.splicing.RootLists.{RootLists}
-use Rattle.subtree_build.specs.Tree.{Tree, leaves_of, numbered, all_numbered, IsBuilt}
-use Rattle.subtree_build.specs.Outline.{outline, moved_up}
-use Rattle.subtree_build.specs.Division.{node_of, roots_of, root_child, tree, tree_leaves}
-use Rattle.subtree_build.specs.Parts.{leaves_in, joined_nodes, part_firsts, NumbersWithin}
+use Rattle.subtree_build.specs.Division.{roots_of}
 use Rattle.subtree_build.specs.Splicing.{has_members}
 use Rattle.subtree_build.specs.Summaries.{HoldAllMembers}
-use Rattle.subtree_build.specs.Building.{list_at, root_at, child_at, leaves_of_part, places_of, CanBuild, IsPartAt, HoldsRoots}
-use Rattle.subtree_build.proofs.ByNumber.{differ_permuted, permuted_by_number}
+use Rattle.subtree_build.specs.Building.{list_at, root_at, CanBuild, HoldsRoots}
+use Rattle.subtree_build.proofs.ByNumber.{differ_permuted}
 use Rattle.subtree_build.proofs.RootNumbers.{below_count, no_more}
-use Rattle.subtree_build.proofs.OfCollection.{have_segments, root_ascends, root_differs}
-use Rattle.subtree_build.proofs.Indexing.{length-members, few_in_tree}
-use Rattle.subtree_build.proofs.Joining.{part_leaves, part_members, length-part_leaves, moved_numbered, built_within}
+use Rattle.subtree_build.proofs.OfCollection.{have_segments, root_differs}
+use Rattle.subtree_build.proofs.Indexing.{length-members}
 
 -- of two lists of one length both have members or none has
 has_same : (xs ys : List Member) → length xs ≡ length ys → has_members xs ≡ has_members ys
