@@ -1,23 +1,24 @@
--- What the next leaf of a walk is: below a step that is cut each leaf is skipped (`cut`), the start
--- leaf is left out (`start_left_out`), and any other leaf within the limit is the next (`given`).
--- The same of a step's leaf, by what is told of it (`leaf_passed`, `leaf_given`).
-use Rattle.std.proofs.Common.{◌≡◌, ◌≢◌, ℕ, ◌<◌, ◌≤◌, ⊎_elim, List, [], ◌∷◌, ◌++◌, All, Option, None, Some, length, refl, sym, ap, ◌∙◌, subst, true, false, arith}
-use Rattle.std.specs.Prelude.{nat_eq, nat_lt, not}
-use Rattle.std.proofs.lemmas.Bool.{cond-true, cond-false, cond_both, eq-eqb, ne_eqb, lt-ltb, le-ltb, eqb-true}
-use Rattle.std.specs.Option.{option_eq}
+-- What the next leaf of a walk is: below a root child that is cut each leaf is skipped (`root_cut`), a leaf that is not given is
+-- passed over (`passed_over`), and one that is given is the first (`given_first`).
+use Rattle.std.proofs.Common.{◌≡◌, ◌≢◌, ℕ, suc, ◌+◌, ◌-◌, ◌<◌, ◌≤◌, ⊎_elim, List, [], ◌∷◌, ◌++◌, All, Option, None, Some, length, refl, sym, ap, append-nil, ◌∙◌, true, false, arith}
+use Rattle.std.specs.Prelude.{nat_eq, nat_lt, not, slice_index}
+use Rattle.std.proofs.lemmas.Bool.{cond-true, cond-false, cond_both, eq-eqb, ne_eqb, lt-ltb, le-ltb}
+use Rattle.std.specs.List.{range_with_len}
+use Rattle.std.specs.Option.{is_some, option_map}
 use Rattle.std.proofs.lemmas.List.Elements.{All-head, All-tail, All-cons, All-nil, All-weaker}
-use Rattle.isax_word.specs.declared.word.Part.{Part}
-use Rattle.lower_bound.specs.Bound.{View, IsView, word_bound}
-use Rattle.subtree_build.specs.Index.{IndexParts, StandsUnder, leaf_at}
-use Rattle.subtree_build.specs.Outline.{outline, leaf_numbers}
-use Rattle.subtree_build.proofs.Bounds.{IsNoNearer, leaves_no_nearer}
+use Rattle.std.proofs.lemmas.Option.{slice_get-get_or}
+use Rattle.isax_word.proofs.Roots.{IsWord-one_bit_word}
+use Rattle.lower_bound.specs.Bound.{View, IsView}
 use Rattle.subtree_build.specs.declared.node.Node.{Leaf}
+use Rattle.subtree_build.specs.Index.{IndexParts, IsIndex, root_word_at}
+use Rattle.subtree_build.specs.Outline.{outline, leaf_numbers}
+use Rattle.subtree_build.specs.Start.{node_at, root_bound}
+use Rattle.subtree_build.proofs.Bounds.{IsNoNearer, leaves_no_nearer}
 use Rattle.series_core.specs.declared.queue_words.Entry.{Entry}
-use Rattle.query_core.specs.declared.step.Step.{Step}
 use Rattle.search_machine.specs.Ground.{Ground}
 use Rattle.search_machine.specs.Workers.{skip, without}
 use Rattle.query_core.specs.Questions.{leaf_bound}
-use Rattle.query_core.specs.Walks.{IsEntry, IsGiven, IsStep}
+use Rattle.query_core.specs.Walks.{IsFirst, IsGiven, leaves_between}
 
 -- a leaf above the limit at the front is dropped
 skip-far : (g : Ground) (v l : ℕ) (ls : List ℕ) → v < g.bound l → skip g v (l ∷ ls) ≡ skip g v ls
@@ -68,93 +69,86 @@ given g v start l ls near other =
     ap (λ (xs : List ℕ). skip g v xs) (left_in start l ls other)
     ∙ skip-near g v l (without start ls) near
 
--- the leaves below a step whose word's bound is above the limit are dropped
-pub cut : (view : View) (ix : IndexParts) (s : Step) (g : Ground) (v : ℕ) (start : Option ℕ)
-    (ls : List ℕ) → IsView view → IsStep ix s → g.bound ≡ leaf_bound view ix
-    → v < word_bound view s.word
-    → skip g v (without start (leaf_numbers s.node.now ++ ls)) ≡ skip g v (without start ls)
-cut view ix s g v start ls is_view is bounds above =
+-- the leaves from one on are that one and those behind it
+next_first : (next end : ℕ) → next < end → leaves_between next end ≡ next ∷ leaves_between (next + 1) end
+next_first next end inside =
+    let more : end - next ≡ suc (end - (next + 1)) = omega (arith, inside) in
+    ap (range_with_len next) more
+
+-- nothing lies between a number and one that is no greater
+pub none_between : (n end : ℕ) → end ≤ n → leaves_between n end ≡ []
+none_between n end low = ap (range_with_len n) (let e : end - n ≡ 0 = omega (arith, low) in e)
+
+-- nothing is left of nothing
+pub nothing_left : (g : Ground) (v : ℕ) (start : Option ℕ) (n end : ℕ) → end ≤ n
+    → skip g v (without start (leaves_between n end)) ≡ []
+nothing_left g v start n end low =
+    ap (λ (ls : List ℕ). skip g v (without start ls)) (none_between n end low) ∙ nothing start
+  where
+    nothing : (start : Option ℕ) → skip g v (without start []) ≡ []
+    nothing None = refl
+    nothing (Some l) = refl
+
+-- the leaves below a root child whose bound is above the limit are dropped
+pub root_cut : (view : View) (ix : IndexParts) (i : ℕ) (g : Ground) (v : ℕ) (start : Option ℕ) (ls : List ℕ)
+    → IsView view → IsIndex ix → i < length ix.roots → g.bound ≡ leaf_bound view ix → v < root_bound view ix i
+    → leaf_numbers (node_at ix i) ≡ ls → skip g v (without start ls) ≡ []
+root_cut view ix i g v start ls is_view is inside bounds above below =
+    let word = root_word_at ix i in
+    let node = node_at ix i in
+    let low : i < length ix.nodes = omega (arith, is.one_node_each, inside) in
     let near =
-    leaves_no_nearer view ix.leaves s.word (outline s.node.now) is_view is.word is.stands in
-    skip-all_far g v start (leaf_numbers s.node.now) ls
-    (All-weaker (IsNoNearer view ix.leaves (word_bound view s.word)) (λ l. v < g.bound l)
+    leaves_no_nearer view ix.leaves word (outline node) is_view
+    (IsWord-one_bit_word (slice_index ix.roots i) ix.segments is.some_segments is.few_segments
+    (is.roots_fit i 0 inside))
+    (is.nodes_stand i node (slice_get-get_or ix.nodes i (Leaf 0) low)) in
+    let far : All (λ l. v < g.bound l) (leaf_numbers node)
+    = All-weaker (IsNoNearer view ix.leaves (root_bound view ix i)) (λ l. v < g.bound l)
     (λ l h.
     let same : g.bound l ≡ leaf_bound view ix l = ap (λ (f : ℕ → ℕ). f l) bounds in
-    omega (arith, h, same))
-    (leaf_numbers s.node.now) near)
+    omega (arith, above, h, same))
+    (leaf_numbers node) near in
+    ap (λ (xs : List ℕ). skip g v (without start xs)) (sym below ∙ sym (append-nil (leaf_numbers node)))
+    ∙ skip-all_far g v start (leaf_numbers node) [] far
+    ∙ ap (λ (ls : List ℕ). skip g v (without start ls)) (sym (none_between 0 0 (omega arith)))
+    ∙ nothing_left g v start 0 0 (omega arith)
 
--- the leaf of a step stands under the step's word
-pub leaf_stands : (ix : IndexParts) (s : Step) (l : ℕ) → IsStep ix s → s.node.now ≡ Leaf l
-    → (l < length ix.leaves) × ((leaf_at ix.leaves l).word ≡ s.word)
-leaf_stands ix s l is same =
-    subst (StandsUnder ix.leaves s.word) (ap outline same) is.stands
+module _ (g : Ground) (bound : ℕ → ℕ) (bounds : g.bound ≡ bound) (v : ℕ) (start : Option ℕ) (next end : ℕ)
+    (inside : next < end) where
+  -- the bound of the next leaf
+  same_bound : g.bound next ≡ bound next
+  same_bound = ap (λ (f : ℕ → ℕ). f next) bounds
 
--- the bound of a step's leaf is that of the step's word
-pub leaf_near : (view : View) (ix : IndexParts) (s : Step) (g : Ground) (v l : ℕ) → IsStep ix s
-    → s.node.now ≡ Leaf l → g.bound ≡ leaf_bound view ix → word_bound view s.word ≤ v
-    → g.bound l ≤ v
-leaf_near view ix s g v l is same bounds near =
-    let bound : g.bound l ≡ word_bound view s.word
-    = ap (λ (f : ℕ → ℕ). f l) bounds
-    ∙ ap (λ (w : List Part). word_bound view w) (leaf_stands ix s l is same).1 in
-    omega (arith, bound, near)
+  -- the next leaf is passed over where it is not given
+  leaf_passed : IsGiven start v (bound next) next None
+      → skip g v (without start (leaves_between next end)) ≡ skip g v (without start (leaves_between (next + 1) end))
+  leaf_passed passed =
+      let P : ℕ → Type 0 = λ m. v < g.bound m in
+      let rest = leaves_between (next + 1) end in
+      ap (λ (ls : List ℕ). skip g v (without start ls)) (next_first next end inside)
+      ∙ ⊎_elim
+      (λ at_start. ap (λ (xs : List ℕ). skip g v xs) (start_left_out start next rest at_start))
+      (λ above. skip-all_far g v start (next ∷ []) rest
+      (All-cons P next [] (omega (arith, above, same_bound)) (All-nil P)))
+      passed
 
--- a node is one leaf alone
-pub same_leaf : (l m : ℕ) → Leaf l ≡ Leaf m → l ≡ m
-same_leaf l m same = cc
+  -- the next leaf is the next that is given where it is given
+  leaf_given : (e : Entry) → IsGiven start v (bound next) next (Some e)
+      → skip g v (without start (leaves_between next end)) ≡ e.leaf ∷ without start (leaves_between (e.leaf + 1) end)
+  leaf_given e told =
+      ap (λ (ls : List ℕ). skip g v (without start ls)) (next_first next end inside)
+      ∙ given g v start next (leaves_between (next + 1) end) (omega (arith, told.2, same_bound)) told.3
+      ∙ ap (λ (m : ℕ). m ∷ without start (leaves_between (m + 1) end)) (sym told.0)
 
--- the test that tells another leaf from the start leaf
-pub is_other : (start : Option ℕ) (l : ℕ) → false ≡ option_eq nat_eq start (Some l) → start ≢ Some l
-is_other start l test same =
-    let other : false ≡ nat_eq l l
-    = test ∙ ap (λ (o : Option ℕ). option_eq nat_eq o (Some l)) same in
-    let itself : nat_eq l l ≡ true = eq-eqb l l refl in
-    cc
+  -- a leaf that is not given is passed over
+  pub passed_over : (r : Option Entry) → false ≡ is_some r → IsGiven start v (bound next) next r
+      → skip g v (without start (leaves_between next end)) ≡ skip g v (without start (leaves_between (next + 1) end))
+  passed_over None none told = leaf_passed told
+  passed_over (Some e) none told = cc
 
--- the test that tells the start leaf
-pub is_start : (start : Option ℕ) (l : ℕ) → true ≡ option_eq nat_eq start (Some l) → start ≡ Some l
-is_start None l test = cc
-is_start (Some m) l test = ap Some (eqb-true m l (sym test))
-
--- the bound of a step's word is that of its leaf
-pub bound_of_leaf : (view : View) (ix : IndexParts) (s : Step) (l : ℕ) → IsStep ix s
-    → s.node.now ≡ Leaf l → word_bound view s.word ≡ leaf_bound view ix l
-bound_of_leaf view ix s l is same =
-    ap (λ (w : List Part). word_bound view w) (sym (leaf_stands ix s l is same).1)
-
--- a step's leaf that is not given is passed over
-pub leaf_passed : (view : View) (ix : IndexParts) (s : Step) (g : Ground) (v : ℕ)
-    (start : Option ℕ) (l : ℕ) (ls : List ℕ) → IsStep ix s → s.node.now ≡ Leaf l
-    → g.bound ≡ leaf_bound view ix → IsGiven start v (word_bound view s.word) l None
-    → skip g v (without start (leaf_numbers s.node.now ++ ls)) ≡ skip g v (without start ls)
-leaf_passed view ix s g v start l ls is same bounds passed =
-    let P : ℕ → Type 0 = λ m. v < g.bound m in
-    let bound : g.bound l ≡ leaf_bound view ix l = ap (λ (f : ℕ → ℕ). f l) bounds in
-    ap (λ n. skip g v (without start (leaf_numbers n ++ ls))) same
-    ∙ ⊎_elim
-    (λ at_start. ap (λ (xs : List ℕ). skip g v xs) (start_left_out start l ls at_start))
-    (λ above. skip-all_far g v start (l ∷ []) ls
-    (All-cons P l [] (omega (arith, above, bound, bound_of_leaf view ix s l is same))
-    (All-nil P)))
-    passed
-
--- a step's leaf that is given is the next
-pub leaf_given : (view : View) (ix : IndexParts) (s : Step) (g : Ground) (v : ℕ)
-    (start : Option ℕ) (l : ℕ) (e : Entry) (ls : List ℕ) → IsStep ix s → s.node.now ≡ Leaf l
-    → g.bound ≡ leaf_bound view ix → IsGiven start v (word_bound view s.word) l (Some e)
-    → skip g v (without start (leaf_numbers s.node.now ++ ls)) ≡ e.leaf ∷ without start ls
-leaf_given view ix s g v start l e ls is same bounds told =
-    ap (λ n. skip g v (without start (leaf_numbers n ++ ls))) same
-    ∙ given g v start l ls (leaf_near view ix s g v l is same bounds told.2) told.3
-    ∙ ap (λ (m : ℕ). m ∷ without start ls) (sym told.0)
-
--- an entry that is given is a leaf of the index with its bound
-pub entry_given : (view : View) (ix : IndexParts) (s : Step) (v : ℕ) (start : Option ℕ) (l : ℕ)
-    (e : Entry) → IsStep ix s → s.node.now ≡ Leaf l
-    → IsGiven start v (word_bound view s.word) l (Some e)
-    → IsEntry view ix e
-entry_given view ix s v start l e is same told = (
-  subst (λ (m : ℕ). m < length ix.leaves) (sym told.0) (leaf_stands ix s l is same).0,
-  told.1 ∙ bound_of_leaf view ix s l is same
-      ∙ ap (λ (m : ℕ). leaf_bound view ix m) (sym told.0),
-)
+  -- a leaf that is given is the first of those from one on, of which those before it were passed over
+  pub given_first : (first : ℕ) (r : Option Entry) → true ≡ is_some r → IsGiven start v (bound next) next r
+      → skip g v (without start (leaves_between first end)) ≡ skip g v (without start (leaves_between next end))
+      → IsFirst g start v first end (option_map (λ e. e.leaf) r)
+  given_first first None some told was = cc
+  given_first first (Some e) some told was = was ∙ leaf_given e told

@@ -1,5 +1,5 @@
 -- Each leaf of an index is below one root child, once (`below_count`), below each root child there is some leaf
--- (`some_below`), and each leaf has a word (`leaf_has_word`) of the index's segments (`leaf_has_segments`).
+-- (`some_below`), and each leaf has a word (`leaf_has_word`).
 use Rattle.std.proofs.Common.{◌≡◌, ℕ, zero, suc, ◌+◌, ◌<◌, ◌≤◌, ◌⊎◌, inl, inr, List, [], length, map, Bool, true, false, refl, sym, ap, ◌∙◌, subst, ⊎_elim, arith, All}
 use Rattle.std.specs.Prelude.{Some, slice_get, slice_index, slice_index_or, ◌&&◌}
 use Rattle.std.specs.List.{range_with_len}
@@ -13,14 +13,13 @@ use Rattle.list_totals.proofs.Places.{times_contains, total_some}
 use Rattle.list_totals.proofs.Totals.{total_map, once_below_yes}
 use Rattle.isax_word.specs.declared.word.Part.{Part}
 use Rattle.isax_word.specs.Word.{IsWord, child_word}
-use Rattle.isax_word.proofs.Roots.{IsWord-one_bit_word, length-one_bit_word}
+use Rattle.isax_word.proofs.Roots.{IsWord-one_bit_word}
 use Rattle.isax_word.proofs.Words.{IsWord-child_word}
 use Rattle.subtree_build.specs.declared.leaf.TreeLeaf.{TreeLeaf}
 use Rattle.subtree_build.specs.declared.node.Node.{Node, Leaf}
 use Rattle.subtree_build.specs.Tree.{Tree, absent, leaf, split, leaves_of, is_absent}
 use Rattle.subtree_build.specs.Outline.{outline, leaf_numbers}
 use Rattle.subtree_build.specs.Index.{IndexParts, IsIndex, StandsUnder, leaf_at, root_word_at}
-use Rattle.subtree_build.proofs.Children.{length-child_word}
 use Rattle.subtree_build.proofs.Fitting.{total_flat_map}
 use Rattle.subtree_build.proofs.Outlines.{present}
 use Rattle.search_machine.proofs.Counts.{equal_counts, others_count}
@@ -138,27 +137,4 @@ leaf_has_word ix index =
     (λ i real.
     words_below ix.leaves (root_word_at ix i) (outline (slice_index_or ix.nodes i (Leaf 0)))
     (root_has_word ix index i (omega (arith, index.one_node_each)))
-    (index.nodes_stand i (slice_index_or ix.nodes i (Leaf 0)) (slice_get-get_or ix.nodes i (Leaf 0) real)))
-
--- each leaf below a node has as many segments as the node
-segments_below : (leaves : List TreeLeaf) (word : List Part) (t : Tree ℕ) (w : ℕ) → length word ≡ w
-    → StandsUnder leaves word t → All (λ l. length (leaf_at leaves l).word ≡ w) (leaves_of t)
-segments_below leaves word absent w is stands = All-nil _
-segments_below leaves word (leaf l) w is stands =
-    All-cons (λ m. length (leaf_at leaves m).word ≡ w) l [] (ap length stands.1 ∙ is) (All-nil _)
-segments_below leaves word (split segment low high) w is stands =
-    All-append (λ m. length (leaf_at leaves m).word ≡ w) (leaves_of low) (leaves_of high)
-    (segments_below leaves (child_word word segment false) low w
-    (length-child_word word segment false ∙ is) stands.1)
-    (segments_below leaves (child_word word segment true) high w
-    (length-child_word word segment true ∙ is) stands.2)
-
--- each leaf has as many segments as the index
-pub leaf_has_segments : (ix : IndexParts) → IsIndex ix → (l : ℕ) → l < length ix.leaves
-    → length (leaf_at ix.leaves l).word ≡ ix.segments
-leaf_has_segments ix index =
-    each_leaf ix index (λ word. length word ≡ ix.segments)
-    (λ i real.
-    segments_below ix.leaves (root_word_at ix i) (outline (slice_index_or ix.nodes i (Leaf 0))) ix.segments
-    (length-one_bit_word (slice_index ix.roots i) ix.segments)
     (index.nodes_stand i (slice_index_or ix.nodes i (Leaf 0)) (slice_get-get_or ix.nodes i (Leaf 0) real)))

@@ -17,6 +17,4 @@ pub mod StartLeaf
 pub mod OfIndex
 pub mod Meeting
 pub mod StartScan
-pub mod Walking
 pub mod Advancing
-pub mod Beginning

@@ -12,7 +12,6 @@ mod playing;
 mod scan;
 mod shared;
 mod stage;
-mod step;
 mod task;
 mod team;
 mod turn;

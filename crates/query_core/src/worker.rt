@@ -94,7 +94,7 @@ impl<'a, R: Rows> Worker<'a, R> {
         let _k = task.k();
         let start = leaf_of(start);
         let marks = opened_marks(alloc, index.leaf_count() as usize, number, start)?;
-        let walk = Walk::new(alloc, index)?;
+        let walk = Walk::new(index);
         Ok(Worker {
             task,
             index,

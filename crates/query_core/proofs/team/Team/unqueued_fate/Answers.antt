@@ -2,7 +2,7 @@ use Rattle.std.proofs.Common.{List, ap, arith, length, sym, ◌<◌, ◌∙◌}
 use Rattle.isax_word.specs.declared.word.Part.{Part}
 use Rattle.lower_bound.specs.Bound.{View}
 use Rattle.query_core.specs.Teams.{TeamParts}
-use Rattle.query_core.proofs.BelowRoots.{leaf_has_segments}
+use Rattle.subtree_build.proofs.LeafWords.{leaf_has_segments}
 use Rattle.query_core.proofs.team.Team.unqueued_fate.Goals as goal
 
 pub bound_word-requires : goal.bound_word-requires

@@ -33,7 +33,7 @@ invariant_of-result g c =
       few_queues = c.requires.queues.1;
       start_is = opener_start a ix c.args.queues c.args.start c.leaf_of-start.result c.requires.start
           c.leaf_of-start.ensures;
-      walk_index = ap (λ (w : Walked). w.index) c.in_ok-walk.ensures;
+      walk_index = ap (λ (w : Walked). w.index) c.new-walk.ensures;
       wanted = ap (λ (b : Best). b.k) c.requires.list;
       found = subst (λ (ps : List Pair). IsFound search c.in_ok-marks.marks.items ps)
           (sym (ap (λ (b : Best). b.pairs) c.requires.list))
@@ -49,8 +49,8 @@ returns-clause-opens g c =
     let marks =
     opener_marks a ix c.args.queues c.args.start c.leaf_of-start.result c.requires.start c.leaf_of-start.ensures
     c.args.number c.leaf_count.result c.in_ok-marks.marks.items c.leaf_count.ensures.count c.in_ok-marks.ensures in
-    let rest : without c.leaf_of-start.result c.in_ok-walk.walk.leaves ≡ [] =
-    ap (λ (w : Walked). without c.leaf_of-start.result w.leaves) c.in_ok-walk.ensures
+    let rest : without c.leaf_of-start.result c.new-walk.result.leaves ≡ [] =
+    ap (λ (w : Walked). without c.leaf_of-start.result w.leaves) c.new-walk.ensures
     ∙ none_without c.leaf_of-start.result in
     opener_shows (search_over a ix 1 c.args.queues) c.args.number _ refl rest
     (ap (λ (b : Best). b.pairs) c.requires.list) marks
