@@ -1,0 +1,5 @@
+-- The lemmas of this crate.
+pub mod QueueSteps
+pub mod Pasts
+pub mod Callers
+pub mod Rooms

@@ -1,0 +1,9 @@
+use Rattle.queue_histories.proofs.Rooms.{all_placed, different_placed}
+use Rattle.queue_histories.proofs.laws.never_refused_law.Goals as goal
+
+pub returns-clause-counted : goal.returns-clause-counted
+returns-clause-counted c = λ q log puts room legal. all_placed q log puts room legal
+
+pub returns-clause-different : goal.returns-clause-different
+returns-clause-different c =
+    λ g m log puts differ legal. different_placed g m log puts differ legal

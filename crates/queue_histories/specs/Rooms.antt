@@ -1,0 +1,41 @@
+-- When no put of a history is refused: as many puts as there is room for, or puts of different leaves of one queue.
+use Rattle.std.specs.Prelude.{◌≡◌, ℕ, ◌+◌, ◌<◌, ◌≤◌, length, None}
+use Rattle.list_totals.specs.Totals.{total, one_if_same}
+use Rattle.list_totals.specs.Standing.{In}
+use Rattle.series_core.specs.declared.queue_words.Entry.{Entry}
+use Rattle.series_core.specs.declared.queue_words.PutReply.TheVariants.{Placed}
+use Rattle.turn_lock.specs.declared.object.Entry.{Entry as Made}
+use Rattle.leaf_queues.specs.declared.calls.Call.{Call}
+use Rattle.leaf_queues.specs.declared.calls.Call.TheVariants.{Put, Pop}
+use Rattle.leaf_queues.specs.declared.calls.Reply.{Reply}
+use Rattle.leaf_queues.specs.declared.calls.Reply.TheVariants.{Put as PutAnswer}
+use Rattle.leaf_queues.specs.PlainQueue.{PlainQueue}
+use Rattle.search_machine.specs.Ground.{Ground, queue_of}
+use Rattle.queue_histories.specs.Histories.{History}
+
+-- each reply says that the entry was placed
+abbrev pub AllPlaced : History → Type 0
+AllPlaced log = (x : Made Call Reply) → In x log → x.reply ≡ PutAnswer Placed
+
+-- the queue is open, and has room for as many puts as there are calls
+abbrev pub HasRoom : PlainQueue → History → Type 0
+HasRoom q log = (q.kept ≡ None) × (q.placed + length log ≤ q.capacity)
+
+-- how often a call names leaf l in a put
+abbrev pub puts_leaf : ℕ → Call → ℕ
+puts_leaf l (Put e) = one_if_same l e.leaf
+puts_leaf l (Pop v) = 0
+
+-- how often a call that was made named leaf l in a put
+abbrev pub puts_at : ℕ → Made Call Reply → ℕ
+puts_at l x = puts_leaf l x.call
+
+-- each call is a put of a leaf that belongs to queue m
+abbrev pub ArePutsInto : Ground → ℕ → History → Type 0
+ArePutsInto g m log =
+    (x : Made Call Reply) → In x log
+    → (e : Entry) × (x.call ≡ Put e) × (e.leaf < g.leaves) × (queue_of g e.leaf ≡ m)
+
+-- no leaf is put twice
+abbrev pub PutsDiffer : History → Type 0
+PutsDiffer log = (l : ℕ) → total (puts_at l) log ≤ 1
