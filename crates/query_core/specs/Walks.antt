@@ -39,6 +39,10 @@ IsFirst g start v next end None = skip g v (without start (leaves_between next e
 IsFirst g start v next end (Some l) =
     skip g v (without start (leaves_between next end)) ≡ l ∷ without start (leaves_between (l + 1) end)
 
+-- a leaf of the index with its bound
+abbrev pub IsEntry : View → IndexParts → Entry → Type 0
+IsEntry view ix e = (e.leaf < length ix.leaves) × (e.bound ≡ leaf_bound view ix e.leaf)
+
 -- an entry is of a leaf from one number up to but not including another, with its bound
 pub record IsAmong (view : View) (ix : IndexParts) (next end : ℕ) (e : Entry) : Type 0 where
   pub from : next ≤ e.leaf
