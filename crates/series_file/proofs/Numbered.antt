@@ -42,7 +42,9 @@ pub spells_numbered : (rows : Collection) → IsCollection rows
 spells_numbered rows sound total = record {
   sound = sound;
   total = total;
-  fits = (length-range_with_len 0 (length rows.series),
-      numbers_fit (length rows.series) (omega (arith, sound.count_limit)));
+  fits = (
+    length-range_with_len 0 (length rows.series),
+    numbers_fit (length rows.series) (omega (arith, sound.count_limit)),
+  );
   spelled = refl;
 }
