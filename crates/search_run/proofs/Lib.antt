@@ -13,3 +13,4 @@ pub mod Exactly
 pub mod Concluding
 pub mod Both
 pub mod Searching
+pub mod Converting

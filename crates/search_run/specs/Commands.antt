@@ -2,13 +2,14 @@
 use Rattle.std.specs.Prelude.{◌≡◌, ℕ, ℤ, true, false, ⊤, List, Option, None, codes}
 use Rattle.outside.specs.Files.{Held}
 use Rattle.command_words.specs.declared.command.Command.{Command}
-use Rattle.command_words.specs.declared.command.Command.TheVariants.{Nearest, Range, Verify, Trial, Windows}
+use Rattle.command_words.specs.declared.command.Command.TheVariants.{Nearest, Range, Verify, Trial, Convert, Windows}
 use Rattle.command_words.specs.declared.options.Options.{Options}
 use Rattle.series_core.specs.Answer.{answer, within}
 use Rattle.series_core.specs.Collection.{Collection}
 use Rattle.series_core.specs.declared.pair.Pair.{Pair}
 use Rattle.series_file.specs.declared.error.Loaded.{Loaded}
 use Rattle.search_run.specs.Certificates.{subject_of}
+use Rattle.search_run.specs.Conversions.{converted_text}
 use Rattle.search_run.specs.Loads.{form_of}
 use Rattle.search_run.specs.Plans.{CanPass, Plan, Load, Compare, Divide, Check, Write}
 use Rattle.search_run.specs.Texts.{IsAnswerPiece, IsTextOf}
@@ -21,6 +22,7 @@ IsServed (Nearest series queries o) = (o.certificate ≡ false) × (o.index ≡ 
 IsServed (Range series queries radius o) = ⊤
 IsServed (Verify series queries certificate o) = ⊤
 IsServed (Trial seed count length queries o) = ⊤
+IsServed (Convert series o) = ⊤
 IsServed _ = ⊥
 
 -- where the command would search over queues with locks, it asks for the search over sealed runs, which has none
@@ -61,12 +63,17 @@ abbrev pub trial_plan : ℕ → ℕ → ℕ → ℕ → Options → Plan
 trial_plan seed count length queries o =
     Divide o.segments length (Write (λ text. text ≡ trial_text seed count length queries o.k))
 
+-- one file of series, and the text of version 2 of what it holds
+abbrev pub convert_plan : List ℕ → Options → Plan
+convert_plan series o = Load Series series (form_of o.raw) (λ x. Write (λ text. text ≡ converted_text x))
+
 -- what a command does; one that is not answered yet has no text
 abbrev pub plan_of : Command → Plan
 plan_of (Nearest series queries o) = search_plan series queries o (λ rows q. answer rows q o.k)
 plan_of (Range series queries radius o) = search_plan series queries o (λ rows q. within rows q radius)
 plan_of (Verify series queries certificate o) = verify_plan series queries certificate o
 plan_of (Trial seed count length queries o) = trial_plan seed count length queries o
+plan_of (Convert series o) = convert_plan series o
 plan_of _ = Write (λ _. ⊥)
 
 -- nothing keeps the command from its work

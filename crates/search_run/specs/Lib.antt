@@ -5,6 +5,7 @@ pub mod Texts
 pub mod Trials
 pub mod Traffic
 pub mod Loads
+pub mod Conversions
 pub mod Layouts
 pub mod Certificates
 pub mod Plans

@@ -1,5 +1,6 @@
 //! What each command does with its input, one module a command: it ends with the status that says why it did not.
 
+pub mod convert;
 pub mod nearest;
 pub mod range;
 pub mod search;

@@ -6,6 +6,7 @@ mod commands;
 mod crew;
 mod finding;
 mod input;
+mod laws;
 mod layout;
 mod output;
 mod serving;
@@ -14,6 +15,7 @@ mod status;
 mod tree;
 
 pub use command_words::{Command, Options, Text, WordsError, parse_words};
+pub use laws::convert_law;
 pub use random_walks::walks;
 pub use stages::{run, run_free};
 pub use status::{CertFault, Status, Which};

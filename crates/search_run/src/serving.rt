@@ -12,7 +12,10 @@ pub fn is_served(command: &Command) -> bool
 {
     match command {
         Command::Nearest { options, .. } => !options.certificate && options.index.is_none(),
-        Command::Range { .. } | Command::Verify { .. } | Command::Trial { .. } => true,
+        Command::Range { .. }
+        | Command::Verify { .. }
+        | Command::Trial { .. }
+        | Command::Convert { .. } => true,
         _ => false,
     }
 }

@@ -17,6 +17,7 @@ ghost use Rattle.search_run.specs.declared.status.CertFault.{CertFault};
 ghost use Rattle.search_run.specs.declared.status.Status.{Status};
 ghost use Rattle.search_run.specs.declared.status.Which.{Which};
 
+use crate::commands::convert::answer_convert;
 use crate::commands::nearest::answer_nearest;
 use crate::commands::range::answer_range;
 use crate::commands::trial::{Trial, answer_trial};
@@ -202,6 +203,7 @@ fn answer<T: Threads + Sync, F: Files, S: Sink, G: Gate + Sync>(
             };
             answer_trial(crew, &trial, out)
         }
+        Command::Convert { series, options } => answer_convert(alloc, series, options, files, out),
         _ => Err(Status::Usage),
     }
 }

@@ -12,6 +12,7 @@ pub mod HeaderSpelled
 pub mod Spelled
 pub mod RawValues
 pub mod Writing
+pub mod Numbered
 pub mod ReadBack
 pub mod Unique
 pub mod Passing

@@ -1,6 +1,6 @@
 -- How a series file is spelled: what stands in it, from its first byte to its last.
 use Rattle.std.specs.Prelude.{◌≡◌, ℕ, ◌*◌, ◌^◌, ◌<◌, ◌≤◌, ℤ, List, [], ◌∷◌, ◌++◌, length, Option, None, Some}
-use Rattle.std.specs.List.{All, flat_map}
+use Rattle.std.specs.List.{All, flat_map, range_with_len}
 use Rattle.std.specs.Int.{cast_unsigned}
 use Rattle.byteorder.specs.Endian.{little_bytes}
 use mir.Syntax.{w16}
@@ -25,6 +25,10 @@ values_of rows = length rows.series * rows.points
 -- the values, series after series
 abbrev pub values_text : Collection → List ℕ
 values_text rows = flat_map value_bytes (joined rows.series)
+
+-- the numbers of the series, from 0, in order
+abbrev pub numbers_of : Collection → List ℕ
+numbers_of rows = range_with_len 0 (length rows.series)
 
 -- the labels, of eight bytes each
 abbrev pub labels_text : List ℕ → List ℕ

@@ -15,7 +15,7 @@ mod write;
 pub use error::{FileError, Form, Loaded};
 pub use laws::{collection_law, no_fault_law, one_collection_law};
 pub use read::read_series;
-pub use write::write_series;
+pub use write::{write_numbered, write_series};
 
 #[cfg(test)]
 mod plain_reader;

@@ -1,10 +1,10 @@
 //! Writing a series file: the one text with a header that a collection has, without labels or with them.
-//! A file without labels is of version 1, one with labels of version 2.
+//! A file without labels is of version 1, one with labels of version 2. The room for a text is taken at once.
 
-ghost use Rattle.std.specs.Prelude.{◌≡◌, ◌*◌, ◌^◌, ◌++◌, ◌<◌, ◌≤◌, length, None, IfOk, IfSome, OnOk, option_copied};
-ghost use Rattle.std.specs.List.{All, flat_map};
+ghost use Rattle.std.specs.Prelude.{◌≡◌, ◌*◌, ◌^◌, [], ◌++◌, ◌<◌, ◌≤◌, length, None, Some, IfOk, IfSome, OnOk, option_copied};
+ghost use Rattle.std.specs.List.{All, flat_map, range_with_len};
 ghost use Rattle.series_core.specs.Collection.{IsCollection};
-ghost use Rattle.series_file.specs.Format.{SpellsFile, text, values_text, labels_text, value_bytes, header_one, header_two};
+ghost use Rattle.series_file.specs.Format.{SpellsFile, numbers_of, text, values_text, labels_text, value_bytes, header_one, header_two};
 ghost use Rattle.series_file.specs.declared.error.Form.TheVariants.{Headed};
 ghost use Rattle.series_core.specs.declared.rows.TheConstants.{MAX_LENGTH};
 
@@ -25,7 +25,7 @@ pub fn write_series<R: Rows>(
     ensures text { IfOk result (λ bytes. bytes.items ≡ text Headed (R.collection rows.now) (option_copied labels.entry)) }
     ensures file { IfOk result (λ bytes. SpellsFile (R.collection rows.now) (option_copied labels.entry) bytes.items) }
 {
-    let mut bytes = Vec::new(alloc);
+    let mut bytes = room_for(alloc, rows, labels.is_some())?;
     match labels {
         None => append_header_one(&mut bytes, rows)?,
         Some(labels) => {
@@ -35,6 +35,31 @@ pub fn write_series<R: Rows>(
     }
     append_values(&mut bytes, rows)?;
     Ok(bytes)
+}
+
+/// The text of version 2 of the collection in which each series has its number as its label. No list of them is made.
+/// With no more values than a file may have it is a series file, which is read to the same again.
+pub fn write_numbered<R: Rows>(alloc: Global, rows: &R) -> Result<Vec<u8>, NoMemory>
+    ensures text { IfOk result (λ bytes. bytes.items
+        ≡ text Headed (R.collection rows.now) (Some (numbers_of (R.collection rows.now)))) }
+    ensures file { IfOk result (λ bytes. SpellsFile (R.collection rows.now)
+        (Some (numbers_of (R.collection rows.now))) bytes.items) }
+{
+    let mut bytes = room_for(alloc, rows, true)?;
+    append_header_two(&mut bytes, rows)?;
+    append_numbers(&mut bytes, rows.count())?;
+    append_values(&mut bytes, rows)?;
+    Ok(bytes)
+}
+
+// An empty text, with room for that of the collection, with a label for each series or without.
+fn room_for<R: Rows>(alloc: Global, rows: &R, labelled: bool) -> Result<Vec<u8>, AllocError>
+    ensures { IfOk result (λ bytes. bytes.items ≡ []) }
+{
+    let count = rows.count() as usize;
+    let labels = if labelled { 8 * count } else { 0 };
+    let values = 2 * rows.length() as usize * count;
+    Vec::with_capacity(alloc, 16 + labels + values)
 }
 
 // Appends the header of version 1, which has two bytes for the length.
@@ -72,6 +97,16 @@ fn append_labels(bytes: &mut Vec<u8>, labels: &[u64]) -> Result<(), AllocError>
     let start = bytes.len();
     bytes.resize(start + 8 * labels.len(), 0)?;
     LittleEndian::write_u64_into(labels, &mut bytes[start..]);
+    Ok(())
+}
+
+// Appends the numbers from 0 as labels, so many.
+fn append_numbers(bytes: &mut Vec<u8>, count: u32) -> Result<(), AllocError>
+    ensures { OnOk result (bytes.new.items ≡ bytes.old.items ++ labels_text (range_with_len 0 count)) }
+{
+    for number in 0..count {
+        bytes.extend_from_slice(&u64::from(number).to_le_bytes())?;
+    }
     Ok(())
 }
 

@@ -34,3 +34,11 @@ returns-in-Trial-clause-answers g c =
     let writing = wrote_to g.S.Sink.written g.S.Sink.faults g.S.Sink.sure c.args.out.now c.answer_trial.new.out in
     subst (λ command. Answers reading writing command (ended c.answer_trial.result)) (sym c.in-Trial.is)
     (c.answer_trial.ensures.answers reading)
+
+pub returns-in-Convert-clause-answers : goal.returns-in-Convert-clause-answers
+returns-in-Convert-clause-answers g c =
+    let reading = read_from g.F.Files.held g.F.Files.faults g.F.Files.misses g.F.Files.blamed c.args.files.now
+    c.answer_convert.new.files in
+    let writing = wrote_to g.S.Sink.written g.S.Sink.faults g.S.Sink.sure c.args.out.now c.answer_convert.new.out in
+    subst (λ command. Answers reading writing command (ended c.answer_convert.result)) (sym c.in-Convert.is)
+    c.answer_convert.ensures.answers
