@@ -1,14 +1,14 @@
 -- The first descent at a split with both children: to the one of lesser bound (`to_high`, `to_low`).
-use Rattle.std.proofs.Common.{◌≡◌, ℕ, ◌<◌, ◌≤◌, Bool, true, false, List, refl, ◌∙◌}
-use Rattle.std.specs.Prelude.{◌&&◌, ◌||◌, not, nat_lt}
-use Rattle.std.proofs.lemmas.Bool.{cond-true, cond-false, lt-ltb, le-ltb}
+use Rattle.std.proofs.Common.{◌≡◌, ℕ, Bool, true, false, List, refl, ◌∙◌}
+use Rattle.std.specs.Prelude.{◌&&◌, ◌||◌, not}
+use Rattle.std.proofs.lemmas.Bool.{cond-true, cond-false}
 use Rattle.isax_word.specs.declared.word.Part.{Part}
 use Rattle.isax_word.specs.Word.{child_word}
-use Rattle.lower_bound.specs.Bound.{View, word_bound}
+use Rattle.lower_bound.specs.Bound.{View}
 use Rattle.subtree_build.specs.declared.node.Node.{Node}
 use Rattle.subtree_build.specs.Tree.{split, is_absent}
 use Rattle.subtree_build.specs.Outline.{outline}
-use Rattle.subtree_build.specs.Start.{takes_high, first_descent}
+use Rattle.subtree_build.specs.Start.{is_high_nearer, takes_high, first_descent}
 use Rattle.subtree_build.proofs.Outlines.{present}
 
 -- with both children the bounds alone decide
@@ -19,27 +19,25 @@ by_bounds false true t e f = cc
 
 -- with both children the bounds decide
 takes_by_bounds : (view : View) (word : List Part) (j : ℕ) (a b : Node)
-    → takes_high view word j (outline a) (outline b)
-    ≡ nat_lt (word_bound view (child_word word j true)) (word_bound view (child_word word j false))
+    → takes_high view word j (outline a) (outline b) ≡ is_high_nearer view word j
 takes_by_bounds view word j a b =
-    by_bounds (is_absent (outline a)) (is_absent (outline b))
-    (nat_lt (word_bound view (child_word word j true)) (word_bound view (child_word word j false)))
+    by_bounds (is_absent (outline a)) (is_absent (outline b)) (is_high_nearer view word j)
     (present a) (present b)
 
--- to the high child, where its bound is less
+-- to the high child, where it is nearer
 pub to_high : (view : View) (word : List Part) (j : ℕ) (a b : Node)
-    → word_bound view (child_word word j true) < word_bound view (child_word word j false)
+    → is_high_nearer view word j ≡ true
     → first_descent view word (split j (outline a) (outline b))
     ≡ first_descent view (child_word word j true) (outline b)
-to_high view word j a b less =
+to_high view word j a b nearer =
     cond-true (takes_high view word j (outline a) (outline b)) _ _
-    (takes_by_bounds view word j a b ∙ lt-ltb _ _ less)
+    (takes_by_bounds view word j a b ∙ nearer)
 
--- to the low child, where its bound is no greater
+-- to the low child, where the high one is no nearer
 pub to_low : (view : View) (word : List Part) (j : ℕ) (a b : Node)
-    → word_bound view (child_word word j false) ≤ word_bound view (child_word word j true)
+    → is_high_nearer view word j ≡ false
     → first_descent view word (split j (outline a) (outline b))
     ≡ first_descent view (child_word word j false) (outline a)
-to_low view word j a b less =
+to_low view word j a b far =
     cond-false (takes_high view word j (outline a) (outline b)) _ _
-    (takes_by_bounds view word j a b ∙ le-ltb _ _ less)
+    (takes_by_bounds view word j a b ∙ far)

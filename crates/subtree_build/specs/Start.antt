@@ -10,13 +10,17 @@ use Rattle.subtree_build.specs.Tree.{Tree, absent, leaf, split, is_absent}
 use Rattle.subtree_build.specs.Outline.{outline}
 use Rattle.subtree_build.specs.Index.{IndexParts, root_word_at}
 
+-- whether the bound of the high child is less than that of the low one
+abbrev pub is_high_nearer : View → List Part → ℕ → Bool
+is_high_nearer view word segment =
+    nat_lt (word_bound view (child_word word segment true))
+    (word_bound view (child_word word segment false))
+
 -- whether the high child is taken: where there is no low child, and where there are both and its bound is less
 abbrev pub takes_high : View → List Part → ℕ → Tree ℕ → Tree ℕ → Bool
 takes_high view word segment low high =
     is_absent low
-    || (not (is_absent high)
-    && nat_lt (word_bound view (child_word word segment true))
-    (word_bound view (child_word word segment false)))
+    || (not (is_absent high) && is_high_nearer view word segment)
 
 -- the leaf that the descent from a node of this word reaches
 abbrev pub first_descent : View → List Part → Tree ℕ → ℕ

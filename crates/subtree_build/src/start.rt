@@ -1,9 +1,10 @@
 //! The first descent: at the root and at each split to the child of least bound.
 ghost use Rattle.std.specs.Prelude.{◌≡◌, ◌<◌, ◌↔◌, length, IsSome, IfSome, find};
 ghost use Rattle.std.specs.List.{range_with_len};
+ghost use Rattle.isax_word.specs.Word.{part_at};
 ghost use Rattle.subtree_build.specs.Index.{IsIndex, StandsUnder};
 ghost use Rattle.subtree_build.specs.Outline.{outline};
-ghost use Rattle.subtree_build.specs.Start.{first_descent, root_bound, is_nearest, start_leaf_of};
+ghost use Rattle.subtree_build.specs.Start.{first_descent, is_high_nearer, root_bound, is_nearest, start_leaf_of};
 
 use crate::index::Index;
 use crate::node::Node;
@@ -66,24 +67,27 @@ impl Index {
         ensures value { result ≡ first_descent view.now word.now (outline node.now) }
         ensures leaf { result < length self.now.leaves }
     {
-        match node {
-            Node::Leaf(number) => *number,
-            Node::Split { segment, low, high } => {
-                let low_word = child(word, *segment, false);
-                let high_word = child(word, *segment, true);
-                match (low, high) {
-                    (Some(low), Some(high)) => {
-                        if view.bound_word(&high_word) < view.bound_word(&low_word) {
-                            self.descend(view, &high_word, high)
-                        } else {
-                            self.descend(view, &low_word, low)
-                        }
-                    }
-                    (Some(low), None) => self.descend(view, &low_word, low),
-                    (None, Some(high)) => self.descend(view, &high_word, high),
-                    (None, None) => unreachable!(),
-                }
+        let (segment, low, high) = match node {
+            Node::Leaf(number) => return *number,
+            Node::Split { segment, low, high } => (*segment, low, high),
+        };
+        match (low, high) {
+            (Some(_), Some(high)) if goes_high(view, word, segment) => {
+                self.descend(view, &child(word, segment, true), high)
             }
+            (Some(low), _) => self.descend(view, &child(word, segment, false), low),
+            (None, Some(high)) => self.descend(view, &child(word, segment, true), high),
+            (None, None) => unreachable!(),
         }
     }
+}
+
+/// Whether the bound of the high child is less than that of the low one.
+fn goes_high(view: &QueryView, word: &Word, segment: u32) -> bool
+    requires segments { length word.now ≡ view.now.layout.cuts.segments }
+    requires used { segment < length word.now }
+    requires divisible { (part_at word.now segment).bits < 8 }
+    ensures { result ≡ is_high_nearer view.now word.now segment }
+{
+    view.bound_word(&child(word, segment, true)) < view.bound_word(&child(word, segment, false))
 }
