@@ -11,7 +11,9 @@ use Rattle.leaf_queues.specs.declared.calls.Reply.{Reply}
 use Rattle.leaf_queues.specs.declared.calls.Reply.TheVariants.{Put as PutAnswer}
 use Rattle.leaf_queues.specs.PlainQueue.{PlainQueue}
 use Rattle.search_machine.specs.Ground.{Ground, queue_of}
-use Rattle.queue_histories.specs.Histories.{History}
+use Rattle.search_machine.specs.Machine.{capacity_of}
+use Rattle.search_machine.specs.Sound.{waits, takes}
+use Rattle.queue_histories.specs.Histories.{History, Holds}
 
 -- each reply says that the entry was placed
 abbrev pub AllPlaced : History → Type 0
@@ -30,12 +32,23 @@ puts_leaf l (Pop v) = 0
 abbrev pub puts_at : ℕ → Made Call Reply → ℕ
 puts_at l x = puts_leaf l x.call
 
+-- l is a leaf that belongs to queue m
+pub record IsLeafOf (g : Ground) (m l : ℕ) : Type 0 where
+  pub real : l < g.leaves
+  pub queue : queue_of g l ≡ m
+
 -- each call is a put of a leaf that belongs to queue m
 abbrev pub ArePutsInto : Ground → ℕ → History → Type 0
 ArePutsInto g m log =
-    (x : Made Call Reply) → In x log
-    → (e : Entry) × (x.call ≡ Put e) × (e.leaf < g.leaves) × (queue_of g e.leaf ≡ m)
+    (x : Made Call Reply) → In x log → (e : Entry) × (x.call ≡ Put e) × IsLeafOf g m e.leaf
 
--- no leaf is put twice
-abbrev pub PutsDiffer : History → Type 0
-PutsDiffer log = (l : ℕ) → total (puts_at l) log ≤ 1
+-- no leaf is put twice, and none that the queue holds
+abbrev pub PutsDiffer : PlainQueue → History → Type 0
+PutsDiffer q log = (l : ℕ) → waits l q + takes l q + total (puts_at l) log ≤ 1
+
+-- the queue is open, holds leaves that belong to queue m alone, and has room for all that do
+pub record IsOpenFor (g : Ground) (m : ℕ) (q : PlainQueue) : Type 0 where
+  pub unshut : q.kept ≡ None
+  pub placed : q.placed ≡ length q.waiting + length q.taken
+  pub capacity : q.capacity ≡ capacity_of g m g.leaves
+  pub own : (e : Entry) → Holds q e → IsLeafOf g m e.leaf

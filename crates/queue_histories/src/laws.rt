@@ -5,13 +5,12 @@ ghost use Rattle.list_totals.specs.Totals.{total};
 ghost use Rattle.list_totals.specs.Below.{sum_below};
 ghost use Rattle.turn_lock.specs.History.{IsLegal, calls_by, state_after};
 ghost use Rattle.leaf_queues.specs.declared.calls.Call.{Call};
-ghost use Rattle.leaf_queues.specs.PlainQueue.{PlainQueue, empty_queue, next};
+ghost use Rattle.leaf_queues.specs.PlainQueue.{PlainQueue, next};
 ghost use Rattle.search_machine.specs.Ground.{Ground};
-ghost use Rattle.search_machine.specs.Machine.{capacity_of};
 ghost use Rattle.search_machine.specs.OwnRecord.{RecordedWorker};
 ghost use Rattle.queue_histories.specs.Histories.{ArePuts, History, Past, Stepped, answers};
 ghost use Rattle.queue_histories.specs.Callers.{CalledBelow, Count, EachAccounts};
-ghost use Rattle.queue_histories.specs.Rooms.{AllPlaced, ArePutsInto, HasRoom, PutsDiffer};
+ghost use Rattle.queue_histories.specs.Rooms.{AllPlaced, ArePutsInto, HasRoom, IsOpenFor, PutsDiffer};
 
 /// What one call makes of a queue: counts, order, and what shut it.
 pub fn call_law()
@@ -33,11 +32,11 @@ pub fn callers_law()
         → EachAccounts f count team log → total f log ≡ total count team }
 {}
 
-/// No put is refused where an open queue has room for as many puts as there are calls. An empty queue with room for the
-/// leaves that belong to it has room for puts of different ones of them.
+/// No put is refused where an open queue has room for as many puts as there are calls; and none where the puts name
+/// different leaves of the queue, which has room for all its leaves.
 pub fn never_refused_law()
     ensures counted { (q : PlainQueue) (log : History) → ArePuts log → HasRoom q log
         → IsLegal answers q log → AllPlaced log }
-    ensures different { (g : Ground) (m : ℕ) (log : History) → ArePutsInto g m log → PutsDiffer log
-        → IsLegal answers (empty_queue (capacity_of g m g.leaves)) log → AllPlaced log }
+    ensures different { (g : Ground) (m : ℕ) (q : PlainQueue) (log : History) → IsOpenFor g m q
+        → ArePutsInto g m log → PutsDiffer q log → IsLegal answers q log → AllPlaced log }
 {}

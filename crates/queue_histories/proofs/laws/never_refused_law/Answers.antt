@@ -6,4 +6,4 @@ returns-clause-counted c = λ q log puts room legal. all_placed q log puts room 
 
 pub returns-clause-different : goal.returns-clause-different
 returns-clause-different c =
-    λ g m log puts differ legal. different_placed g m log puts differ legal
+    λ g m q log is_open puts differ legal. different_placed g m q log is_open puts differ legal
