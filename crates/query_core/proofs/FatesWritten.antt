@@ -1,5 +1,5 @@
 -- Fates that are written queue by queue, from the last to the first, are those of the outcome.
-use Rattle.std.proofs.Common.{List, None, Option, Some, [], ap, arith, cond, false, length, length-append, refl, set, subst, suc, sym, true, zero, ℕ, Bool, ⊎_elim, ◌++◌, ◌+◌, ◌<◌, ◌∙◌, ◌∷◌, ◌≡◌, ◌≤◌}
+use Rattle.std.proofs.Common.{List, None, Option, Some, [], ap, arith, cond, false, length, length-append, map, refl, set, subst, suc, sym, true, zero, ℕ, Bool, ⊎_elim, ◌++◌, ◌+◌, ◌<◌, ◌∙◌, ◌∷◌, ◌≡◌, ◌≤◌}
 use Rattle.std.proofs.lemmas.Bool.{cases_Bool, cases_eq, cond-false, cond-true}
 use Rattle.std.proofs.lemmas.Bool.Decides.{nat_tests}
 use Rattle.std.proofs.lemmas.Option.{same_Some, slice_get_within}
@@ -9,11 +9,12 @@ use Rattle.list_totals.specs.Totals.{one_if_same}
 use Rattle.series_core.specs.declared.queue_words.Entry.{Entry}
 use Rattle.leaf_queues.specs.PlainQueue.{PlainQueue}
 use Rattle.search_machine.specs.declared.outcome.Fate.{Fate}
+use Rattle.search_machine.specs.declared.outcome.QueueLine.{QueueLine}
 use Rattle.search_machine.specs.declared.outcome.Fate.TheVariants.{Queue as QueueFate, Start as StartFate}
 use Rattle.query_core.specs.Fates.{AreMarked, AreUnqueued, fate_over, fate_queued, fate_unqueued}
 use Rattle.search_machine.specs.Ground.{Ground}
 use Rattle.search_machine.specs.Machine.{State}
-use Rattle.search_machine.specs.Outcome.{fate, fates_from, first_place, is_start, late_fate, taken_fate}
+use Rattle.search_machine.specs.Outcome.{fate, fates_from, first_place, is_start, late_fate, line_of, taken_fate}
 use Rattle.search_machine.specs.Sound.{scans, takes}
 use Rattle.search_machine.specs.Basics.{entered}
 use Rattle.search_machine.proofs.Counts.{equal_counts, others_count}
@@ -114,7 +115,7 @@ queue_or f m None = f
 queue_or f m (Some j) = QueueFate (m + j)
 
 -- the start leaf keeps its fate
-queued_start : (start : Option ℕ) (m : ℕ) (qs : List PlainQueue) (l : ℕ) (f : Fate)
+queued_start : (start : Option ℕ) (m : ℕ) (qs : List QueueLine) (l : ℕ) (f : Fate)
     → is_start start l ≡ true → fate_queued start m qs l f ≡ f
 queued_start start m [] l f h = refl
 queued_start start m (q ∷ qs) l f h =
@@ -131,11 +132,11 @@ queue_first false f rest m (Some j) e =
 
 -- another leaf has the first queue that gave it
 queued_first : (start : Option ℕ) (m : ℕ) (qs : List PlainQueue) (l : ℕ) (f : Fate)
-    → is_start start l ≡ false → fate_queued start m qs l f ≡ queue_or f m (first_place (takes l) qs)
+    → is_start start l ≡ false → fate_queued start m (map line_of qs) l f ≡ queue_or f m (first_place (takes l) qs)
 queued_first start m [] l f h = refl
 queued_first start m (q ∷ qs) l f h =
-    cond-false (is_start start l) (fate_queued start (suc m) qs l f) _ h
-    ∙ queue_first (nat_lt 0 (takes l q)) f (fate_queued start (suc m) qs l f) m
+    cond-false (is_start start l) (fate_queued start (suc m) (map line_of qs) l f) _ h
+    ∙ queue_first (nat_lt 0 (takes l q)) f (fate_queued start (suc m) (map line_of qs) l f) m
     (first_place (takes l) qs) (queued_first start (suc m) qs l f h)
 
 -- without a queue it is late or bound
@@ -146,10 +147,10 @@ taken_or g s l (Some m) = let z : 0 + m ≡ m = omega arith in ap (λ (n : ℕ).
 
 -- after all queues a leaf has its fate
 pub queued_fate : (g : Ground) (s : State) (l : ℕ)
-    → fate_queued g.start 0 s.queues l (fate_unqueued g s l) ≡ fate g s l
+    → fate_queued g.start 0 (map line_of s.queues) l (fate_unqueued g s l) ≡ fate g s l
 queued_fate g s l = ⊎_elim
     (λ (h : is_start g.start l ≡ true).
-    queued_start g.start 0 s.queues l (fate_unqueued g s l) h
+    queued_start g.start 0 (map line_of s.queues) l (fate_unqueued g s l) h
     ∙ cond-true (is_start g.start l) StartFate _ h
     ∙ sym (cond-true (is_start g.start l) StartFate _ h))
     (λ (h : is_start g.start l ≡ false).

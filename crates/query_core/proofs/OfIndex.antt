@@ -8,6 +8,7 @@ use Rattle.list_totals.specs.Totals.{times}
 use Rattle.list_totals.proofs.Places.{times_contains}
 use Rattle.list_totals.proofs.Totals.{once_below_yes, once_below_low, once_below_most}
 use Rattle.series_core.proofs.Limits.{distance_each}
+use Rattle.series_core.specs.Answer.{answer as collection_answer}
 use Rattle.series_core.specs.Collection.{IsSeries}
 use Rattle.series_core.specs.Distance.{squared_distance}
 use Rattle.series_core.specs.declared.distance.TheConstants.{NONE}
@@ -15,12 +16,12 @@ use Rattle.isax_word.specs.declared.member.Member.{Member}
 use Rattle.subtree_build.specs.Index.{IndexParts, leaf_at}
 use Rattle.subtree_build.specs.Members.{series_at, numbers_of}
 use Rattle.subtree_build.proofs.Bounds.{members_no_nearer}
-use Rattle.search_machine.specs.Ground.{Fits, last}
+use Rattle.search_machine.specs.Ground.{Fits, answer, last}
 use Rattle.search_machine.specs.Measures.{Measures}
 use Rattle.query_core.specs.Questions.{Question, IsQuestion, CanBeSearched, last_of, leaf_bound, leaf_series, search_over, view_in}
 use Rattle.query_core.proofs.BelowRoots.{below_count, leaf_has_word, some_below}
 use Rattle.query_core.proofs.Homes.{home_at_most_once, home_of, member_is_real, one_leaf}
-use Rattle.search_machine.proofs.Ranks.{last_same}
+use Rattle.search_machine.proofs.Ranks.{answer_same, last_same}
 use Rattle.query_core.proofs.StartLeaf.{start_is_leaf}
 
 -- no series is farther than NONE
@@ -90,3 +91,9 @@ pub last_is : (a : Question) (ix : IndexParts) (workers queues : ℕ) → IsQues
 last_is a ix workers queues is =
     last_same (search_over a ix workers queues) a.collection a.query is.some_rank
     (search_measures a ix workers queues)
+
+-- the answer of the search is that of the question
+pub answer_is : (a : Question) (ix : IndexParts) (workers queues : ℕ)
+    → answer (search_over a ix workers queues) ≡ collection_answer a.collection a.query a.k
+answer_is a ix workers queues =
+    answer_same (search_over a ix workers queues) a.collection a.query (search_measures a ix workers queues)

@@ -8,12 +8,11 @@ use Rattle.std.specs.Prelude.{nat_eq, not, slice_get}
 use Rattle.list_totals.specs.Totals.{times}
 use Rattle.query_core.specs.Fates.{leaf_of}
 use Rattle.search_machine.specs.Ground.{Ground, start_limit}
-use Rattle.search_machine.specs.Machine.{State}
 use Rattle.search_machine.specs.Workers.{Worker}
 use Rattle.search_machine.specs.Outcome.{first_place}
 use Rattle.search_machine.specs.Basics.{start_of}
 use Rattle.search_machine.specs.Sound.{scans}
-use Rattle.query_core.specs.Teams.{StandsAt, TeamParts}
+use Rattle.query_core.specs.Teams.{AreShown}
 use Rattle.query_core.specs.Working.{Shows, Working, is_marked}
 use Rattle.query_core.proofs.ListsMerged.{first_here, first_none}
 use Rattle.search_machine.proofs.Places.{get_some}
@@ -35,36 +34,36 @@ pub was_scanned : (w : Working) (m : Worker) (l : ℕ) → Shows w m → l < len
     → is_marked w.marks l ≡ true → 0 < scans l m
 was_scanned w m l shows low mark = count_some (times l m.scanned) (shows.marks l low ∙ ap not mark)
 
-module _ (t : TeamParts) (s : State) (stands : StandsAt t s) (l : ℕ) where
+module _ (ws : List Working) (ms : List Worker) (shown : AreShown ws ms) (l : ℕ) where
   -- at the places before i no worker scanned the leaf
   abbrev pub NoneBefore : ℕ → Type 0
-  NoneBefore i = (j : ℕ) (w : Working) (m : Worker) → j < i → slice_get t.workers j ≡ Some w
+  NoneBefore i = (j : ℕ) (w : Working) (m : Worker) → j < i → slice_get ws j ≡ Some w
       → Shows w m → scans l m ≡ 0
 
   none_at : (i : ℕ) → NoneBefore i → (j : ℕ) (m : Worker) → j < i
-      → slice_get s.workers j ≡ Some m → scans l m ≡ 0
+      → slice_get ms j ≡ Some m → scans l m ≡ 0
   none_at i none j m low e =
-      let inside = slice_get_within s.workers j m e in
-      let count = stands.count in
-      let w = get_some t.workers j (omega arith) in
-      none j w.0 m low w.1 (stands.shows j w.0 m w.1 e)
+      let inside = slice_get_within ms j m e in
+      let count = shown.count in
+      let w = get_some ws j (omega arith) in
+      none j w.0 m low w.1 (shown.shows j w.0 m w.1 e)
 
   -- the first worker that scanned it
-  pub first_scanner : (i : ℕ) (w : Working) → NoneBefore i → slice_get t.workers i ≡ Some w
-      → l < length w.marks → is_marked w.marks l ≡ true → first_place (scans l) s.workers ≡ Some i
+  pub first_scanner : (i : ℕ) (w : Working) → NoneBefore i → slice_get ws i ≡ Some w
+      → l < length w.marks → is_marked w.marks l ≡ true → first_place (scans l) ms ≡ Some i
   first_scanner i w none at low mark =
-      let inside = slice_get_within t.workers i w at in
-      let count = stands.count in
-      let m = get_some s.workers i (omega arith) in
-      first_here (scans l) s.workers i m.0 (none_at i none) m.1
-      (was_scanned w m.0 l (stands.shows i w m.0 at m.1) low mark)
+      let inside = slice_get_within ws i w at in
+      let count = shown.count in
+      let m = get_some ms i (omega arith) in
+      first_here (scans l) ms i m.0 (none_at i none) m.1
+      (was_scanned w m.0 l (shown.shows i w m.0 at m.1) low mark)
 
   -- no worker scanned it
-  pub no_scanner : (i : ℕ) → NoneBefore i → length t.workers ≤ i
-      → first_place (scans l) s.workers ≡ None
-  no_scanner i none all = first_none (scans l) s.workers (λ j m e.
-      let inside = slice_get_within s.workers j m e in
-      let count = stands.count in
+  pub no_scanner : (i : ℕ) → NoneBefore i → length ws ≤ i
+      → first_place (scans l) ms ≡ None
+  no_scanner i none all = first_none (scans l) ms (λ j m e.
+      let inside = slice_get_within ms j m e in
+      let count = shown.count in
       none_at i none j m (omega arith) e)
 
 -- the leaf of the start is the start leaf

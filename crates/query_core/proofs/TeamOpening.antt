@@ -13,10 +13,12 @@ use Rattle.search_machine.specs.Ground.{Ground, opening, opening_of, start_limit
 use Rattle.search_machine.specs.Basics.{start_of}
 use Rattle.search_machine.specs.Machine.{capacity_of, empty_queues, opened}
 use Rattle.search_machine.specs.Workers.{Worker, idle, leader, start_list}
-use Rattle.query_core.specs.Questions.{Question, search_over}
+use Rattle.query_core.specs.Questions.{CanBeSearched, Question, last_of, search_over}
 use Rattle.query_core.specs.Teams.{AreDoneTo, AreHired, StandsAt, TeamParts, limit_of}
 use Rattle.query_core.specs.Working.{IsOf, Shows, Working, opens_as}
+use Rattle.search_machine.proofs.Opening.{opening_sound}
 use Rattle.search_machine.proofs.Places.{get_replicate}
+use Rattle.query_core.proofs.OfIndex.{last_is, search_fits}
 
 module _ {X : Type 0} where
   -- what a place of a longer list holds: what it held, or at the end what was added
@@ -117,6 +119,16 @@ limit_start g = at g.start refl
         → limit_of (option_map (λ (l : ℕ). record { leaf = l; limit = start_limit g }) o) ≡ start_limit g
     at None e = ap (λ (p : Option ℕ). worst g (opening_of g p)) (sym e)
     at (Some l) e = refl
+
+-- the starting limit is not below the last distance
+pub limit_is_high : (a : Question) (ix : IndexParts) (n m : ℕ) → CanBeSearched a ix
+    → last_of a ≤ start_limit (search_over a ix n m)
+limit_is_high a ix n m searched =
+    let low = (opening_sound (search_over a ix 1 1)
+    (search_fits a ix 1 1 searched (omega arith) (omega arith))).word.0 in
+    let last = last_is a ix 1 1 searched.question in
+    let same = limit_same a ix 1 1 n m in
+    omega arith
 
 -- what stands at a place of the opening workers
 opened_at : (g : Ground) (n i : ℕ) (m : Worker)

@@ -1,7 +1,7 @@
 -- The fate of a leaf, first without the queues and then queue by queue, from the last to the first.
 use Rattle.std.specs.Prelude.{◌≡◌, ℕ, suc, ◌<◌, List, [], ◌∷◌, Option, None, Some, cond, nat_lt, length, slice_get}
 use Rattle.series_core.specs.declared.queue_words.Entry.{Entry}
-use Rattle.leaf_queues.specs.PlainQueue.{PlainQueue}
+use Rattle.search_machine.specs.declared.outcome.QueueLine.{QueueLine}
 use Rattle.search_machine.specs.declared.outcome.Fate.{Fate}
 use Rattle.search_machine.specs.declared.outcome.Fate.TheVariants.{Start as StartFate, Queue as QueueFate}
 use Rattle.search_machine.specs.declared.outcome.Start.{Start}
@@ -21,8 +21,8 @@ fate_unqueued g s l =
 abbrev pub fate_over : Option ℕ → ℕ → List Entry → ℕ → Fate → Fate
 fate_over start m es l f = cond (is_start start l) f (cond (nat_lt 0 (entered l es)) (QueueFate m) f)
 
--- the fate of leaf l, which was f, where these queues, the first of them with number m, gave their entries too
-abbrev pub fate_queued : Option ℕ → ℕ → List PlainQueue → ℕ → Fate → Fate
+-- the fate of leaf l, which was f, where the queues of these lines, the first of them with number m, gave their entries too
+abbrev pub fate_queued : Option ℕ → ℕ → List QueueLine → ℕ → Fate → Fate
 fate_queued start m [] l f = f
 fate_queued start m (q ∷ qs) l f = fate_over start m q.taken l (fate_queued start (suc m) qs l f)
 

@@ -1,5 +1,5 @@
 -- A team: workers over one hand. When it stands for a state of the machine.
-use Rattle.std.specs.Prelude.{◌≡◌, ◌≢◌, ℕ, ◌<◌, ◌≤◌, List, [], ◌∷◌, ◌++◌, Option, None, Some, length, replicate, slice_get}
+use Rattle.std.specs.Prelude.{◌≡◌, ◌≢◌, ℕ, ◌<◌, ◌≤◌, List, [], ◌∷◌, ◌++◌, Option, None, Some, length, map, replicate, slice_get}
 use Rattle.series_core.specs.declared.distance.TheConstants.{NONE}
 use Rattle.series_core.specs.declared.pair.Pair.{Pair}
 use Rattle.subtree_build.specs.Index.{IndexParts}
@@ -8,7 +8,8 @@ use Rattle.search_machine.specs.Ground.{Ground}
 use Rattle.search_machine.specs.Machine.{State, played}
 use Rattle.search_machine.specs.Workers.{Worker}
 use Rattle.search_machine.specs.Shared.{Held}
-use Rattle.search_machine.specs.Outcome.{AllDone}
+use Rattle.search_machine.specs.Outcome.{AllDone, line_of}
+use Rattle.search_machine.specs.declared.outcome.QueueLine.{QueueLine}
 use Rattle.search_machine.specs.Basics.{start_of}
 use Rattle.query_core.specs.Questions.{Question, CanBeSearched, last_of, search_over}
 use Rattle.query_core.specs.Working.{Working, IsOf, Shows, opens_as}
@@ -49,6 +50,24 @@ pub record StandsAt (t : TeamParts) (s : State) : Type 0 where
   pub count : length t.workers ≡ length s.workers
   pub shows : (i : ℕ) (w : Working) (m : Worker) → slice_get t.workers i ≡ Some w
       → slice_get s.workers i ≡ Some m → Shows w m
+
+-- each worker searches this index for this question
+abbrev pub AreOver : Question → IndexParts → List Working → Type 0
+AreOver a ix ws = (i : ℕ) (w : Working) → slice_get ws i ≡ Some w → (w.question ≡ a) × (w.index ≡ ix)
+
+-- each worker's index has leaf l
+abbrev pub HaveLeaf : List Working → ℕ → Type 0
+HaveLeaf ws l = (i : ℕ) (w : Working) → slice_get ws i ≡ Some w → l < length w.index.leaves
+
+-- there are as many workers as workers of the machine, and each shows that at its place
+pub record AreShown (ws : List Working) (ms : List Worker) : Type 0 where
+  pub count : length ws ≡ length ms
+  pub shows : (i : ℕ) (w : Working) (m : Worker) → slice_get ws i ≡ Some w → slice_get ms i ≡ Some m → Shows w m
+
+-- the workers show those of the state, and the lines are what its queues tell
+pub record EndsIn (ws : List Working) (ls : List QueueLine) (s : State) : Type 0 where
+  pub workers : AreShown ws s.workers
+  pub lines : ls ≡ map line_of s.queues
 
 -- the team stands for the state to which so many turns of worker 0 lead, and all workers are done in it
 pub record EndsAlone (t : TeamParts) : Type 0 where

@@ -8,8 +8,9 @@ ghost use Rattle.query_core.specs.Teams.{EndsAlone, StandsAt, searched};
 ghost use Rattle.search_machine.specs.Legal.{Legal, IsStraight};
 ghost use Rattle.query_core.specs.Questions.{search_over};
 
+use crate::index_laws::search_law;
 use crate::task::Task;
-use crate::team::{Team, search_law};
+use crate::team::Team;
 use outside::NoMemory;
 use search_machine::Outcome;
 use series_core::{PairList, Rows};

@@ -4,10 +4,12 @@
 #![tactic(auto)]
 
 mod alone;
+mod conclusion;
 mod ended;
 mod first_leaf;
 mod index_laws;
 mod one_thread;
+mod opening;
 mod playing;
 mod scan;
 mod shared;
@@ -19,8 +21,10 @@ mod walk;
 mod worker;
 
 pub use alone::{one_worker, one_worker_answer};
-pub use index_laws::index_law;
+pub use conclusion::conclude;
+pub use index_laws::{index_law, search_law};
 pub use one_thread::OneThread;
+pub use opening::{empty_queues, hire, limit_of};
 pub use playing::{ReplayError, replay};
 pub use search_machine::examples::{
     late_example, one_worker_example, shut_example, straight_example,

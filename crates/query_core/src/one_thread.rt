@@ -1,10 +1,9 @@
 //! What the workers share, held by one thread in plain fields. Each call is what the machine's turn makes of the state.
-ghost use Rattle.std.specs.Prelude.{◌≡◌, ◌≤◌, EachIndex, IfOk, length, slice_index, vec_len};
-ghost use Rattle.search_machine.specs.Ground.{Ground};
-ghost use Rattle.search_machine.specs.Machine.{capacity_of, empty_queues};
+ghost use Rattle.std.specs.Prelude.{◌≡◌, ◌≤◌, IfOk, length};
 ghost use Rattle.query_core.specs.OneThread.{opening_hand};
 ghost use Rattle.query_core.specs.Questions.{last_of, search_over};
 
+use crate::opening::empty_queues;
 use crate::shared::Shared;
 use crate::task::Task;
 use leaf_queues::Queue;
@@ -79,35 +78,6 @@ impl<'a, R: Rows> OneThread<'a, R> {
     {
         &self.queues
     }
-}
-
-// Empty queues, each with room for all leaves that belong to it.
-fn empty_queues(alloc: Global, leaves: u32, queues: u32) -> Result<Vec<Queue>, NoMemory>
-    requires queues { 1 ≤ queues }
-    ensures len { IfOk result (λ qs. vec_len qs ≡ queues) }
-    ensures queues { (g : Ground) → g.queues ≡ queues → g.leaves ≡ leaves
-        → IfOk result (λ qs. qs.items ≡ empty_queues g 0 queues) }
-{
-    let rooms = leaves_of_each(alloc, leaves, queues)?;
-    let mut made = Vec::with_capacity(alloc, rooms.len())?;
-    for room in &rooms {
-        made.push_reserved(Queue::new(alloc, *room)?);
-    }
-    Ok(made)
-}
-
-// How many leaves belong to each queue.
-fn leaves_of_each(alloc: Global, leaves: u32, queues: u32) -> Result<Vec<u32>, NoMemory>
-    requires queues { 1 ≤ queues }
-    ensures len { IfOk result (λ counts. vec_len counts ≡ queues) }
-    ensures counts { (g : Ground) → g.queues ≡ queues
-        → IfOk result (λ counts. EachIndex counts.items (λ m. slice_index counts.items m ≡ capacity_of g m leaves)) }
-{
-    let mut counts = vec![in alloc; 0; queues as usize]?;
-    for leaf in 0..leaves {
-        counts[(leaf % queues) as usize] += 1;
-    }
-    Ok(counts)
 }
 
 impl<'a, R: Rows> Shared for OneThread<'a, R> {

@@ -10,8 +10,9 @@ ghost use Rattle.query_core.specs.Replays.{FirstStranger, IsPlayed, NoStranger, 
 ghost use Rattle.search_machine.specs.Schedules.{NamesEach};
 ghost use Rattle.query_core.specs.Teams.{StandsAt, searched};
 
+use crate::index_laws::search_law;
 use crate::task::Task;
-use crate::team::{Team, search_law};
+use crate::team::Team;
 use outside::NoMemory;
 use search_machine::Outcome;
 use series_core::Rows;

@@ -1,22 +1,18 @@
 //! A team: all workers of a search over one hand in one thread. A turn of its worker is a turn of the machine.
-ghost use Rattle.std.specs.Prelude.{◌≡◌, ℕ, ◌<◌, ◌≤◌, ◌↔◌, IfOk, IsTrue, MatchOption, length};
+ghost use Rattle.std.specs.Prelude.{◌≡◌, ◌<◌, ◌≤◌, ◌↔◌, IfOk, IsTrue, MatchOption, length};
 ghost use Rattle.subtree_build.specs.Fits.{Fits as IndexFits};
-ghost use Rattle.search_machine.specs.Ground.{Fits, answer, last, opening};
-ghost use Rattle.series_core.specs.Answer.{answer as collection_answer};
 ghost use Rattle.search_machine.specs.Machine.{State, opened, turn};
-ghost use Rattle.search_machine.specs.Basics.{start_of};
-ghost use Rattle.query_core.specs.Questions.{CanBeSearched, last_of, search_over};
-ghost use Rattle.search_machine.specs.Sound.{Sound};
-ghost use Rattle.query_core.specs.Teams.{StandsAt, AreHired, IsFirstBusy, AreDone, limit_of, searched};
+ghost use Rattle.query_core.specs.Questions.{search_over};
+ghost use Rattle.query_core.specs.Teams.{StandsAt, IsFirstBusy, AreDone, searched};
 
-use crate::index_laws::index_law;
+use crate::index_laws::search_law;
 use crate::one_thread::OneThread;
+use crate::opening::{hire, limit_of};
 use crate::task::Task;
 use crate::worker::Worker;
 use outside::NoMemory;
 use search_machine::Start;
-use search_machine::laws::answer_law;
-use series_core::{KBest, NONE, Rows};
+use series_core::Rows;
 use std::alloc::Global;
 use std::marker::Model;
 use subtree_build::Index;
@@ -122,61 +118,4 @@ impl<'a, R: Rows> Team<'a, R> {
         }
         None
     }
-}
-
-/// The law that an index that fits is all that a search for the answer to the task stands on.
-pub(crate) fn search_law<R: Rows>(task: &Task<'_, R>, index: &Index)
-    requires fits { IndexFits task.now.collection task.now.layout index.now }
-    ensures searches { CanBeSearched task.now index.now }
-    ensures fits { (workers queues : ℕ) → 0 < workers → 0 < queues
-        → Fits (search_over task.now index.now workers queues) }
-    ensures last { (workers queues : ℕ) → last (search_over task.now index.now workers queues) ≡ last_of task.now }
-    ensures answer { (workers queues : ℕ) → answer (search_over task.now index.now workers queues)
-        ≡ collection_answer task.now.collection task.now.query task.now.k }
-{
-    // for the facts that the task is a question, and that the index is one
-    let _k = task.k();
-    let _leaves = index.leaf_count();
-    index_law();
-    answer_law();
-}
-
-// The limit that a start gives: `NONE` where there is none.
-fn limit_of(start: Option<Start>) -> u64
-    ensures { result ≡ limit_of start }
-{
-    match start {
-        Some(start) => start.limit,
-        None => NONE,
-    }
-}
-
-// Workers with the numbers below `workers`: worker 0 has the list, and the others have empty ones.
-fn hire<'a, R: Rows>(
-    alloc: Global,
-    task: &'a Task<'a, R>,
-    index: &'a Index,
-    workers: u32,
-    queues: u32,
-    start: Option<Start>,
-    list: KBest,
-) -> Result<Vec<Worker<'a, R>>, NoMemory>
-    requires fits { IndexFits task.now.collection task.now.layout index.now }
-    requires workers { (1 ≤ workers) × (workers ≤ 64) }
-    requires queues { (1 ≤ queues) × (queues ≤ 64) }
-    requires start { start ≡ start_of (search_over task.now index.now 1 queues) }
-    requires list { list ≡ record {
-      k = task.now.k;
-      pairs = opening (search_over task.now index.now 1 queues);
-    } }
-    ensures len { IfOk result (λ hired. length hired.items ≡ workers) }
-    ensures hired { IfOk result (λ hired. AreHired task.now index.now queues hired.items) }
-{
-    let mut hired = Vec::with_capacity(alloc, workers as usize)?;
-    hired.push_reserved(Worker::new(alloc, task, index, 0, queues, start, list)?);
-    for number in 1..workers {
-        let list = KBest::new(alloc, task.k())?;
-        hired.push_reserved(Worker::new(alloc, task, index, number, queues, start, list)?);
-    }
-    Ok(hired)
 }

@@ -1,33 +1,47 @@
-use Rattle.std.proofs.Common.{List, Option, ap, length, map, subst, ◌∙◌, ◌≡◌}
-use Rattle.series_core.specs.Pairs.{smallest}
-use Rattle.series_core.specs.declared.pair.Pair.{Pair}
-use Rattle.search_machine.specs.declared.outcome.Fate.{Fate}
+use Rattle.std.proofs.Common.{List, Some, ap, arith, length, map, subst, ◌∙◌, ◌≡◌}
+use Rattle.std.proofs.lemmas.List.{length-map}
+use Rattle.std.specs.Prelude.{slice_get}
+use Rattle.std.specs.Result.{IfOk}
+use Rattle.leaf_queues.specs.PlainQueue.{PlainQueue}
 use Rattle.search_machine.specs.declared.outcome.Outcome.{Outcome}
 use Rattle.search_machine.specs.declared.outcome.QueueLine.{QueueLine}
-use Rattle.search_machine.specs.declared.outcome.Start.{Start}
-use Rattle.search_machine.specs.Outcome.{all_pairs, fates_from, line_of}
-use Rattle.search_machine.specs.Basics.{start_of}
-use Rattle.query_core.specs.Teams.{IsTeam, TeamParts, searched}
-use Rattle.query_core.proofs.ListsMerged.{lists_shown}
+use Rattle.search_machine.specs.Machine.{State}
+use Rattle.search_machine.specs.Outcome.{line_of, outcome}
+use Rattle.query_core.specs.Teams.{StandsAt, TeamParts, searched}
+use Rattle.query_core.specs.Working.{Working}
+use Rattle.query_core.proofs.TeamOpening.{start_same}
 use Rattle.query_core.proofs.team.Team.ended.Goals as goal
+
+pub conclude-requires-clause-start : goal.conclude-requires-clause-start
+conclude-requires-clause-start g c =
+    c.self.invariant.begins
+    ∙ start_same c.self.inside.task.now c.self.inside.index.now (length c.self.inside.workers.items)
+    c.self.inside.queues 1 1
+
+pub conclude-requires-clause-over : goal.conclude-requires-clause-over
+conclude-requires-clause-over g c = λ i w at.
+    let place =
+    c.self.invariant.places i w
+    (subst (λ (ws : List Working). slice_get ws i ≡ Some w) c.deref.ensures.value at) in
+    (place.question, place.index)
+
+pub conclude-requires-clause-lines : goal.conclude-requires-clause-lines
+conclude-requires-clause-lines g c =
+    let few = c.queues.ensures.few in
+    let queues = ap (λ (qs : List PlainQueue). length qs) c.queues.ensures.queues in
+    let many = ap (λ (ls : List QueueLine). length ls) c.in_ok-lines.ensures in
+    let same = length-map c.queues.result.now line_of in
+    omega arith
 
 pub returns : goal.returns
 returns g c =
-    λ s stands.
-    let team : IsTeam c.args.self.now = subst IsTeam c.self.view_is c.self.invariant in
-    let parts : List Pair → Option Start → List QueueLine → List Fate → Outcome =
-    λ a b d e. record { pairs = a; start = b; lines = d; fates = e } in
-    let pairs : c.in_ok-merged.field-0 ≡ smallest c.args.self.now.question.k (all_pairs s.workers) =
-    c.in_ok-merged.ensures ∙ ap (smallest c.args.self.now.question.k)
-    (lists_shown c.args.self.now.workers s.workers stands.count
-    (λ i w m a b. (stands.shows i w m a b).list)) in
-    let begins : c.self.inside.start ≡ start_of (searched c.args.self.now) =
-    ap (λ (t : TeamParts). t.start) c.self.view_is ∙ team.begins in
-    let lines : c.in_ok-lines.field-0 ≡ map line_of s.queues =
-    c.in_ok-lines.ensures ∙ ap (map line_of)
-    (c.queues.ensures.queues ∙ ap (λ (t : TeamParts). t.hand.queues) c.self.view_is ∙ stands.lines) in
-    let fates = c.in_ok-fates.ensures s stands in
-    let e : parts c.in_ok-merged.field-0 c.self.inside.start c.in_ok-lines.field-0 c.in_ok-fates.field-0
-    ≡ parts (smallest c.args.self.now.question.k (all_pairs s.workers)) (start_of (searched c.args.self.now))
-    (map line_of s.queues) (fates_from (searched c.args.self.now) s 0 (length c.args.self.now.index.leaves)) = cc in
-    e
+    subst (λ (t : TeamParts). (s : State) → StandsAt t s
+    → IfOk c.conclude.result (λ (o : Outcome). o ≡ outcome (searched t) s)) c.self.view_is
+    (λ s stands. c.conclude.ensures (length c.self.inside.workers.items) c.self.inside.queues s (record {
+      workers = record {
+        count = ap (λ (ws : List Working). length ws) c.deref.ensures.value ∙ stands.count;
+        shows = λ i w m at there. stands.shows i w m
+            (subst (λ (ws : List Working). slice_get ws i ≡ Some w) c.deref.ensures.value at) there;
+      };
+      lines = c.in_ok-lines.ensures ∙ ap (map line_of) (c.queues.ensures.queues ∙ stands.lines);
+    }))

@@ -1,0 +1,41 @@
+use Rattle.std.proofs.Common.{List, Option, ap, length, ◌∙◌, ◌≡◌}
+use Rattle.std.specs.Prelude.{map}
+use Rattle.series_core.specs.Pairs.{smallest}
+use Rattle.series_core.specs.declared.pair.Pair.{Pair}
+use Rattle.search_machine.specs.declared.outcome.Fate.{Fate}
+use Rattle.search_machine.specs.declared.outcome.Outcome.{Outcome}
+use Rattle.search_machine.specs.declared.outcome.QueueLine.{QueueLine}
+use Rattle.search_machine.specs.declared.outcome.Start.{Start}
+use Rattle.search_machine.specs.Outcome.{all_pairs, fates_from, line_of}
+use Rattle.search_machine.specs.Basics.{start_of}
+use Rattle.query_core.specs.Fates.{leaf_of}
+use Rattle.query_core.specs.Questions.{search_over}
+use Rattle.query_core.proofs.ListsMerged.{lists_shown}
+use Rattle.query_core.proofs.TeamEnds.{leaf_of_start}
+use Rattle.query_core.proofs.TeamOpening.{start_same}
+use Rattle.query_core.proofs.conclusion.conclude.Goals as goal
+
+pub fates-requires-clause-start : goal.fates-requires-clause-start
+fates-requires-clause-start g c =
+    ap leaf_of c.requires.start ∙ leaf_of_start (search_over c.args.task.now c.args.index.now 1 1)
+
+pub returns : goal.returns
+returns g c =
+    λ n m s ends.
+    let parts : List Pair → Option Start → List QueueLine → List Fate → Outcome =
+    λ a b d e. record { pairs = a; start = b; lines = d; fates = e } in
+    let pairs : c.in_ok-pairs.pairs ≡ smallest c.args.task.now.k (all_pairs s.workers) =
+    c.in_ok-pairs.ensures ∙ ap (smallest c.args.task.now.k)
+    (lists_shown c.args.workers.now s.workers ends.workers.count
+    (λ i w x a b. (ends.workers.shows i w x a b).list)) in
+    let begins : c.args.start ≡ start_of (search_over c.args.task.now c.args.index.now n m) =
+    c.requires.start ∙ start_same c.args.task.now c.args.index.now 1 1 n m in
+    let fates = c.in_ok-fates.ensures n m s (record {
+      workers = ends.workers;
+      lines = c.deref.ensures.value ∙ c.lines.view_is ∙ ends.lines;
+    }) in
+    let e : parts c.in_ok-pairs.pairs c.args.start c.args.lines c.in_ok-fates.fates
+    ≡ parts (smallest c.args.task.now.k (all_pairs s.workers)) (start_of (search_over c.args.task.now c.args.index.now n m))
+    (map line_of s.queues)
+    (fates_from (search_over c.args.task.now c.args.index.now n m) s 0 (length c.args.index.now.leaves)) = cc in
+    e

@@ -1,0 +1,185 @@
+//! What a search ends with: the pairs of all lists, a line a queue, and a fate a leaf.
+//! Fates are written line by line from the last to the first, so that a leaf keeps the first queue that gave it.
+ghost use Rattle.std.specs.Prelude.{◌≡◌, ℕ, ◌<◌, ◌≤◌, List, IfOk, length};
+ghost use Rattle.series_core.specs.Pairs.{smallest};
+ghost use Rattle.subtree_build.specs.Fits.{Fits as IndexFits};
+ghost use Rattle.search_machine.specs.Basics.{start_of};
+ghost use Rattle.search_machine.specs.Machine.{State};
+ghost use Rattle.search_machine.specs.Outcome.{fates_from, first_place, is_start, outcome};
+ghost use Rattle.search_machine.specs.Sound.{scans};
+ghost use Rattle.search_machine.specs.Workers.{Worker as Shown};
+ghost use Rattle.query_core.specs.Fates.{AreMarked, AreUnqueued, fate_unqueued, leaf_of};
+ghost use Rattle.query_core.specs.Questions.{CanBeSearched, search_over, view_in};
+ghost use Rattle.subtree_build.specs.Start.{start_leaf_of};
+ghost use Rattle.query_core.specs.Teams.{AreOver, AreShown, EndsIn, HaveLeaf, all_lists};
+
+use crate::index_laws::search_law;
+use crate::task::Task;
+use crate::worker::Worker;
+use outside::NoMemory;
+use search_machine::{Fate, FateList, LineList, Outcome, QueueLine, Start};
+use series_core::{Entry, KBest, PairList, Rows};
+use std::alloc::Global;
+use subtree_build::Index;
+
+/// The outcome of every state whose workers these show, and whose queues these lines tell: the k smallest pairs of all lists,
+/// the start, the lines, and for each leaf what became of it. A leaf that stands in several lines is told of the first of
+/// them; a leaf that stands in none, of the first worker that scanned it.
+pub fn conclude<R: Rows>(
+    alloc: Global,
+    task: &Task<'_, R>,
+    index: &Index,
+    start: Option<Start>,
+    workers: &[Worker<'_, R>],
+    lines: LineList,
+) -> Result<Outcome, NoMemory>
+    requires fits { IndexFits task.now.collection task.now.layout index.now }
+    requires start { start ≡ start_of (search_over task.now index.now 1 1) }
+    requires over { AreOver task.now index.now workers.now }
+    requires workers { length workers.now ≤ 64 }
+    requires lines { length lines ≤ 64 }
+    ensures { (n m : ℕ) (s : State) → EndsIn workers.now lines s
+        → IfOk result (λ o. o ≡ outcome (search_over task.now index.now n m) s) }
+{
+    search_law(task, index);
+    let pairs = merged(alloc, task, workers)?;
+    let fates = fates(alloc, task, index, start, workers, &lines.items)?;
+    Ok(Outcome {
+        pairs,
+        start,
+        lines,
+        fates,
+    })
+}
+
+/// The k smallest pairs of all lists.
+pub(crate) fn merged<R: Rows>(
+    alloc: Global,
+    task: &Task<'_, R>,
+    workers: &[Worker<'_, R>],
+) -> Result<PairList, NoMemory>
+    ensures { IfOk result (λ ps. ps ≡ smallest task.now.k (all_lists workers.now)) }
+{
+    let mut best = KBest::new(alloc, task.k())?;
+    for worker in workers {
+        best.merge(worker.list());
+    }
+    Ok(PairList {
+        items: best.pairs().to_vec(alloc)?,
+    })
+}
+
+// The fate of each leaf.
+fn fates<R: Rows>(
+    alloc: Global,
+    task: &Task<'_, R>,
+    index: &Index,
+    start: Option<Start>,
+    workers: &[Worker<'_, R>],
+    lines: &[QueueLine],
+) -> Result<FateList, NoMemory>
+    requires searches { CanBeSearched task.now index.now }
+    requires start { leaf_of start ≡ start_leaf_of (view_in task.now) index.now }
+    requires over { AreOver task.now index.now workers.now }
+    requires workers { length workers.now ≤ 64 }
+    requires lines { length lines.now ≤ 64 }
+    ensures { (n m : ℕ) (s : State) → EndsIn workers.now lines.now s
+        → IfOk result (λ fs. fs ≡ fates_from (search_over task.now index.now n m) s 0 (length index.now.leaves)) }
+{
+    let mut fates = unqueued(alloc, task, index, start, workers)?;
+    let mut m = lines.len();
+    while m > 0 {
+        m -= 1;
+        let line = &lines[m];
+        mark(&mut fates, start, m as u32, &line.taken.items);
+    }
+    Ok(FateList { items: fates })
+}
+
+// The fate of each leaf where no queue gave it.
+fn unqueued<R: Rows>(
+    alloc: Global,
+    task: &Task<'_, R>,
+    index: &Index,
+    start: Option<Start>,
+    workers: &[Worker<'_, R>],
+) -> Result<Vec<Fate>, NoMemory>
+    requires searches { CanBeSearched task.now index.now }
+    requires start { leaf_of start ≡ start_leaf_of (view_in task.now) index.now }
+    requires over { AreOver task.now index.now workers.now }
+    requires workers { length workers.now ≤ 64 }
+    ensures { (n m : ℕ) (s : State) → AreShown workers.now s.workers → IfOk result (λ fs.
+        AreUnqueued (search_over task.now index.now n m) s (length index.now.leaves) fs.items) }
+{
+    let leaves = index.leaf_count();
+    let mut fates = Vec::with_capacity(alloc, leaves as usize)?;
+    for leaf in 0..leaves {
+        fates.push_reserved(unqueued_fate(task, index, start, workers, leaf));
+    }
+    Ok(fates)
+}
+
+// The fate of a leaf where no queue gave it.
+fn unqueued_fate<R: Rows>(
+    task: &Task<'_, R>,
+    index: &Index,
+    start: Option<Start>,
+    workers: &[Worker<'_, R>],
+    leaf: u32,
+) -> Fate
+    requires searches { CanBeSearched task.now index.now }
+    requires start { leaf_of start ≡ start_leaf_of (view_in task.now) index.now }
+    requires over { AreOver task.now index.now workers.now }
+    requires workers { length workers.now ≤ 64 }
+    requires leaf { leaf < length index.now.leaves }
+    ensures { (n m : ℕ) (s : State) → AreShown workers.now s.workers
+        → result ≡ fate_unqueued (search_over task.now index.now n m) s leaf }
+{
+    if is_start(start, leaf) {
+        return Fate::Start;
+    }
+    match first_to_scan(workers, leaf) {
+        Some(i) => Fate::Late(i),
+        None => Fate::Bound(task.view().bound_word(index.leaf_word(leaf))),
+    }
+}
+
+// The first worker that scanned the leaf.
+fn first_to_scan<R: Rows>(workers: &[Worker<'_, R>], leaf: u32) -> Option<u32>
+    requires workers { length workers.now ≤ 64 }
+    requires leaf { HaveLeaf workers.now leaf }
+    ensures { (ms : List Shown) → AreShown workers.now ms → result ≡ first_place (scans leaf) ms }
+{
+    for (i, worker) in workers.iter().enumerate() {
+        if worker.has_scanned(leaf) {
+            return Some(i as u32);
+        }
+    }
+    None
+}
+
+// Whether the leaf is that of the start.
+fn is_start(start: Option<Start>, leaf: u32) -> bool
+    ensures { result ≡ is_start (leaf_of start) leaf }
+{
+    match start {
+        Some(start) => start.leaf == leaf,
+        None => false,
+    }
+}
+
+// Gives each leaf that was taken from this queue its fate, but not the start leaf.
+fn mark(fates: &mut [Fate], start: Option<Start>, queue: u32, taken: &[Entry])
+    ensures { AreMarked (leaf_of start) queue taken.now fates.old fates.new }
+{
+    for entry in taken {
+        let leaf = entry.leaf as usize;
+        if leaf >= fates.len() {
+            continue;
+        }
+        if is_start(start, entry.leaf) {
+            continue;
+        }
+        fates[leaf] = Fate::Queue(queue);
+    }
+}

@@ -1,0 +1,88 @@
+//! With what a search opens: its workers, the limit that its start gives, and empty queues.
+ghost use Rattle.std.specs.Prelude.{◌≡◌, ◌≤◌, EachIndex, IfOk, length, slice_index, vec_len};
+ghost use Rattle.subtree_build.specs.Fits.{Fits as IndexFits};
+ghost use Rattle.search_machine.specs.Basics.{start_of};
+ghost use Rattle.search_machine.specs.Ground.{Ground, opening, start_limit};
+ghost use Rattle.search_machine.specs.Machine.{capacity_of, empty_queues};
+ghost use Rattle.query_core.specs.Questions.{search_over};
+ghost use Rattle.query_core.specs.Teams.{AreHired, limit_of};
+
+use crate::task::Task;
+use crate::worker::Worker;
+use leaf_queues::Queue;
+use outside::NoMemory;
+use search_machine::Start;
+use series_core::{KBest, NONE, Rows};
+use std::alloc::Global;
+use subtree_build::Index;
+
+/// The limit that a start gives: `NONE` where there is none. At the start of a search it is the search's starting limit.
+pub fn limit_of(start: Option<Start>) -> u64
+    ensures limit { result ≡ limit_of start }
+    ensures starts { (g : Ground) → start ≡ start_of g → result ≡ start_limit g }
+{
+    match start {
+        Some(start) => start.limit,
+        None => NONE,
+    }
+}
+
+/// The 1 to 64 workers with which a search over 1 to 64 queues opens, each with the number of its place: worker 0 has the list
+/// that `Task::opening` gives, and the others have empty ones.
+pub fn hire<'a, R: Rows>(
+    alloc: Global,
+    task: &'a Task<'a, R>,
+    index: &'a Index,
+    workers: u32,
+    queues: u32,
+    start: Option<Start>,
+    list: KBest,
+) -> Result<Vec<Worker<'a, R>>, NoMemory>
+    requires fits { IndexFits task.now.collection task.now.layout index.now }
+    requires workers { (1 ≤ workers) × (workers ≤ 64) }
+    requires queues { (1 ≤ queues) × (queues ≤ 64) }
+    requires start { start ≡ start_of (search_over task.now index.now 1 queues) }
+    requires list { list ≡ record {
+      k = task.now.k;
+      pairs = opening (search_over task.now index.now 1 queues);
+    } }
+    ensures len { IfOk result (λ hired. length hired.items ≡ workers) }
+    ensures hired { IfOk result (λ hired. AreHired task.now index.now queues hired.items) }
+{
+    let mut hired = Vec::with_capacity(alloc, workers as usize)?;
+    hired.push_reserved(Worker::new(alloc, task, index, 0, queues, start, list)?);
+    for number in 1..workers {
+        let list = KBest::new(alloc, task.k())?;
+        hired.push_reserved(Worker::new(alloc, task, index, number, queues, start, list)?);
+    }
+    Ok(hired)
+}
+
+/// So many empty queues, each with room for all of so many leaves that belong to it.
+pub fn empty_queues(alloc: Global, leaves: u32, queues: u32) -> Result<Vec<Queue>, NoMemory>
+    requires queues { 1 ≤ queues }
+    ensures len { IfOk result (λ qs. vec_len qs ≡ queues) }
+    ensures queues { (g : Ground) → g.queues ≡ queues → g.leaves ≡ leaves
+        → IfOk result (λ qs. qs.items ≡ empty_queues g 0 queues) }
+{
+    let rooms = leaves_of_each(alloc, leaves, queues)?;
+    let mut made = Vec::with_capacity(alloc, rooms.len())?;
+    for room in &rooms {
+        made.push_reserved(Queue::new(alloc, *room)?);
+    }
+    Ok(made)
+}
+
+// How many leaves belong to each queue.
+fn leaves_of_each(alloc: Global, leaves: u32, queues: u32) -> Result<Vec<u32>, NoMemory>
+    requires queues { 1 ≤ queues }
+    ensures len { IfOk result (λ counts. vec_len counts ≡ queues) }
+    ensures counts { (g : Ground) → g.queues ≡ queues
+        → IfOk result (λ counts. EachIndex counts.items (λ m. slice_index counts.items m ≡ capacity_of g m leaves)) }
+{
+    let mut counts = vec![in alloc; 0; queues as usize]?;
+    for leaf in 0..leaves {
+        counts[(leaf % queues) as usize] += 1;
+    }
+    Ok(counts)
+}
