@@ -2,7 +2,7 @@
 
 ghost use Rattle.series_file.specs.Stages.{IsForm};
 
-use crate::{FileError, Form, Loaded, read_series, write_series};
+use crate::{FileError, Form, Loaded, read_series, write_numbered, write_series};
 use outside::{Files, MemFiles};
 use series_core::{Flat, Rows};
 use std::alloc::Global;
@@ -106,6 +106,23 @@ fn written_files(rt: HostRuntime) -> Result<(), Fail> {
         write_series(alloc, &rows, Some(&LABELS))?.as_slice(),
         LABELLED.as_slice()
     );
+    Ok(())
+}
+
+#[test]
+fn a_file_with_numbers_as_labels(rt: HostRuntime) -> Result<(), Fail> {
+    let alloc = rt.alloc();
+    let rows = Flat::from_values(4, VALUES.to_vec(alloc)?);
+    let bytes = write_numbered(alloc, &rows)?;
+    assert_eq!(rt;
+        bytes.as_slice(),
+        write_series(alloc, &rows, Some(&[0, 1, 2, 3]))?.as_slice()
+    );
+    let loaded = read(alloc, &bytes, Form::Headed)?;
+    assert_eq!(rt; labels_of(&loaded), [0, 1, 2, 3].as_slice());
+    assert_eq!(rt; loaded.rows.values(), VALUES.as_slice());
+    let none = write_numbered(alloc, &Flat::from_values(4, Vec::new(alloc)))?;
+    assert_eq!(rt; none.len(), 16, "no series have no labels");
     Ok(())
 }
 

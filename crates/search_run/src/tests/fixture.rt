@@ -17,8 +17,8 @@ pub const NO_COMMAND: &str = "isearch: the words are not a command\n";
 // Four series of four values each.
 const VALUES: [i16; 16] = [0, 0, 0, 0, 10, 10, 10, 10, -10, -10, -10, -10, 0, 0, 10, 10];
 
-// The same with the labels 100, 7, 7 and the greatest of 64 bits.
-const LABELLED: &[u8] = b"ISER\x02\0\0\0\x04\0\0\0\x04\0\0\0\
+/// The file `A2`: the same in version 2, with the labels 100, 7, 7 and the greatest of 64 bits.
+pub const LABELLED: &[u8] = b"ISER\x02\0\0\0\x04\0\0\0\x04\0\0\0\
     \x64\0\0\0\0\0\0\0\x07\0\0\0\0\0\0\0\x07\0\0\0\0\0\0\0\xff\xff\xff\xff\xff\xff\xff\xff\
     \0\0\0\0\0\0\0\0\x0a\0\x0a\0\x0a\0\x0a\0\xf6\xff\xf6\xff\xf6\xff\xf6\xff\0\0\0\0\x0a\0\x0a\0";
 
@@ -129,11 +129,12 @@ pub fn words_of(alloc: Global, line: &str) -> Result<Vec<String>, NoMemory> {
     Ok(words)
 }
 
-/// The outside of a run: how many bytes a read and a write move at most, and which open, read, write and write of the
-/// line fails (0: none).
+/// The outside of a run: how many bytes a read and a write move at most, how many are taken in all, and which open, read,
+/// write and write of the line fails (0: none).
 #[derive(Clone, Copy, Debug)]
 pub struct Outside {
     pub piece: usize,
+    pub room: usize,
     pub open: u64,
     pub read: u64,
     pub write: u64,
@@ -145,6 +146,7 @@ impl Outside {
     pub fn sound(piece: usize) -> Outside {
         Outside {
             piece,
+            room: 2000,
             open: 0,
             read: 0,
             write: 0,
@@ -195,7 +197,7 @@ pub fn run_line<T: Threads + Sync, G: Gate + Sync>(
     let piece = outside.piece.max(1);
     let mut files = files_of(alloc, line, certificate, outside)?;
     let words = words_of(alloc, line)?;
-    let mut out = MemSink::new(alloc, 2000, piece, [outside.write].to_vec(alloc)?)?;
+    let mut out = MemSink::new(alloc, outside.room, piece, [outside.write].to_vec(alloc)?)?;
     let mut err = MemSink::new(alloc, 2000, piece, [outside.tell].to_vec(alloc)?)?;
     let status = run(rt, alloc, &words, &mut files, &mut out, &mut err, gate);
     Ok(Ended { status, out, err })

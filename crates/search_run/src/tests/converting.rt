@@ -1,0 +1,271 @@
+//! Files that are written again with a label for each series: the bytes that come out, and the files that are refused.
+
+use super::fixture::{LABELLED, Outside, Row, end_as_they_should, run_line};
+use crate::{Status, Which};
+use outside::{NoGate, NoMemory};
+use series_file::FileError;
+use std::alloc::Global;
+use std::process::Abort;
+use std::test::Fail;
+use std::thread::Threads;
+
+// The file `A`: four series of four values each, in version 1.
+const PLAIN: &[u8; 48] = b"ISER\x01\0\x04\0\x04\0\0\0\0\0\0\0\
+    \0\0\0\0\0\0\0\0\x0a\0\x0a\0\x0a\0\x0a\0\xf6\xff\xf6\xff\xf6\xff\xf6\xff\0\0\0\0\x0a\0\x0a\0";
+
+// The same in version 2, with the labels 0 to 3.
+const NUMBERED: &[u8; 80] = b"ISER\x02\0\0\0\x04\0\0\0\x04\0\0\0\
+    \0\0\0\0\0\0\0\0\x01\0\0\0\0\0\0\0\x02\0\0\0\0\0\0\0\x03\0\0\0\0\0\0\0\
+    \0\0\0\0\0\0\0\0\x0a\0\x0a\0\x0a\0\x0a\0\xf6\xff\xf6\xff\xf6\xff\xf6\xff\0\0\0\0\x0a\0\x0a\0";
+
+// Words, the bytes of the file `C`, and what is written.
+const CONVERTED: [(&str, &[u8], &[u8]); 10] = [
+    ("convert A", b"", NUMBERED),
+    ("convert A2", b"", LABELLED),
+    ("convert C", PLAIN, NUMBERED),
+    ("convert C", NUMBERED, NUMBERED),
+    ("convert C", LABELLED, LABELLED),
+    (
+        "convert raw --raw 2",
+        b"",
+        b"ISER\x02\0\0\0\x02\0\0\0\x02\0\0\0\0\0\0\0\0\0\0\0\x01\0\0\0\0\0\0\0\x01\0\x01\0\x01\0\x01\0",
+    ),
+    (
+        "convert --raw=4 raw",
+        b"",
+        b"ISER\x02\0\0\0\x04\0\0\0\x01\0\0\0\0\0\0\0\0\0\0\0\x01\0\x01\0\x01\0\x01\0",
+    ),
+    ("convert none", b"", b"ISER\x02\0\0\0\x04\0\0\0\0\0\0\0"),
+    (
+        "convert empty --raw 65536",
+        b"",
+        b"ISER\x02\0\0\0\0\0\x01\0\0\0\0\0",
+    ),
+    (
+        "convert C",
+        b"ISER\x02\0\0\0\x03\0\0\0\0\0\0\0",
+        b"ISER\x02\0\0\0\x03\0\0\0\0\0\0\0",
+    ),
+];
+
+// Words whose file or command is refused, and the status and the line of their run.
+const REFUSED: [Row; 10] = [
+    (
+        "convert A2shorter",
+        Status::Format(Which::Series, FileError::Truncated { at: 79, want: 80 }),
+        "",
+        "isearch: data: ends at byte 79 of 80\n",
+    ),
+    (
+        "convert A2longer",
+        Status::Format(Which::Series, FileError::Trailing(80)),
+        "",
+        "isearch: data: bytes after 80\n",
+    ),
+    (
+        "convert A2reserved",
+        Status::Format(Which::Series, FileError::Reserved(1)),
+        "",
+        "isearch: data: reserved 1\n",
+    ),
+    (
+        "convert A2long",
+        Status::Format(Which::Series, FileError::Length(65537)),
+        "",
+        "isearch: data: length 65537\n",
+    ),
+    (
+        "convert seven --raw 2",
+        Status::Format(Which::Series, FileError::Uneven(7)),
+        "",
+        "isearch: data: 7 bytes are no whole number of series\n",
+    ),
+    (
+        "convert nobody",
+        Status::Missing(Which::Series),
+        "",
+        "isearch: data: no such file\n",
+    ),
+    (
+        "convert",
+        Status::Usage,
+        "",
+        "isearch: the words are not a command\n",
+    ),
+    (
+        "convert A Q",
+        Status::Usage,
+        "",
+        "isearch: the words are not a command\n",
+    ),
+    (
+        "convert A --k 1",
+        Status::Usage,
+        "",
+        "isearch: the words are not a command\n",
+    ),
+    (
+        "convert A --segments 2",
+        Status::Usage,
+        "",
+        "isearch: the words are not a command\n",
+    ),
+];
+
+// Runs words over a file `C` of these bytes, and compares the status and what was written.
+fn ends_with<H: Threads + Abort + Sync>(
+    rt: &H,
+    alloc: Global,
+    line: &str,
+    file: &[u8],
+    outside: Outside,
+    wanted: (Status, &[u8]),
+) -> Result<(), Fail> {
+    let (status, text) = wanted;
+    let ended = run_line(rt, alloc, line, file, outside, &NoGate)?;
+    assert_eq!(rt; ended.status, status, "{line}, {outside:?}");
+    assert_eq!(rt; ended.out.written(), text, "{line}, {outside:?}");
+    Ok(())
+}
+
+#[test]
+fn files_of_each_form(rt: HostRuntime) -> Result<(), Fail> {
+    for piece in [1, 2, 7, 16, 4096] {
+        for (line, file, text) in CONVERTED {
+            let outside = Outside::sound(piece);
+            ends_with(&rt, rt.alloc(), line, file, outside, (Status::Done, text))?;
+        }
+    }
+    Ok(())
+}
+
+#[test]
+fn a_series_of_the_greatest_length(rt: HostRuntime) -> Result<(), Fail> {
+    let mut text = b"ISER\x02\0\0\0\0\0\x01\0\x01\0\0\0\0\0\0\0\0\0\0\0".to_vec(rt.alloc())?;
+    for _ in 0..65536 {
+        text.extend_from_slice(&[0, 0x80])?;
+    }
+    let outside = Outside {
+        room: 200000,
+        ..Outside::sound(4096)
+    };
+    ends_with(
+        &rt,
+        rt.alloc(),
+        "convert lowest --raw 65536",
+        b"",
+        outside,
+        (Status::Done, &text),
+    )
+}
+
+#[test]
+fn files_that_are_refused(rt: HostRuntime) -> Result<(), Fail> {
+    for piece in [1, 7, 4096] {
+        end_as_they_should(&rt, rt.alloc(), &REFUSED, piece)?;
+    }
+    Ok(())
+}
+
+// The labelled file with these bytes changed.
+fn changed(alloc: Global, changes: &[(usize, u8)]) -> Result<Vec<u8>, NoMemory> {
+    let mut bytes = LABELLED.to_vec(alloc)?;
+    for (place, byte) in changes {
+        if let Some(old) = bytes.get_mut(*place) {
+            *old = *byte;
+        }
+    }
+    Ok(bytes)
+}
+
+#[test]
+fn headers_that_are_refused(rt: HostRuntime) -> Result<(), Fail> {
+    // Changes of the labelled file, as (place, byte), and its fault then.
+    let table: [(&[(usize, u8)], FileError); 4] = [
+        (&[(0, 0x48)], FileError::Magic),
+        (&[(6, 1)], FileError::Reserved(1)),
+        (&[(8, 1), (10, 1)], FileError::Length(65537)),
+        (&[(4, 3)], FileError::Version(3)),
+    ];
+    for (changes, fault) in table {
+        let file = changed(rt.alloc(), changes)?;
+        let wanted = (Status::Format(Which::Series, fault), [].as_slice());
+        ends_with(
+            &rt,
+            rt.alloc(),
+            "convert C",
+            &file,
+            Outside::sound(7),
+            wanted,
+        )?;
+    }
+    Ok(())
+}
+
+#[test]
+fn each_beginning_of_a_file(rt: HostRuntime) -> Result<(), Fail> {
+    for (whole, want) in [(PLAIN.as_slice(), 48u64), (LABELLED, 80)] {
+        for at in 0..want {
+            let fault = if at < 16 {
+                FileError::ShortHeader(at)
+            } else {
+                FileError::Truncated { at, want }
+            };
+            let file = &whole[..whole.len().min(at as usize)];
+            let wanted = (Status::Format(Which::Series, fault), [].as_slice());
+            ends_with(
+                &rt,
+                rt.alloc(),
+                "convert C",
+                file,
+                Outside::sound(16),
+                wanted,
+            )?;
+        }
+    }
+    Ok(())
+}
+
+#[test]
+fn each_write_may_fail(rt: HostRuntime) -> Result<(), Fail> {
+    // The 80 bytes take twelve writes of seven.
+    for write in 1..=13usize {
+        let outside = Outside {
+            write: write as u64,
+            ..Outside::sound(7)
+        };
+        let before = write.saturating_sub(1).saturating_mul(7);
+        let wanted = if before < NUMBERED.len() {
+            (Status::WriteFault, &NUMBERED[..before.min(80)])
+        } else {
+            (Status::Done, NUMBERED.as_slice())
+        };
+        ends_with(&rt, rt.alloc(), "convert A", b"", outside, wanted)?;
+    }
+    Ok(())
+}
+
+#[test]
+fn each_open_and_read_may_fail(rt: HostRuntime) -> Result<(), Fail> {
+    let failed = (Status::ReadFault(Which::Series), [].as_slice());
+    let done = (Status::Done, NUMBERED.as_slice());
+    let sound = Outside::sound(16);
+    // The file of 48 bytes takes three reads of sixteen, and its end a fourth.
+    for (open, read, wanted) in [
+        (1, 0, failed),
+        (2, 0, done),
+        (0, 1, failed),
+        (0, 2, failed),
+        (0, 3, failed),
+        (0, 4, failed),
+        (0, 5, done),
+    ] {
+        let outside = Outside {
+            open,
+            read,
+            ..sound
+        };
+        ends_with(&rt, rt.alloc(), "convert A", b"", outside, wanted)?;
+    }
+    Ok(())
+}
