@@ -1,6 +1,7 @@
 //! One search turn by turn: the stage, the list and the end of its worker after each turn, as worked by hand.
+use crate::Task;
+use crate::stage::Stage;
 use crate::team::Team;
-use crate::{Stage, Task};
 use breakpoints::Table;
 use isax_word::Layout;
 use outside::NoGate;
