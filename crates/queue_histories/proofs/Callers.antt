@@ -1,5 +1,5 @@
--- The sum over a history is the sum over its callers (`by_callers`), and over a team whose members account for their own
--- calls (`by_team`).
+-- The sum over a history is the sum over its callers (`by_callers`), and over a team whose members account for their
+-- own calls (`by_team`).
 use Rattle.std.proofs.Common.{◌≡◌, ◌⊎◌, ℕ, zero, suc, ◌+◌, ◌<◌, ◌≤◌, ◌==◌, Bool, true, false, List, [], ◌∷◌, All, Some, ⊎_elim, cond, length, sym, refl, ◌∙◌, arith}
 use Rattle.std.proofs.lemmas.Bool.Decides.{nat_tests}
 use Rattle.std.specs.Prelude.{slice_get}
@@ -94,3 +94,8 @@ pub by_team : {C R X : Type 0} (f : Made C R → ℕ) (count : X → ℕ) (team 
 by_team f count team log low own =
     by_callers f (length team) log low
     ∙ by_place count team (λ i. total f (calls_by i log)) own
+
+-- a history is as long as its calls count, each once
+pub length_once : {X : Type 0} (xs : List X) → total (λ x. 1) xs ≡ length xs
+length_once [] = refl
+length_once (x ∷ xs) = let rest = length_once xs in omega arith

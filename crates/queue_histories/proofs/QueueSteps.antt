@@ -1,4 +1,4 @@
--- What one call makes of a queue of leaves (`steps`): a put refused or placed, and a pop that is closed, shuts or takes.
+-- What one call makes of a queue of leaves (`steps`): a put refused or placed, a pop that is closed, shuts or takes.
 use Rattle.std.proofs.Common.{◌≡◌, ℕ, ◌<◌, ◌≤◌, List, [], ◌∷◌, ◌++◌, Some, None, Option, length, true, ltb, inl, inr, ⊎_elim, sym, refl, ap, ◌∙◌, subst, append_assoc, arith}
 use Rattle.std.proofs.lemmas.Bool.{cond_both, ltb-true, ltb-false}
 use Rattle.std.proofs.lemmas.List.{length-append}
@@ -154,13 +154,15 @@ takes_first q v e es unshut is = record {
 -- a put, by the kept limit
 put_steps : (q : PlainQueue) (e : Entry) (k : Option ℕ) → q.kept ≡ k
     → Stepped q (put_open e q k).0 (Put e) (PutAnswer (put_open e q k).1)
-put_steps q e (Some v) is = refused q e (Shut v) (λ u h. is ∙ (cc)) (λ c h. absurd (cc)) (λ l. refl)
+put_steps q e (Some v) is =
+    refused q e (Shut v) (λ u h. is ∙ (cc)) (λ c h. absurd (cc)) (λ l. refl)
 put_steps q e None is = cond_both (ltb q.placed q.capacity)
     (placed_in e q, Placed)
     (q, Filled q.capacity)
     (λ (r : PlainQueue × PutReply). Stepped q r.0 (Put e) (PutAnswer r.1))
     (λ _. placed q e is)
-    (λ b. refused q e (Filled q.capacity) (λ u h. absurd (cc)) (λ c h. ltb-false _ _ b) (λ l. refl))
+    (λ b.
+    refused q e (Filled q.capacity) (λ u h. absurd (cc)) (λ c h. ltb-false _ _ b) (λ l. refl))
 
 -- a pop, by the kept limit and the waiting entries
 pop_steps : (q : PlainQueue) (v : ℕ) (k : Option ℕ) (es : List Entry) → q.kept ≡ k

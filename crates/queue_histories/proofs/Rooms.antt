@@ -1,5 +1,5 @@
--- No put is refused where there is room for all calls (`all_placed`), and there is where they name different leaves of the
--- queue (`different_placed`).
+-- No put is refused where there is room for all calls (`all_placed`), and there is where they name different leaves of
+-- the queue (`different_placed`) or a team put no more than that (`team_placed`).
 use Rattle.std.proofs.Common.{◌+◌, ◌++◌, ◌<◌, ◌≤◌, ◌≡◌, ℕ, List, [], ◌∷◌, None, length, map, ltb, inl, inr, ⊎_elim, sym, refl, ap, ◌∙◌, subst, arith}
 use Rattle.std.proofs.lemmas.Bool.{cases_lt, cond_both, ltb-false}
 use Rattle.std.proofs.lemmas.List.{length-append, length-map}
@@ -18,12 +18,15 @@ use Rattle.leaf_queues.specs.declared.calls.Reply.{Reply}
 use Rattle.leaf_queues.specs.declared.calls.Reply.TheVariants.{Put as PutAnswer}
 use Rattle.leaf_queues.specs.PlainQueue.{PlainQueue, next, placed_in, put_open}
 use Rattle.search_machine.specs.Ground.{Ground, queue_of}
+use Rattle.search_machine.specs.Closes.{puts_into}
 use Rattle.search_machine.specs.Basics.{entered}
 use Rattle.search_machine.proofs.Counts.{counts_or_not, length_sum, same_counts, sum_le}
 use Rattle.search_machine.proofs.Ending.{entered_some}
 use Rattle.search_machine.proofs.Filling.{capacity_sum}
+use Rattle.queue_histories.specs.Callers.{Team, once}
+use Rattle.queue_histories.proofs.Callers.{by_team, length_once}
 use Rattle.queue_histories.specs.Histories.{ArePuts, History, answers}
-use Rattle.queue_histories.specs.Rooms.{AllPlaced, ArePutsInto, HasRoom, IsLeafOf, IsOpenFor, PutsDiffer, puts_at, puts_leaf}
+use Rattle.queue_histories.specs.Rooms.{AllPlaced, ArePutsInto, HasRoom, IsLeafOf, IsOpenFor, MadeWithinRoom, PutsDiffer, opened_for, puts_at, puts_leaf}
 
 -- where there is room a put is placed
 placed_open : (q : PlainQueue) (e : Entry) → q.placed < q.capacity
@@ -167,3 +170,13 @@ module _ (g : Ground) (m : ℕ) (q : PlainQueue) (log : History) (is_open : IsOp
   -- and each put is placed
   pub different_placed : IsLegal answers q log → AllPlaced log
   different_placed legal = all_placed q log are_puts (is_open.unshut, fits) legal
+
+-- where a team made all the puts, and no more than there are leaves, each is placed
+pub team_placed : (g : Ground) (m : ℕ) (team : Team) (log : History)
+    → MadeWithinRoom g m team log → IsLegal answers (opened_for g m) log → AllPlaced log
+team_placed g m team log within_room legal =
+    let made = within_room.made in
+    let most = within_room.room in
+    let a = by_team once (puts_into m) team log made.callers made.accounts in
+    let b = length_once log in
+    all_placed (opened_for g m) log within_room.puts (refl, omega arith) legal

@@ -7,6 +7,7 @@ use Rattle.series_core.specs.declared.queue_words.Entry.{Entry}
 use Rattle.series_core.specs.declared.queue_words.PutReply.TheVariants.{Placed, Shut, Filled}
 use Rattle.series_core.specs.declared.queue_words.PopReply.TheVariants.{Closed}
 use Rattle.turn_lock.specs.declared.object.Entry.{Entry as Made}
+use Rattle.turn_lock.specs.History.{IsLegal, state_after}
 use Rattle.leaf_queues.specs.declared.calls.Call.{Call}
 use Rattle.leaf_queues.specs.declared.calls.Call.TheVariants.{Put, Pop}
 use Rattle.leaf_queues.specs.declared.calls.Reply.{Reply}
@@ -23,6 +24,11 @@ History = List (Made Call Reply)
 -- what a queue answers is the same whoever calls
 abbrev pub answers : PlainQueue → ℕ → Call → PlainQueue × Reply
 answers q caller call = next q call
+
+-- a legal history leads from the queue q to the queue r
+pub record Leads (q : PlainQueue) (log : History) (r : PlainQueue) : Type 0 where
+  pub legal : IsLegal answers q log
+  pub leads : r ≡ state_after answers q log
 
 -- how often a call with this reply placed leaf l
 abbrev pub places_leaf : ℕ → Call → Reply → ℕ
@@ -90,7 +96,7 @@ pub record Stepped (q r : PlainQueue) (call : Call) (reply : Reply) : Type 0 whe
   -- an entry of r is one of q, or was placed by this call
   pub came : (e : Entry) → Holds r e
       → Holds q e ⊎ ((call ≡ Put e) × (reply ≡ PutAnswer Placed))
-  -- a Closed reply names the limit that is kept; a limit once kept stays; one that is new is this pop's
+  -- a Closed reply names the kept limit; a limit once kept stays; one that is new is this pop's
   pub shut : (v : ℕ) → reply ≡ PopAnswer (Closed v) → r.kept ≡ Some v
   pub keeps : (v : ℕ) → q.kept ≡ Some v → r.kept ≡ Some v
   pub kept : (v : ℕ) → r.kept ≡ Some v → (q.kept ≡ Some v) ⊎ (call ≡ Pop v)
@@ -111,11 +117,11 @@ pub record Past (q r : PlainQueue) (log : History) : Type 0 where
   pub takes : (l : ℕ) → takes l r ≡ takes l q + total (taken_at l) log
   -- an entry of r is one of q, or some call placed it
   pub came : (e : Entry) → Holds r e → Holds q e ⊎ PlacedIn log e
-  -- a Closed reply names the limit that is kept; a limit once kept stays; one that is new is some pop's
+  -- a Closed reply names the kept limit; a limit once kept stays; one that is new is some pop's
   pub shut : (x : Made Call Reply) (v : ℕ) → In x log → x.reply ≡ PopAnswer (Closed v)
       → r.kept ≡ Some v
   pub keeps : (v : ℕ) → q.kept ≡ Some v → r.kept ≡ Some v
   pub kept : (v : ℕ) → r.kept ≡ Some v → (q.kept ≡ Some v) ⊎ PoppedIn log v
-  -- pops alone keep the order of what was taken before what waits; puts alone take and shut nothing
+  -- pops alone keep the order of what was taken and what waits; puts alone take and shut nothing
   pub drains : ArePops log → Ascends q → Ascends r
   pub fills : ArePuts log → (r.taken ≡ q.taken) × (r.kept ≡ q.kept)

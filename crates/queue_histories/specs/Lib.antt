@@ -2,6 +2,7 @@
 pub mod Histories
 pub mod Callers
 pub mod Rooms
+pub mod Closings
 -- The definitions of the crates below that the public clauses cite.
 pub use Rattle.list_totals.specs.Totals
 pub use Rattle.list_totals.specs.Below
