@@ -18,3 +18,4 @@ pub mod OfIndex
 pub mod Meeting
 pub mod StartScan
 pub mod Advancing
+pub mod Sends
