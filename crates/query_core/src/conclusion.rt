@@ -8,7 +8,7 @@ ghost use Rattle.search_machine.specs.Machine.{State};
 ghost use Rattle.search_machine.specs.Outcome.{fates_from, first_place, is_start, outcome};
 ghost use Rattle.search_machine.specs.Sound.{scans};
 ghost use Rattle.search_machine.specs.Workers.{Worker as Shown};
-ghost use Rattle.query_core.specs.Fates.{AreMarked, AreUnqueued, fate_unqueued, leaf_of};
+ghost use Rattle.query_core.specs.Fates.{AreMarked, FatesUnqueued, fate_unqueued, leaf_of};
 ghost use Rattle.query_core.specs.Questions.{CanBeSearched, search_over, view_in};
 ghost use Rattle.subtree_build.specs.Start.{start_leaf_of};
 ghost use Rattle.query_core.specs.Teams.{AreOver, AreShown, EndsIn, HaveLeaf, all_lists};
@@ -108,8 +108,7 @@ fn unqueued<R: Rows>(
     requires start { leaf_of start ≡ start_leaf_of (view_in task.now) index.now }
     requires over { AreOver task.now index.now workers.now }
     requires workers { length workers.now ≤ 64 }
-    ensures { (n m : ℕ) (s : State) → AreShown workers.now s.workers → IfOk result (λ fs.
-        AreUnqueued (search_over task.now index.now n m) s (length index.now.leaves) fs.items) }
+    ensures { IfOk result (λ fs. FatesUnqueued task.now index.now workers.now fs.items) }
 {
     let leaves = index.leaf_count();
     let mut fates = Vec::with_capacity(alloc, leaves as usize)?;
