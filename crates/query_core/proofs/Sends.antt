@@ -22,15 +22,15 @@ use Rattle.query_core.proofs.task.Task.TheSendSync as task
 pub index_syncs : IsSync index.the_row
 index_syncs =
     search (
-        option.the_field_sync,
-        option.the_sync,
-        word.the_sync,
-        box.the_sync,
-        vec.the_sync,
-        member.the_sync,
-        crosses,
-        knot.crosses,
-        sendable
+      option.the_field_sync,
+      option.the_sync,
+      word.the_sync,
+      box.the_sync,
+      vec.the_sync,
+      member.the_sync,
+      crosses,
+      knot.crosses,
+      sendable,
     ) depth 60 fits 20000
 
 -- a walk over one crosses them
@@ -42,13 +42,13 @@ pub worker_sends : (ℓ : NamedLft) (T : RattleType) (R : Ghosts T.Denot) → Is
     → IsSend (worker.the_row ℓ (param 1 T) R)
 worker_sends ℓ T R s =
     search (
-        index_syncs,
-        walk_sends,
-        best.the_send,
-        task.the_sync,
-        option.the_field_send,
-        stage.the_field_send,
-        vec.the_send,
-        crosses,
-        sendable
+      index_syncs,
+      walk_sends,
+      best.the_send,
+      task.the_sync,
+      option.the_field_send,
+      stage.the_field_send,
+      vec.the_send,
+      crosses,
+      sendable,
     ) depth 60 fits 20000
