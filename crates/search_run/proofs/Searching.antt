@@ -39,31 +39,31 @@ search_refused Gives reading writing series queries o status refused nothing = r
 
 -- a search of these files, whose pieces were not written to the end, ends so
 pub search_stopped : (Gives : Call Ground) (reading : Reading) (writing : Writing) (series queries : List ℕ)
-    (o : Options) (ground : Ground) (y : Loaded) → Fit reading.held series queries o ground.series y
-    → (stop : Stop) → Stops (IsMade Gives ground) y.rows.series writing stop
+    (o : Options) (base : Ground) (y : Loaded) → Fit reading.held series queries o base.series y
+    → (stop : Stop) → Stops (IsMade Gives base) y.rows.series writing stop
     → EndsMaking Gives reading writing series queries o (status_of stop)
-search_stopped Gives reading writing series queries o ground y fit = by_stop
+search_stopped Gives reading writing series queries o base y fit = by_stop
   where
-    begins : (n : ℕ) (text : List ℕ) → IsTextOf (IsMade Gives ground) (take n y.rows.series) text
+    begins : (n : ℕ) (text : List ℕ) → IsTextOf (IsMade Gives base) (take n y.rows.series) text
         → Writes reading.held (begun_plan Gives series queries o) text
     begins n text is =
-        (ground.series, fit.hold.first, (y, fit.hold.second, (fit.lengths, (fit.segments, (n, (ground, refl, is))))))
+        (base.series, fit.hold.first, (y, fit.hold.second, (fit.lengths, (fit.segments, (n, (base, refl, is))))))
 
-    by_stop : (stop : Stop) → Stops (IsMade Gives ground) y.rows.series writing stop
+    by_stop : (stop : Stop) → Stops (IsMade Gives base) y.rows.series writing stop
         → EndsMaking Gives reading writing series queries o (status_of stop)
     by_stop WriteFault x = record { ends = (x.1, begins x.0 x.1 x.2, x.3, x.4, x.5) }
     by_stop NoMemory x = record { ends = inr (x.1, begins x.0 x.1 x.2, x.3) }
 
 -- a search of these files, whose pieces were all written, is done
 pub search_done : (Gives : Call Ground) (reading : Reading) (writing : Writing) (series queries : List ℕ)
-    (o : Options) (ground : Ground) (y : Loaded) → Fit reading.held series queries o ground.series y
-    → (text : List ℕ) → IsTextOf (IsMade Gives ground) y.rows.series text
+    (o : Options) (base : Ground) (y : Loaded) → Fit reading.held series queries o base.series y
+    → (text : List ℕ) → IsTextOf (IsMade Gives base) y.rows.series text
     → writing.now ≡ append_known writing.before text
     → EndsMaking Gives reading writing series queries o Done
-search_done Gives reading writing series queries o ground y fit text is wrote = record {
+search_done Gives reading writing series queries o base y fit text is wrote = record {
   ends = (
     text,
-    (ground.series, fit.hold.first, (y, fit.hold.second, (fit.lengths, (fit.segments, (ground, refl, is))))),
+    (base.series, fit.hold.first, (y, fit.hold.second, (fit.lengths, (fit.segments, (base, refl, is))))),
     wrote,
   );
 }
@@ -76,9 +76,9 @@ GivesAnswers Gives found = (at : Bor Ground) (i : ℕ) (q : Bor (List ℤ)) (mad
 
 -- a piece that such a call made has them
 piece_has : (Gives : Call Ground) (found : Collection → List ℤ → List Pair) → GivesAnswers Gives found
-    → (ground : Ground) (x : Loaded) → ground.series ≡ x → (i : ℕ) (query : List ℤ) (piece : List ℕ)
-    → IsMade Gives ground i query piece → IsAnswerPiece x.labels (found x.rows) i query piece
-piece_has Gives found each ground x over i query piece made =
+    → (base : Ground) (x : Loaded) → base.series ≡ x → (i : ℕ) (query : List ℤ) (piece : List ℕ)
+    → IsMade Gives base i query piece → IsAnswerPiece x.labels (found x.rows) i query piece
+piece_has Gives found each base x over i query piece made =
     sym made.6
     ∙ each made.0 i made.1 (Ok made.2) made.3
     ∙ ap (λ (g : Ground). query_text g.series.labels i (found g.series.rows made.1.now)) made.4

@@ -25,12 +25,12 @@ IsBuiltOf c tree = IsTreeOf c tree.settings.layout tree.settings.leaf_size tree.
 
 -- a tree that goes with the series
 abbrev pub IsGround : Ground → Type 0
-IsGround ground = IsTreeFor ground.series.rows ground.tree
+IsGround base = IsTreeFor base.series.rows base.tree
 
 -- the pieces of a text that such calls made, over these series, for these queries
 abbrev pub IsMadeOver : Call Ground → Loaded → List (List ℤ) → List ℕ → Type 0
 IsMadeOver Gives series queries text =
-    (ground : Ground) × (ground.series ≡ series) × IsTextOf (IsMade Gives ground) queries text
+    (base : Ground) × (base.series ≡ series) × IsTextOf (IsMade Gives base) queries text
 
 -- a search whose text is made so
 abbrev pub made_plan : Call Ground → List ℕ → List ℕ → Options → Plan

@@ -44,14 +44,14 @@ pub fn answer_nearest<T: Threads + Sync, F: Files, S: Sink, G: Gate + Sync>(
     let alloc = crew.alloc;
     let k = options.k;
     let queues = options.queues;
-    let piece_of = |ground: &Ground, i: u32, query: &[i16]| -> Result<Vec<u8>, NoMemory>
-        requires { IsGround ground.now × (length query.now ≡ ground.now.series.rows.points)
+    let piece_of = |base: &Ground, i: u32, query: &[i16]| -> Result<Vec<u8>, NoMemory>
+        requires { IsGround base.now × (length query.now ≡ base.now.series.rows.points)
             × (0 < k) × (k ≤ MAX_BEST) × (1 ≤ queues) × (queues ≤ 64) }
         ensures { IfOk result (λ text. text.items
-            ≡ query_text ground.now.series.labels i (answer ground.now.series.rows query.now k)) }
+            ≡ query_text base.now.series.labels i (answer base.now.series.rows query.now k)) }
     {
-        let pairs = nearest(alloc, &ground.series.rows, &ground.tree, query, k, queues)?;
-        query_text(alloc, i, &ground.series.labels, &pairs)
+        let pairs = nearest(alloc, &base.series.rows, &base.tree, query, k, queues)?;
+        query_text(alloc, i, &base.series.labels, &pairs)
     };
     let search = Search {
         series,

@@ -43,21 +43,14 @@ pub fn answer_range<T: Threads + Sync, F: Files, S: Sink, G: Gate + Sync>(
     ensures reliable { F.reliable files.old → (w : Which) → result ≢ Err (Status.ReadFault w) }
 {
     let workers = options.workers;
-    let piece_of = |ground: &Ground, i: u32, query: &[i16]| -> Result<Vec<u8>, NoMemory>
-        requires { IsSync T.row × IsSync G.row × IsGround ground.now
-            × (length query.now ≡ ground.now.series.rows.points) × (1 ≤ workers) × (workers ≤ 64) }
+    let piece_of = |base: &Ground, i: u32, query: &[i16]| -> Result<Vec<u8>, NoMemory>
+        requires { IsSync T.row × IsSync G.row × IsGround base.now
+            × (length query.now ≡ base.now.series.rows.points) × (1 ≤ workers) × (workers ≤ 64) }
         ensures { IfOk result (λ text. text.items
-            ≡ query_text ground.now.series.labels i (within ground.now.series.rows query.now radius)) }
+            ≡ query_text base.now.series.labels i (within base.now.series.rows query.now radius)) }
     {
-        let pairs = near(
-            crew,
-            &ground.series.rows,
-            &ground.tree,
-            query,
-            radius,
-            workers,
-        )?;
-        query_text(crew.alloc, i, &ground.series.labels, &pairs)
+        let pairs = near(crew, &base.series.rows, &base.tree, query, radius, workers)?;
+        query_text(crew.alloc, i, &base.series.labels, &pairs)
     };
     let search = Search {
         series,

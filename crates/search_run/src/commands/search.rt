@@ -43,8 +43,8 @@ pub fn answer_search<
     out: &mut S,
 ) -> Result<(), Status>
     requires limits { OptionsKeepLimits search.now.options.now }
-    requires callable { (ground : _) (i : ℕ) (q : _) → IsGround ground.now
-        → length q.now ≡ ground.now.series.rows.points → P.pre piece_of.now ground i q }
+    requires callable { (base : _) (i : ℕ) (q : _) → IsGround base.now
+        → length q.now ≡ base.now.series.rows.points → P.pre piece_of.now base i q }
     ensures answers { EndsMaking (P.post piece_of.now)
         (read_from F.held F.faults F.misses F.blamed files.old files.new)
         (wrote_to S.written S.faults S.sure out.old out.new)
@@ -54,10 +54,10 @@ pub fn answer_search<
 {
     let both = read_both(crew.alloc, files, search)?;
     let tree = tree_of(crew, &both.series.rows, search.options)?;
-    let ground = Ground {
+    let base = Ground {
         series: both.series,
         tree,
     };
-    write_pieces(&ground, piece_of, &both.queries.rows, out)?;
+    write_pieces(&base, piece_of, &both.queries.rows, out)?;
     Ok(())
 }

@@ -10,7 +10,7 @@ ghost use Rattle.search_run.specs.Plans.{Refuses, Writes};
 ghost use Rattle.search_run.specs.declared.status.Status.{Status};
 ghost use Rattle.search_run.specs.declared.status.Which.{Which};
 
-use crate::input::certificate::check_certificate;
+use crate::input::certificate_file::check_certificate;
 use crate::input::pair::{Search, read_both};
 use crate::status::{Status, Which};
 use command_words::{Options, Text};

@@ -23,12 +23,12 @@ returns-in_err-write_pieces-clause-answers g c =
     let writing = wrote_to g.S.Sink.written g.S.Sink.faults g.S.Sink.sure c.args.out.now c.write_pieces.new.out in
     let asked = c.args.search.now in
     let both = c.in_ok-both.both in
-    let ground : Ground = record { series = both.series; tree = c.in_ok-tree.tree } in
+    let base : Ground = record { series = both.series; tree = c.in_ok-tree.tree } in
     let told = err_from_is_err_and c.from_residual-in_err-write_pieces.result
     c.from_residual-in_err-write_pieces.ensures.1 in
     rw (told.1, told.2)
     (search_stopped (goal.P-post g c.args.piece_of.now) reading writing asked.series.now asked.queries.now
-    asked.options.now ground both.queries c.in_ok-both.ensures.found c.in_err-write_pieces.field-0.0
+    asked.options.now base both.queries c.in_ok-both.ensures.found c.in_err-write_pieces.field-0.0
     c.in_err-write_pieces.ensures.stops)
 
 pub returns-clause-answers : goal.returns-clause-answers
@@ -38,7 +38,7 @@ returns-clause-answers g c =
     let writing = wrote_to g.S.Sink.written g.S.Sink.faults g.S.Sink.sure c.args.out.now c.write_pieces.new.out in
     let asked = c.args.search.now in
     let both = c.in_ok-both.both in
-    let ground : Ground = record { series = both.series; tree = c.in_ok-tree.tree } in
+    let base : Ground = record { series = both.series; tree = c.in_ok-tree.tree } in
     let wrote = c.in_ok-write_pieces.ensures.ok in
     search_done (goal.P-post g c.args.piece_of.now) reading writing asked.series.now asked.queries.now
-    asked.options.now ground both.queries c.in_ok-both.ensures.found wrote.0 wrote.1 wrote.2
+    asked.options.now base both.queries c.in_ok-both.ensures.found wrote.0 wrote.1 wrote.2
