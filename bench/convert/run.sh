@@ -4,7 +4,7 @@ here="$(cd "$(dirname "${BASH_SOURCE[0]}")" && pwd)"
 source "$here/../scratch.sh"
 gcc -O3 -march=native -o "$work/maker" "$here/../reading/baseline.c"
 "$work/maker" make "$work/data.series"
-copy_crates outside series_core series_file isearch
+copy_crates outside list_totals series_core series_file isearch
 # The program's own crate lends its files and streams of the system; the rest of it is left out.
 program="$work/repository/crates/isearch"
 rm -rf "$program/src/words.rt"
@@ -12,7 +12,8 @@ sed -i '/search_run/d; /^-- the status where/,$d' "$program/specs/Refusals.antt"
 cp "$here/main.rt.txt" "$program/src/main.rt"
 cat > "$work/repository/crates.txt" <<'LINES'
 outside: thiserror
-series_core: outside
+list_totals:
+series_core: list_totals outside
 series_file: outside series_core byteorder thiserror
 isearch: outside series_core series_file
 LINES

@@ -3,11 +3,12 @@
 here="$(cd "$(dirname "${BASH_SOURCE[0]}")" && pwd)"
 source "$here/../scratch.sh"
 mkdir -p "$work/repository/crates/kernel_bench/src"
-copy_crates outside series_core simd_distance
+copy_crates outside list_totals series_core simd_distance
 cp "$here/main.rt.txt" "$work/repository/crates/kernel_bench/src/main.rt"
 cat > "$work/repository/crates.txt" <<'LINES'
 outside: thiserror
-series_core: outside
+list_totals:
+series_core: list_totals outside
 simd_distance: series_core
 kernel_bench: series_core simd_distance anyhow
 LINES

@@ -3,7 +3,7 @@
 here="$(cd "$(dirname "${BASH_SOURCE[0]}")" && pwd)"
 source "$here/../scratch.sh"
 "$work/baseline" make "$work/data.series"
-copy_crates outside series_core series_file isearch
+copy_crates outside list_totals series_core series_file isearch
 # The program's own crate lends its files of the system; the rest of it is left out.
 program="$work/repository/crates/isearch"
 rm -rf "$program/src/words.rt" "$program/src/real_sink.rt" "$program/proofs/real_sink"
@@ -11,7 +11,8 @@ sed -i '/search_run/d; /^-- the status where/,$d' "$program/specs/Refusals.antt"
 cp "$here/main.rt.txt" "$program/src/main.rt"
 cat > "$work/repository/crates.txt" <<'LINES'
 outside: thiserror
-series_core: outside
+list_totals:
+series_core: list_totals outside
 series_file: outside series_core byteorder thiserror
 isearch: outside series_core series_file anyhow
 LINES

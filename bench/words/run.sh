@@ -3,11 +3,12 @@
 here="$(cd "$(dirname "${BASH_SOURCE[0]}")" && pwd)"
 source "$here/../scratch.sh"
 mkdir -p "$work/repository/crates/words_bench/src"
-copy_crates outside series_core breakpoints segment_sums isax_word lower_bound
+copy_crates outside list_totals series_core breakpoints segment_sums isax_word lower_bound
 cp "$here/main.rt.txt" "$work/repository/crates/words_bench/src/main.rt"
 cat > "$work/repository/crates.txt" <<'LINES'
 outside: thiserror
-series_core: outside
+list_totals:
+series_core: list_totals outside
 breakpoints:
 segment_sums:
 isax_word: breakpoints segment_sums
