@@ -5,3 +5,4 @@ mod Made
 mod Rows
 mod Seeing
 mod Steps
+mod Standing

@@ -42,6 +42,7 @@ use Rattle.std_alloc.proofs.BoxSteps.Form.{Bx, args, X, R}
 use Rattle.block_list.specs.Links.{Link, links_of, IsLinked}
 use Rattle.block_list.specs.Following.{with_last}
 use Rattle.block_list.proofs.Linking.{IsLinked-had, IsLinked-last}
+use Rattle.block_list.proofs.Standing.{boxed, here, stands}
 use Rattle.block_list.proofs.Steps.{last_of, words, Hd, D, Nr, eo, Held, One, last_out, last_in, nodes_made, nodes_opens, one_opens, one_closes, pointer, Frees}
 use Rattle.block_list.specs.contracts.nodes.Nodes.back_mut.Key.{name as #self}
 use Rattle.block_list.proofs.nodes.Nodes.back_mut.Statement as stated
@@ -166,14 +167,7 @@ meets E {𝓤 = 𝓤} 𝓛 𝓣 =
     (λ z. let a = z.0.3.0 in needs 𝓤 (0 < length a.now.items) _ (entry E 𝓛 𝓣.C 𝓣.Λ z.0.0.0 z.0.1.0 a.ref_ptr.0 a.ref_ptr.1 a.ghost_name a.now z.0.4.0))
 
 pub back_mut_spec : {M : Type 1} → stated.statement M
-unfolding tables_of
 back_mut_spec 𝓤 𝓛 𝓜 𝓡 wired Y Z L LZ g d dd met md y =
-    let E : Bx = record { row = Y; laws = L; al = record { row = Z; laws = LZ; g = g; d = d; drops = dd } } in
-    let A = 𝓛.A in
-    let 𝓣 : Tables 𝓤 𝓛.H = tables_of 𝓤 𝓛.H 𝓜 (tables 𝓤 𝓛.H 𝓜 𝓡 𝓡.env) in
-    let S = (ended E).signature in
-    let c = closing 𝓛 (ended E) (spec E 𝓛) in
-    let k = #self (args E) in
-    spared 𝓛 S (𝓡.run (𝓡.env k)) (run_framed 𝓤 𝓛.H 𝓜 𝓡 (𝓡.env k)) 2 (Y.lives, (Z.lives, tt)) c
-    (entered 𝓤 𝓛.H (triple_of 𝓛 S c) 𝓣.C 𝓣.Λ k (function E) (code.unfolded 𝓤 𝓛.H 𝓜 𝓡 wired (Y, (Z, tt)) d dd) (meets E 𝓛 𝓣))
-    ((y.0.0, y.0.1, tt, y.0.3, y.0.4), y.1)
+    let E = boxed Y Z L LZ g d dd in
+    stands 𝓤 𝓛 𝓜 𝓡 E (ended E) (spec E 𝓛) (#self (args E)) (function E) (code.unfolded 𝓤 𝓛.H 𝓜 𝓡 wired (Y, (Z, tt)) d dd)
+    (meets E 𝓛 (here 𝓤 𝓛 𝓜 𝓡)) ((y.0.0, y.0.1, tt, y.0.3, y.0.4), y.1)

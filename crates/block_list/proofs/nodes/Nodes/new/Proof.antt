@@ -25,6 +25,7 @@ use denote.Triple.Spec.{Meets, triple_of}
 use denote.Triple.Table.{entered, run_framed}
 use denote.Triple.Walked.{says, Stays, walk_of, ends_at, walk_Meets}
 use Rattle.std_alloc.proofs.BoxSteps.Form.{Bx, args}
+use Rattle.block_list.proofs.Standing.{boxed, here, stands}
 use Rattle.block_list.proofs.Steps.{words, D, Nr, nodes_made}
 use Rattle.block_list.specs.contracts.nodes.Nodes.new.Key.{name as #self}
 use Rattle.block_list.proofs.nodes.Nodes.new.Statement as stated
@@ -75,14 +76,7 @@ meets E {𝓤 = 𝓤} 𝓛 𝓣 =
     (λ z. via 𝓤 _ (fst∗ 𝓤 _ (emp 𝓤)) (walk E 𝓛 𝓣.C 𝓣.Λ))
 
 pub new_spec : {M : Type 1} → stated.statement M
-unfolding tables_of
 new_spec 𝓤 𝓛 𝓜 𝓡 wired Y Z L LZ g d dd met md y =
-    let E : Bx = record { row = Y; laws = L; al = record { row = Z; laws = LZ; g = g; d = d; drops = dd } } in
-    let A = 𝓛.A in
-    let 𝓣 : Tables 𝓤 𝓛.H = tables_of 𝓤 𝓛.H 𝓜 (tables 𝓤 𝓛.H 𝓜 𝓡 𝓡.env) in
-    let S = (ended E).signature in
-    let c = closing 𝓛 (ended E) (spec E 𝓛) in
-    let k = #self (args E) in
-    spared 𝓛 S (𝓡.run (𝓡.env k)) (run_framed 𝓤 𝓛.H 𝓜 𝓡 (𝓡.env k)) 2 (Y.lives, (Z.lives, tt)) c
-    (entered 𝓤 𝓛.H (triple_of 𝓛 S c) 𝓣.C 𝓣.Λ k (function E) (code.unfolded 𝓤 𝓛.H 𝓜 𝓡 wired (Y, (Z, tt)) d dd) (meets E 𝓛 𝓣))
-    ((y.0.0, y.0.1, tt, y.0.3, y.0.4), y.1)
+    let E = boxed Y Z L LZ g d dd in
+    stands 𝓤 𝓛 𝓜 𝓡 E (ended E) (spec E 𝓛) (#self (args E)) (function E) (code.unfolded 𝓤 𝓛.H 𝓜 𝓡 wired (Y, (Z, tt)) d dd)
+    (meets E 𝓛 (here 𝓤 𝓛 𝓜 𝓡)) ((y.0.0, y.0.1, tt, y.0.3, y.0.4), y.1)
