@@ -8,7 +8,7 @@ use Rattle.std.specs.List.Sorted.{IsPermutation}
 use Rattle.series_core.specs.EntryOrder.{NotAfter, entry_before}
 use Rattle.series_core.specs.declared.queue_words.Entry.{Entry}
 use Rattle.leaf_queues.specs.PlainQueue.{place}
-use Rattle.leaf_queues.specs.Heaps.{IsLeast, ascending}
+use Rattle.leaf_queues.specs.Lines.{IsLeast, ascending}
 use Rattle.series_core.proofs.EntryOrder.{before_one_way, before_along, before_neither}
 
 -- a test is true or false

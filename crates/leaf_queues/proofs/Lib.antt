@@ -1,3 +1,3 @@
-pub mod Sifting
 pub mod Ascending
+pub mod Lines
 pub mod Waiting

@@ -1,23 +1,23 @@
 -- How a queue's fields stand for the plain queue, and what its fields keep.
-use Rattle.std.specs.Prelude.{◌≡◌, ◌+◌, ◌≤◌, length, vec_capacity}
+use Rattle.std.specs.Prelude.{◌+◌, ◌≤◌, length, take, drop, IfSome, vec_capacity}
 use Rattle.leaf_queues.specs.declared.queue.Queue.TheInside.{Inside}
 use Rattle.leaf_queues.specs.PlainQueue.{PlainQueue}
-use Rattle.leaf_queues.specs.Heaps.{IsHeap, ascending}
+use Rattle.leaf_queues.specs.Lines.{IsDealt, IsRun, ascending}
 
--- the plain queue that these fields stand for: the heap's entries wait, in ascending order
+-- the plain queue that these fields stand for: the entries behind the taken ones wait, in ascending order
 abbrev pub plain : Inside → PlainQueue
 plain q = record {
-  waiting = ascending q.heap.items;
-  taken = q.taken.items;
-  placed = q.placed;
+  waiting = ascending (drop q.next q.entries.items);
+  taken = take q.next q.entries.items;
+  placed = length q.entries.items;
   capacity = q.capacity;
   kept = q.kept;
 }
 
--- the heap is one; each placed entry waits or was taken; there is room for all that may be placed
+-- the waiting entries begin with a run and may be dealt behind it; there is room for all that may be placed
 pub record IsKept (q : Inside) : Type 0 where
-  pub order : IsHeap q.heap.items
-  pub count : length q.heap.items + length q.taken.items ≡ q.placed
-  pub placed : q.placed ≤ q.capacity
-  pub heap_room : q.capacity ≤ vec_capacity q.heap
-  pub taken_room : q.capacity ≤ vec_capacity q.taken
+  pub inside : q.next + q.run ≤ length q.entries.items
+  pub run : IsRun q.run (drop q.next q.entries.items)
+  pub dealt : IfSome q.buckets (λ b. IsDealt b q.run (drop q.next q.entries.items))
+  pub placed : length q.entries.items ≤ q.capacity
+  pub room : q.capacity ≤ vec_capacity q.entries

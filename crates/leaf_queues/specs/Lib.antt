@@ -1,4 +1,4 @@
 pub use Rattle.series_core.specs.EntryOrder
 pub mod PlainQueue
-pub mod Heaps
+pub mod Lines
 pub mod Kept

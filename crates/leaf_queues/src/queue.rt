@@ -1,23 +1,27 @@
-//! The queue: a heap of the waiting entries, and the taken ones in their order.
+//! The queue: the taken entries in their order, and behind them in the same vector the waiting ones.
 ghost use Rattle.std.specs.Prelude.{◌≡◌, IfOk};
 ghost use Rattle.std.specs.List.Sorted.{IsPermutation};
 ghost use Rattle.leaf_queues.specs.PlainQueue.{empty_queue, next, pop, put};
 
 use crate::calls::{Call, Reply};
-use crate::heap;
+use crate::line::{self, Buckets};
 use outside::NoMemory;
-use series_core::{Entry, PopReply, PutReply};
+use series_core::{Entry, PopReply, PutReply, far};
 use std::alloc::Global;
 use std::marker::Model;
 use turn_lock::Object;
 
-/// A queue of leaves by their lower bounds (the MESSI paper, Peng, Fatourou, Palpanas, ICDE 2020). A put and a pop
-/// cost O(log n) and take no memory.
+/// A queue of leaves by their lower bounds (the MESSI paper, Peng, Fatourou, Palpanas, ICDE 2020). A put before the first
+/// pop costs O(1). The first pop deals the entries into at most 256 buckets, and a bucket is sorted when a pop reaches it;
+/// a put behind that has the rest dealt anew at the next bucket. No call takes memory.
 #[derive(Drop)]
 pub struct Queue {
-    heap: Vec<Entry>,
-    taken: Vec<Entry>,
-    placed: u32,
+    // The taken entries, then the run, then the rest.
+    entries: Vec<Entry>,
+    next: usize,
+    run: usize,
+    // How the rest is dealt; None where it is in no order.
+    buckets: Option<Buckets>,
     capacity: u32,
     kept: Option<u64>,
 }
@@ -40,9 +44,10 @@ impl Queue {
         ensures { IfOk result (λ q. q ≡ empty_queue capacity) }
     {
         Ok(Queue {
-            heap: Vec::with_capacity(alloc, capacity as usize)?,
-            taken: Vec::with_capacity(alloc, capacity as usize)?,
-            placed: 0,
+            entries: Vec::with_capacity(alloc, capacity as usize)?,
+            next: 0,
+            run: 0,
+            buckets: None,
             capacity,
             kept: None,
         })
@@ -52,14 +57,14 @@ impl Queue {
     pub fn taken(&self) -> &[Entry]
         ensures { result.now ≡ self.now.taken }
     {
-        self.taken.as_slice()
+        &self.entries[..self.next]
     }
 
     /// The waiting entries, each once, in no stated order.
     pub fn waiting(&self) -> &[Entry]
         ensures { IsPermutation self.now.waiting result.now }
     {
-        self.heap.as_slice()
+        &self.entries[self.next..]
     }
 
     /// The limit of the pop that shut the queue. None exactly where it was never shut.
@@ -77,11 +82,12 @@ impl Queue {
         if let Some(kept) = self.kept {
             return PutReply::Shut(kept);
         }
-        if self.placed == self.capacity {
+        if self.entries.len() == self.capacity as usize {
             return PutReply::Filled(self.capacity);
         }
-        heap::push(&mut self.heap, entry);
-        self.placed += 1;
+        self.entries.push_reserved(entry);
+        self.buckets = None;
+        self.run = line::take_in(&mut self.entries[self.next..], self.run);
         PutReply::Placed
     }
 
@@ -93,13 +99,18 @@ impl Queue {
         if let Some(kept) = self.kept {
             return PopReply::Closed(kept);
         }
-        if !heap::has_within(&self.heap, limit) {
-            self.kept = Some(limit);
-            return PopReply::Closed(limit);
+        let waiting = &mut self.entries[self.next..];
+        self.run = line::reach(waiting, self.run, &mut self.buckets);
+        if self.run > 0 {
+            let least = self.entries[self.next];
+            if least.bound <= far(limit) {
+                self.next += 1;
+                self.run -= 1;
+                return PopReply::Leaf(least);
+            }
         }
-        let least = heap::remove_least(&mut self.heap);
-        self.taken.push_reserved(least);
-        PopReply::Leaf(least)
+        self.kept = Some(limit);
+        PopReply::Closed(limit)
     }
 }
 

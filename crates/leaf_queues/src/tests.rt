@@ -61,14 +61,14 @@ fn answers_the_same_through_a_lock(rt: HostRuntime) -> Result<(), Fail> {
     Ok(())
 }
 
-// Two of three calls are puts; bounds and leaves are few, so that many are equal.
-fn drawn_call(rng: &mut SplitMix64) -> Call {
-    let bound = rng.next_u64() % 9;
+// Two of three calls are puts; bounds and leaves are few, so that many are equal. Bounds lie this far apart.
+fn drawn_call(rng: &mut SplitMix64, apart: u64) -> Call {
+    let bound = (rng.next_u64() % 9).saturating_mul(apart);
     let leaf = rng.next_u32() % 7;
     if rng.next_u64() % 3 > 0 {
         put(bound, leaf)
     } else {
-        Call::Pop(bound + 3)
+        Call::Pop(bound.saturating_add(apart))
     }
 }
 
@@ -76,10 +76,11 @@ fn drawn_call(rng: &mut SplitMix64) -> Call {
 fn answers_as_a_sorted_list(rt: HostRuntime) -> Result<(), Fail> {
     let mut rng = SplitMix64::seed_from_u64(7);
     for round in 0..20 {
-        let mut queue = Queue::new(rt.alloc(), 12)?;
-        let mut list = SortedList::new(rt.alloc(), 12);
-        for _ in 0..30 {
-            let call = drawn_call(&mut rng);
+        let apart = [1, 1 << 52][round % 2];
+        let mut queue = Queue::new(rt.alloc(), 40)?;
+        let mut list = SortedList::new(rt.alloc(), 40);
+        for _ in 0..60 {
+            let call = drawn_call(&mut rng, apart);
             assert_eq!(rt;
                 queue.apply(0, call),
                 list.answer(call)?,

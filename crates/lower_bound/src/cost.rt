@@ -67,13 +67,19 @@ fn gap_of_symbol(table: Table, length: u32, sum: i32, symbol: u32) -> u64
     below(table, length, sum, symbol) + above(table, length, sum, symbol + 1)
 }
 
-/// The square of a gap by the length of the segment, rounded up.
+/// The square of a gap by the length of the segment, rounded up. A length that is a power of two needs no division.
 fn cost_over(length: u32, gap: u64) -> u64
     requires some_values { 1 ≤ length }
     requires within_reach { gap ≤ 4278190080 }
     ensures { result ≡ cost_of_gap length gap }
 {
-    (gap * gap + u64::from(length - 1)) / u64::from(length)
+    let square = gap * gap + u64::from(length - 1);
+    let bits = length.ilog2();
+    if length == 1 << bits {
+        square >> bits
+    } else {
+        square / u64::from(length)
+    }
 }
 
 /// The cost of one symbol for a segment of this length and sum: the square of the gap by the length, rounded up.

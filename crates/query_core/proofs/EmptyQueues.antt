@@ -1,45 +1,61 @@
--- Counting the leaves of each queue gives the room of each, and so the queues of the opening state.
-use Rattle.std.proofs.Common.{List, [], ap, arith, get_or, length, map, refl, set, suc, sym, ℕ, ⊎_elim, ◌%◌, ◌+◌, ◌<◌, ◌∙◌, ◌∷◌, ◌≡◌, ◌≢◌, ◌≤◌}
-use Rattle.std.proofs.Common.{get_or-set_other, get_or-set_same}
-use Rattle.list_totals.specs.Totals.{one_if_same}
+-- The room of each queue by arithmetic is the number of its leaves, and so the queues are those of the opening state.
+use Rattle.std.proofs.Common.{List, [], ap, arith, length, map, refl, get_or, suc, zero, sym, ℕ, ◌%◌, ◌/◌, ◌*◌, ◌+◌, ◌<◌, ◌∙◌, ◌∷◌, ◌≡◌, ◌≤◌}
+use Rattle.std.proofs.lemmas.Bool.Decides.{nat_tests}
+use Rattle.std.proofs.Math.Nat.{add-mul-mod_self_right, div-add-mod', mod-eq_of_lt, mod-lt, suc-mul}
+use Rattle.list_totals.specs.Totals.{once_below, one_if_same}
 use Rattle.leaf_queues.specs.PlainQueue.{empty_queue}
 use Rattle.search_machine.specs.Ground.{Ground, queue_of}
 use Rattle.search_machine.specs.Machine.{capacity_of, empty_queues}
-use Rattle.search_machine.proofs.Counts.{counts_or_not, same_counts}
 
--- a number written one greater at a place: there it is one more, and elsewhere it is as it was
-pub one_more_at : (counts : List ℕ) (at v m : ℕ) → at < length counts → v ≡ get_or counts at 0
-    → get_or (set counts at (v + 1)) m 0 ≡ one_if_same m at + get_or counts m 0
-one_more_at counts at v m inside value = ⊎_elim
-    (λ (here : (one_if_same m at ≡ 1) × (m ≡ at)).
-    let one = here.0 in
-    let e : get_or (set counts at (v + 1)) m 0 ≡ v + 1 = rw here.1 (rw get_or-set_same refl) in
-    let was : get_or counts m 0 ≡ v = ap (λ (n : ℕ). get_or counts n 0) here.1 ∙ sym value in
-    omega arith)
-    (λ (other : one_if_same m at ≡ 0).
-    let ne : m ≢ at = λ e. let s = same_counts at in let z = ap (λ (n : ℕ). one_if_same n at) e in omega arith in
-    let e : get_or (set counts at (v + 1)) m 0 ≡ get_or counts m 0 = rw get_or-set_other refl in
-    omega arith)
-    (counts_or_not m at)
+module _ (g : Ground) (m : ℕ) (low : m < g.queues) where
+  -- the leaf at a place of a round over the queues belongs to the queue of the place
+  round_place : (rounds place : ℕ) → place < g.queues → queue_of g (place + rounds * g.queues) ≡ place
+  round_place rounds place inside =
+      add-mul-mod_self_right place rounds g.queues ∙ mod-eq_of_lt inside
 
--- one more leaf is counted for its queue and for no other
-pub counted_more : (g : Ground) (counts : List ℕ) (l q v m : ℕ) → q ≡ l % g.queues → q < length counts
-    → v ≡ get_or counts q 0 → get_or counts m 0 ≡ capacity_of g m l
-    → get_or (set counts q (v + 1)) m 0 ≡ capacity_of g m (l + 1)
-counted_more g counts l q v m queue inside value before =
-    let a = one_more_at counts q v m inside value in
-    let e : l + 1 ≡ suc l = omega arith in
-    let b : one_if_same m q ≡ one_if_same m (queue_of g l) = ap (one_if_same m) queue in
-    rw e (omega arith)
+  -- a round that is begun has one more leaf for each queue that it came to
+  begun_round : (rounds place : ℕ) → place ≤ g.queues
+      → capacity_of g m (rounds * g.queues) ≡ rounds
+      → capacity_of g m (place + rounds * g.queues) ≡ rounds + once_below m place
+  begun_round rounds zero inside whole =
+      let start : zero + rounds * g.queues ≡ rounds * g.queues = omega arith in
+      ap (capacity_of g m) start ∙ (whole ∙ omega (arith, none m))
+    where
+      none : (m : ℕ) → once_below m 0 ≡ 0
+      none m = grind (arith, nat_tests)
+  begun_round rounds (suc place) inside whole =
+      let before = begun_round rounds place (omega arith) whole in
+      let here : one_if_same m (queue_of g (place + rounds * g.queues)) ≡ one_if_same m place
+      = ap (one_if_same m) (round_place rounds place (omega arith)) in
+      let next : suc place + rounds * g.queues ≡ suc (place + rounds * g.queues) = omega arith in
+      ap (capacity_of g m) next ∙ omega (arith, before, here, one_more m place)
+    where
+      one_more : (m place : ℕ) → once_below m (suc place) ≡ one_if_same m place + once_below m place
+      one_more m place = grind (arith, nat_tests)
 
--- a number of leaves is at most that of all
-pub counted_few : (counts : List ℕ) (q v l m : ℕ) → q < length counts → v ≡ get_or counts q 0
-    → ((j : ℕ) → get_or counts j 0 ≤ l) → get_or (set counts q (v + 1)) m 0 ≤ l + 1
-counted_few counts q v l m inside value before =
-    let a = one_more_at counts q v m inside value in
-    let b = before m in
-    ⊎_elim (λ (here : (one_if_same m q ≡ 1) × (m ≡ q)). let o = here.0 in omega arith)
-    (λ (other : one_if_same m q ≡ 0). omega arith) (counts_or_not m q)
+  -- whole rounds have one leaf each for every queue
+  whole_rounds : (rounds : ℕ) → capacity_of g m (rounds * g.queues) ≡ rounds
+  whole_rounds zero =
+      let start : zero * g.queues ≡ zero = omega arith in ap (capacity_of g m) start
+  whole_rounds (suc rounds) =
+      let last = begun_round rounds g.queues (omega arith) (whole_rounds rounds) in
+      let turn : suc rounds * g.queues ≡ g.queues + rounds * g.queues
+      = omega (arith, suc-mul rounds g.queues) in
+      ap (capacity_of g m) turn ∙ omega (arith, last, all m g.queues low)
+    where
+      all : (m n : ℕ) → m < n → once_below m n ≡ 1
+      all m n inside = grind (arith, nat_tests)
+
+  -- so many leaves belong to a queue
+  pub room_of : (leaves : ℕ)
+      → capacity_of g m leaves ≡ leaves / g.queues + once_below m (leaves % g.queues)
+  room_of leaves =
+      let parts : leaves ≡ leaves % g.queues + (leaves / g.queues) * g.queues
+      = omega (arith, div-add-mod' leaves g.queues) in
+      let inside : leaves % g.queues < g.queues = mod-lt leaves (omega arith) in
+      ap (capacity_of g m) parts
+      ∙ begun_round (leaves / g.queues) (leaves % g.queues) (omega arith)
+      (whole_rounds (leaves / g.queues))
 
 -- queues with room for what was counted are those of the opening state
 pub rooms_queues : (g : Ground) (rooms : List ℕ) (m : ℕ)

@@ -80,9 +80,9 @@ fn leaves_of_each(alloc: Global, leaves: u32, queues: u32) -> Result<Vec<u32>, N
     ensures counts { (g : Ground) → g.queues ≡ queues
         → IfOk result (λ counts. EachIndex counts.items (λ m. slice_index counts.items m ≡ capacity_of g m leaves)) }
 {
-    let mut counts = vec![in alloc; 0; queues as usize]?;
-    for leaf in 0..leaves {
-        counts[(leaf % queues) as usize] += 1;
+    let mut counts = Vec::with_capacity(alloc, queues as usize)?;
+    for queue in 0..queues {
+        counts.push_reserved(leaves / queues + u32::from(queue < leaves % queues));
     }
     Ok(counts)
 }

@@ -1,12 +1,11 @@
-use Rattle.std.proofs.Common.{◌≡◌, ◌≤◌, ℕ, ◌<◌, get_or, vec_len}
-use Rattle.search_machine.specs.Ground.{Ground}
-use Rattle.search_machine.specs.Machine.{capacity_of}
+use Rattle.std.proofs.Common.{◌≡◌, ◌≤◌, ◌<◌, ◌+◌, ◌/◌, ◌%◌, ℕ, get_or, vec_capacity, vec_len}
+use Rattle.list_totals.specs.Totals.{once_below}
 use Rattle.query_core.proofs.opening.leaves_of_each.Given as goal
 
-abbrev pub invariant-loop-leaf : goal.invariant-loop-leaf
-invariant-loop-leaf l = record {
-  len : vec_len l.counts ≡ l.queues;
-  few : (m : ℕ) → get_or l.counts.items m 0 ≤ l.leaf;
-  counted : (g : Ground) → g.queues ≡ l.queues → (m : ℕ) → m < l.queues
-      → get_or l.counts.items m 0 ≡ capacity_of g m l.leaf;
+abbrev pub invariant-loop-queue : goal.invariant-loop-queue
+invariant-loop-queue l = record {
+  len : vec_len l.counts ≡ l.queue;
+  room : l.queues ≤ vec_capacity l.counts;
+  counted : (m : ℕ) → m < l.queue
+      → get_or l.counts.items m 0 ≡ l.leaves / l.queues + once_below m (l.leaves % l.queues);
 }
