@@ -15,10 +15,10 @@ use Rattle.search_run.specs.Ends.{Concludes, ConcludesBy}
 use Rattle.search_run.specs.Plans.{Plan, Refuses}
 use Rattle.search_run.specs.Status.{status_of}
 use Rattle.search_run.specs.Stops.{Stops}
-use Rattle.search_run.specs.Texts.{Call, IsAnswerPiece, IsMade, IsTextOf, query_text}
+use Rattle.search_run.specs.Texts.{Call, IsMade, IsTextOf, query_text}
 use Rattle.search_run.specs.Traffic.{Reading, Writing}
 use Rattle.search_run.specs.LongSearches.{GivesChosen}
-use Rattle.search_run.specs.Windows.{HasFew, found_apart, long_plan, nothing_behind}
+use Rattle.search_run.specs.Windows.{AppendsChoices, HasFew, IsChoice, long_plan, nothing_behind}
 use Rattle.window_rows.specs.Choice.{chosen_apart}
 use Rattle.window_rows.proofs.Enough.{nearest_enough}
 use Rattle.search_run.proofs.Concluding.{concludes_map}
@@ -100,7 +100,7 @@ stops_conclude P each qs IsRight R writing right stop stopped =
 -- a piece that such a call made has those that are chosen from all
 piece_chosen : (Gives : Call LongGround) (o : Options) → GivesChosen Gives o → 0 < o.apart → (base : LongGround)
     → (i : ℕ) (query : List ℤ) (piece : List ℕ) → IsMade Gives base i query piece
-    → IsAnswerPiece None (found_apart o base.windows) i query piece
+    → IsChoice o base.windows i query piece
 piece_chosen Gives o each some base i query piece made =
     let needed = windows_needed o in
     let text : List Pair → List ℕ = λ pairs. query_text None i (chosen_apart o.apart pairs o.k) in
@@ -114,15 +114,14 @@ piece_chosen Gives o each some base i query piece made =
 pub chosen_done : (Gives : Call LongGround) (o : Options) → GivesChosen Gives o → 0 < o.apart → (base : LongGround)
     → (qs : List (List ℤ)) (before now : Option (List ℕ)) (ended : Result (Unit {0}) Stop)
     → OnOk ended ((text : List ℕ) × IsTextOf (IsMade Gives base) qs text × (now ≡ append_known before text))
-    → OnOk ended ((text : List ℕ) × IsTextOf (IsAnswerPiece None (found_apart o base.windows)) qs text
-    × (now ≡ append_known before text))
+    → OnOk ended (AppendsChoices o base.windows qs before now)
 chosen_done Gives o each some base =
-    done_map (IsMade Gives base) (IsAnswerPiece None (found_apart o base.windows)) (piece_chosen Gives o each some base)
+    done_map (IsMade Gives base) (IsChoice o base.windows) (piece_chosen Gives o each some base)
 
 -- and where they were not all written, a beginning of one
 pub chosen_stopped : (Gives : Call LongGround) (o : Options) → GivesChosen Gives o → 0 < o.apart → (base : LongGround)
     → (qs : List (List ℤ)) (writing : Writing) (ended : Result (Unit {0}) Stop)
     → IfErr ended (Stops (IsMade Gives base) qs writing)
-    → IfErr ended (Stops (IsAnswerPiece None (found_apart o base.windows)) qs writing)
+    → IfErr ended (Stops (IsChoice o base.windows) qs writing)
 chosen_stopped Gives o each some base =
-    stopped_map (IsMade Gives base) (IsAnswerPiece None (found_apart o base.windows)) (piece_chosen Gives o each some base)
+    stopped_map (IsMade Gives base) (IsChoice o base.windows) (piece_chosen Gives o each some base)

@@ -1,5 +1,6 @@
 -- The windows of one long series as a collection, the steps of a search among them, and the choice that its text has.
-use Rattle.std.specs.Prelude.{ℕ, ℤ, List, length, Option, None}
+use Rattle.std.specs.Prelude.{◌≡◌, ℕ, ℤ, List, length, Option, None}
+use Rattle.std.specs.Io.KnownBytes.{append_known}
 use Rattle.outside.specs.Files.{Held}
 use Rattle.command_words.specs.declared.options.Options.{Options}
 use Rattle.series_core.specs.Answer.{answer}
@@ -23,6 +24,15 @@ windows_in x y step = collection_of (joined x.rows.series) y.rows.points step
 abbrev pub found_apart : Options → Collection → List ℤ → List Pair
 found_apart o c q = chosen_apart o.apart (answer c q (length c.series)) o.k
 
+-- the piece of query i has the windows that are chosen for it
+abbrev pub IsChoice : Options → Collection → ℕ → List ℤ → List ℕ → Type 0
+IsChoice o c = IsAnswerPiece None (found_apart o c)
+
+-- a text with such a piece for each of these queries was appended
+abbrev pub AppendsChoices : Options → Collection → List (List ℤ) → Option (List ℕ) → Option (List ℕ) → Type 0
+AppendsChoices o c queries before now =
+    (text : List ℕ) × IsTextOf (IsChoice o c) queries text × (now ≡ append_known before text)
+
 -- the values of one long series, the queries, and what follows; a window is as long as a query, so no lengths are compared
 abbrev pub long_plan : List ℕ → List ℕ → Options → (Loaded → Loaded → Plan) → Plan
 long_plan series queries o then_ =
@@ -32,7 +42,7 @@ long_plan series queries o then_ =
 -- the same, and a text with the windows that are chosen for each query
 abbrev pub windows_plan : List ℕ → List ℕ → ℕ → Options → Plan
 windows_plan series queries step o = long_plan series queries o (λ x y.
-    Write (IsTextOf (IsAnswerPiece None (found_apart o (windows_in x y step))) y.rows.series))
+    Write (IsTextOf (IsChoice o (windows_in x y step)) y.rows.series))
 
 -- both files hold what was loaded, and a window has the asked segments
 pub record FitLong (held : Option Held) (series queries : List ℕ) (o : Options) (x y : Loaded) : Type 0 where

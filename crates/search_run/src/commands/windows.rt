@@ -2,7 +2,6 @@
 //! The windows are lent, not copied. So many of the nearest are sought that the choice from them is that from all.
 
 ghost use Rattle.std.specs.Prelude.{◌≡◌, ◌≢◌, ◌<◌, ◌≤◌, List, ℕ, length, None, IfOk, IfErr, OnOk};
-ghost use Rattle.std.specs.Io.KnownBytes.{append_known};
 ghost use Rattle.command_words.specs.Limits.{IsWithin, OptionsKeepLimits};
 ghost use Rattle.command_words.specs.Options.{windows_needed};
 ghost use Rattle.series_core.specs.Answer.{answer};
@@ -14,9 +13,9 @@ ghost use Rattle.search_run.specs.Finding.{IsTreeFor};
 ghost use Rattle.search_run.specs.Loads.{form_of};
 ghost use Rattle.search_run.specs.Plans.{HasSegments, Refuses, Writes};
 ghost use Rattle.search_run.specs.Stops.{Stops};
-ghost use Rattle.search_run.specs.Texts.{IsAnswerPiece, IsTextOf, query_text};
+ghost use Rattle.search_run.specs.Texts.{query_text};
 ghost use Rattle.search_run.specs.Traffic.{read_from, wrote_to};
-ghost use Rattle.search_run.specs.Windows.{FitLong, HasFew, found_apart, long_plan, nothing_behind, windows_in, windows_plan};
+ghost use Rattle.search_run.specs.Windows.{AppendsChoices, FitLong, HasFew, IsChoice, long_plan, nothing_behind, windows_in, windows_plan};
 ghost use Rattle.search_run.specs.declared.status.Status.{Status};
 ghost use Rattle.search_run.specs.declared.status.Which.{Which};
 
@@ -114,11 +113,9 @@ fn write_windows<T: Threads + Sync, S: Sink, G: Gate + Sync>(
     requires step { 1 ≤ step }
     requires needed { windows_needed options.now ≤ MAX_BEST }
     ensures ok { let windows = windows_in both.now.series both.now.queries step in
-        OnOk result ((text : List ℕ)
-        × IsTextOf (IsAnswerPiece None (found_apart options.now windows)) both.now.queries.rows.series text
-        × (S.written out.new ≡ append_known (S.written out.old) text)) }
+        OnOk result (AppendsChoices options.now windows both.now.queries.rows.series (S.written out.old) (S.written out.new)) }
     ensures stops { let windows = windows_in both.now.series both.now.queries step in
-        IfErr result (Stops (IsAnswerPiece None (found_apart options.now windows)) both.now.queries.rows.series
+        IfErr result (Stops (IsChoice options.now windows) both.now.queries.rows.series
         (wrote_to S.written S.faults S.sure out.old out.new)) }
     ensures counts { S.faults out.old ≤ S.faults out.new }
 {
@@ -154,10 +151,9 @@ fn write_chosen<S: Sink, P: Fn(&LongGround<'_>, u32, &[i16]) -> Result<Vec<u8>, 
     requires callable { (i : ℕ) (q : _) → length q.now ≡ queries.now.points → P.pre piece_of.now base i q }
     requires gives { GivesChosen (P.post piece_of.now) options.now }
     requires apart { 1 ≤ options.now.apart }
-    ensures ok { OnOk result ((text : List ℕ)
-        × IsTextOf (IsAnswerPiece None (found_apart options.now base.now.windows)) queries.now.series text
-        × (S.written out.new ≡ append_known (S.written out.old) text)) }
-    ensures stops { IfErr result (Stops (IsAnswerPiece None (found_apart options.now base.now.windows)) queries.now.series
+    ensures ok { OnOk result (AppendsChoices options.now base.now.windows queries.now.series
+        (S.written out.old) (S.written out.new)) }
+    ensures stops { IfErr result (Stops (IsChoice options.now base.now.windows) queries.now.series
         (wrote_to S.written S.faults S.sure out.old out.new)) }
     ensures counts { S.faults out.old ≤ S.faults out.new }
 {

@@ -43,7 +43,6 @@ returns-in-Convert-clause-answers g c =
     subst (λ command. Answers reading writing command (ended c.answer_convert.result)) (sym c.in-Convert.is)
     c.answer_convert.ensures.answers
 
-
 pub returns-in-Windows-clause-answers : goal.returns-in-Windows-clause-answers
 returns-in-Windows-clause-answers g c =
     let reading = read_from g.F.Files.held g.F.Files.faults g.F.Files.misses g.F.Files.blamed c.args.files.now

@@ -1,10 +1,8 @@
-use Rattle.std.proofs.Common.{rules, ◌≡◌, ℕ, List, None, subst}
+use Rattle.std.proofs.Common.{rules, ◌≡◌, subst}
 use Rattle.std.specs.Prelude.{IfErr, OnOk}
-use Rattle.std.specs.Io.KnownBytes.{append_known}
 use Rattle.search_run.specs.Stops.{Stops}
-use Rattle.search_run.specs.Texts.{IsAnswerPiece, IsTextOf}
 use Rattle.search_run.specs.Traffic.{wrote_to}
-use Rattle.search_run.specs.Windows.{found_apart, windows_in}
+use Rattle.search_run.specs.Windows.{AppendsChoices, IsChoice, windows_in}
 use Rattle.search_run.proofs.commands.windows.write_windows.Goals as goal
 
 pub write_chosen-requires-clause-gives : goal.write_chosen-requires-clause-gives
@@ -15,9 +13,8 @@ returns-clause-ok g c =
     let both = c.args.both.now in
     let over : c.new-windows.result ≡ windows_in both.series both.queries c.args.step = search rules in
     subst
-    (λ w. OnOk c.write_chosen.result ((text : List ℕ)
-    × IsTextOf (IsAnswerPiece None (found_apart c.args.options.now w)) both.queries.rows.series text
-    × (g.S.Sink.written c.write_chosen.new.out ≡ append_known (g.S.Sink.written c.args.out.now) text)))
+    (λ w. OnOk c.write_chosen.result (AppendsChoices c.args.options.now w both.queries.rows.series
+    (g.S.Sink.written c.args.out.now) (g.S.Sink.written c.write_chosen.new.out)))
     over c.write_chosen.ensures.ok
 
 pub returns-clause-stops : goal.returns-clause-stops
@@ -27,5 +24,5 @@ returns-clause-stops g c =
     let writing = wrote_to g.S.Sink.written g.S.Sink.faults g.S.Sink.sure c.args.out.now c.write_chosen.new.out in
     subst
     (λ w. IfErr c.write_chosen.result
-    (Stops (IsAnswerPiece None (found_apart c.args.options.now w)) both.queries.rows.series writing))
+    (Stops (IsChoice c.args.options.now w) both.queries.rows.series writing))
     over c.write_chosen.ensures.stops
