@@ -13,4 +13,5 @@ pub mod Exactly
 pub mod Concluding
 pub mod Both
 pub mod Searching
+pub mod Windowed
 pub mod Converting

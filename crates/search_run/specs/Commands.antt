@@ -14,6 +14,7 @@ use Rattle.search_run.specs.Loads.{form_of}
 use Rattle.search_run.specs.Plans.{CanPass, Plan, Load, Compare, Divide, Check, Write}
 use Rattle.search_run.specs.Texts.{IsAnswerPiece, IsTextOf}
 use Rattle.search_run.specs.Trials.{trial_text}
+use Rattle.search_run.specs.Windows.{windows_plan}
 use Rattle.search_run.specs.declared.status.Which.TheVariants.{Series, Queries}
 
 -- the command is one that is answered, with these options
@@ -23,6 +24,7 @@ IsServed (Range series queries radius o) = ⊤
 IsServed (Verify series queries certificate o) = ⊤
 IsServed (Trial seed count length queries o) = ⊤
 IsServed (Convert series o) = ⊤
+IsServed (Windows series queries step o) = ⊤
 IsServed _ = ⊥
 
 -- where the command would search over queues with locks, it asks for the search over sealed runs, which has none
@@ -74,6 +76,7 @@ plan_of (Range series queries radius o) = search_plan series queries o (λ rows 
 plan_of (Verify series queries certificate o) = verify_plan series queries certificate o
 plan_of (Trial seed count length queries o) = trial_plan seed count length queries o
 plan_of (Convert series o) = convert_plan series o
+plan_of (Windows series queries step o) = windows_plan series queries step o
 plan_of _ = Write (λ _. ⊥)
 
 -- nothing keeps the command from its work

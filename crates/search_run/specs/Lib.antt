@@ -9,6 +9,8 @@ pub mod Conversions
 pub mod Layouts
 pub mod Certificates
 pub mod Plans
+pub mod Windows
+pub mod LongSearches
 pub mod Finding
 pub mod Commands
 pub mod Pairs

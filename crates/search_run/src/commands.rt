@@ -6,3 +6,4 @@ pub mod range;
 pub mod search;
 pub mod trial;
 pub mod verify;
+pub mod windows;

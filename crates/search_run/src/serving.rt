@@ -15,7 +15,8 @@ pub fn is_served(command: &Command) -> bool
         Command::Range { .. }
         | Command::Verify { .. }
         | Command::Trial { .. }
-        | Command::Convert { .. } => true,
+        | Command::Convert { .. }
+        | Command::Windows { .. } => true,
         _ => false,
     }
 }

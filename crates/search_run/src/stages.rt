@@ -22,7 +22,9 @@ use crate::commands::nearest::answer_nearest;
 use crate::commands::range::answer_range;
 use crate::commands::trial::{Trial, answer_trial};
 use crate::commands::verify::answer_verify;
+use crate::commands::windows::answer_windows;
 use crate::crew::Crew;
+use crate::input::pair::Search;
 use crate::output::tell::tell;
 use crate::serving::is_served;
 use crate::status::{Status, Which};
@@ -204,6 +206,19 @@ fn answer<T: Threads + Sync, F: Files, S: Sink, G: Gate + Sync>(
             answer_trial(crew, &trial, out)
         }
         Command::Convert { series, options } => answer_convert(alloc, series, options, files, out),
+        Command::Windows {
+            series,
+            queries,
+            step,
+            options,
+        } => {
+            let search = Search {
+                series,
+                queries,
+                options,
+            };
+            answer_windows(crew, &search, *step, files, out)
+        }
         _ => Err(Status::Usage),
     }
 }

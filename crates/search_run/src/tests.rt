@@ -8,4 +8,5 @@ mod ranges;
 mod runs;
 mod trials;
 mod verifying;
+mod windows;
 mod words;

@@ -77,7 +77,7 @@ rows_back n (r ∷ rs) each =
     first = All-head (IsSeries n) r rs each
 
 -- there are n values for each row, each of 16 bits
-length-joined : (n : ℕ) (rows : List (List ℤ)) → All (IsSeries n) rows
+pub length-joined : (n : ℕ) (rows : List (List ℤ)) → All (IsSeries n) rows
     → length (joined rows) ≡ length rows * n
 length-joined n [] each =
     let none : 0 * n ≡ 0 = omega arith in sym none

@@ -42,3 +42,11 @@ returns-in-Convert-clause-answers g c =
     let writing = wrote_to g.S.Sink.written g.S.Sink.faults g.S.Sink.sure c.args.out.now c.answer_convert.new.out in
     subst (λ command. Answers reading writing command (ended c.answer_convert.result)) (sym c.in-Convert.is)
     c.answer_convert.ensures.answers
+
+pub returns-in-Windows-clause-answers : goal.returns-in-Windows-clause-answers
+returns-in-Windows-clause-answers g c =
+    let reading = read_from g.F.Files.held g.F.Files.faults g.F.Files.misses g.F.Files.blamed c.args.files.now
+    c.answer_windows.new.files in
+    let writing = wrote_to g.S.Sink.written g.S.Sink.faults g.S.Sink.sure c.args.out.now c.answer_windows.new.out in
+    subst (λ command. Answers reading writing command (ended c.answer_windows.result)) (sym c.in-Windows.is)
+    c.answer_windows.ensures.answers

@@ -1,0 +1,127 @@
+-- How a search of windows ends: what refuses its files, and what was written of its text (`stops_conclude`).
+use Rattle.std.proofs.Common.{◌≡◌, ℕ, ◌*◌, ◌<◌, ◌++◌, List, Option, None, inl, inr, ⊎_elim, length, take, arith, sym, ap, ◌∙◌}
+use Rattle.std.specs.Prelude.{ℤ, Result, Ok, Err, IfErr, OnOk}
+use Rattle.std.specs.Io.KnownBytes.{append_known}
+use Rattle.command_words.specs.Options.{windows_needed}
+use Rattle.command_words.specs.declared.options.Options.{Options}
+use Rattle.series_core.specs.Answer.{answer}
+use Rattle.series_core.specs.Flat.{joined}
+use Rattle.series_core.specs.declared.pair.Pair.{Pair}
+use Rattle.series_file.specs.Format.{HasText}
+use Rattle.series_file.specs.declared.error.Form.TheVariants.{Raw}
+use Rattle.series_file.specs.declared.error.Loaded.{Loaded}
+use Rattle.series_file.proofs.ReadBack.{length-joined}
+use Rattle.search_run.specs.Ends.{Concludes, ConcludesBy}
+use Rattle.search_run.specs.Plans.{Plan, Refuses}
+use Rattle.search_run.specs.Status.{status_of}
+use Rattle.search_run.specs.Stops.{Stops}
+use Rattle.search_run.specs.Texts.{Call, IsMade, IsTextOf, query_text}
+use Rattle.search_run.specs.Traffic.{Reading, Writing}
+use Rattle.search_run.specs.LongSearches.{GivesChosen}
+use Rattle.search_run.specs.Windows.{AppendsChoices, HasFew, IsChoice, long_plan, nothing_behind}
+use Rattle.window_rows.specs.Choice.{chosen_apart}
+use Rattle.window_rows.proofs.Enough.{nearest_enough}
+use Rattle.search_run.proofs.Concluding.{concludes_map}
+use Rattle.search_run.proofs.Pieces.{text_finish, text_map}
+use Rattle.search_run.specs.declared.commands.windows.LongGround.{LongGround}
+use Rattle.search_run.specs.declared.output.stop.Stop.{Stop}
+use Rattle.search_run.specs.declared.output.stop.Stop.TheVariants.{WriteFault, NoMemory}
+use Rattle.search_run.specs.declared.status.Status.{Status}
+
+-- values alone, one a series, are no more than a collection may have series
+pub few_alone : (x : Loaded) → HasText (Raw 1) x.rows x.labels → HasFew x
+few_alone x fits =
+    let size : length (joined x.rows.series) ≡ length x.rows.series * x.rows.points =
+    length-joined x.rows.points x.rows.series fits.sound.each in
+    let each_one : length x.rows.series * x.rows.points ≡ length x.rows.series * 1 =
+    ap (λ n. length x.rows.series * n) fits.fits.0 in
+    omega (arith, size, each_one, fits.sound.count_limit)
+
+-- what refuses the two files and the segments refuses whatever comes behind them
+pub long_refused : (reading : Reading) (series queries : List ℕ) (o : Options) (then_ : Loaded → Loaded → Plan)
+    (status : Status) → Refuses reading (long_plan series queries o nothing_behind) status
+    → Refuses reading (long_plan series queries o then_) status
+long_refused reading series queries o then_ status =
+    ⊎_elim (λ x. inl x) (λ x. inr (
+      x.0,
+      x.1,
+      ⊎_elim (λ y. inl y) (λ y. inr (
+        y.0,
+        y.1,
+        ⊎_elim (λ z. inl z) (λ z. absurd z.1) y.2,
+      )) x.2,
+    ))
+
+-- pieces of one kind that were not all written are of another
+stops_map : (P Q : ℕ → List ℤ → List ℕ → Type 0)
+    → ((i : ℕ) (q : List ℤ) (piece : List ℕ) → P i q piece → Q i q piece)
+    → (qs : List (List ℤ)) (writing : Writing) (stop : Stop) → Stops P qs writing stop → Stops Q qs writing stop
+stops_map P Q each qs writing WriteFault x =
+    (x.0, x.1, text_map P Q each 0 (take x.0 qs) x.1 x.2, x.3, x.4, x.5)
+stops_map P Q each qs writing NoMemory x = (x.0, x.1, text_map P Q each 0 (take x.0 qs) x.1 x.2, x.3)
+
+-- pieces of one kind that were all written are of another
+done_map : (P Q : ℕ → List ℤ → List ℕ → Type 0)
+    → ((i : ℕ) (q : List ℤ) (piece : List ℕ) → P i q piece → Q i q piece)
+    → (qs : List (List ℤ)) (before now : Option (List ℕ)) (ended : Result (Unit {0}) Stop)
+    → OnOk ended ((text : List ℕ) × IsTextOf P qs text × (now ≡ append_known before text))
+    → OnOk ended ((text : List ℕ) × IsTextOf Q qs text × (now ≡ append_known before text))
+done_map P Q each qs before now (Ok u) x = (x.0, text_map P Q each 0 qs x.0 x.1, x.2)
+done_map P Q each qs before now (Err e) x = tt
+
+-- and pieces of one kind that were not
+stopped_map : (P Q : ℕ → List ℤ → List ℕ → Type 0)
+    → ((i : ℕ) (q : List ℤ) (piece : List ℕ) → P i q piece → Q i q piece)
+    → (qs : List (List ℤ)) (writing : Writing) (ended : Result (Unit {0}) Stop)
+    → IfErr ended (Stops P qs writing) → IfErr ended (Stops Q qs writing)
+stopped_map P Q each qs writing (Ok u) x = tt
+stopped_map P Q each qs writing (Err stop) x = stops_map P Q each qs writing stop x
+
+-- the text of the first queries, however many
+abbrev Begun : (ℕ → List ℤ → List ℕ → Type 0) → List (List ℤ) → List ℕ → Type 0
+Begun P qs text = (n : ℕ) × IsTextOf P (take n qs) text
+
+-- pieces that were not all written conclude a command whose right texts are made of such, where each query has a piece
+pub stops_conclude : (P : ℕ → List ℤ → List ℕ → Type 0) → ((i : ℕ) (q : List ℤ) → (piece : List ℕ) × P i q piece)
+    → (qs : List (List ℤ)) (IsRight : List ℕ → Type 0) (R : Status → Type 0) (writing : Writing)
+    → ((text : List ℕ) → IsTextOf P qs text → IsRight text)
+    → (stop : Stop) → Stops P qs writing stop → Concludes IsRight R writing (status_of stop)
+stops_conclude P each qs IsRight R writing right stop stopped =
+    concludes_map (IsTextOf P qs) (Begun P qs) IsRight R R writing (status_of stop) right begun (λ s r. r) (by_stop stop stopped)
+  where
+    begun : (text : List ℕ) → Begun P qs text → (rest : List ℕ) × IsRight (text ++ rest)
+    begun text w = let more = text_finish P each 0 qs w.0 text w.1 in (more.0, right (text ++ more.0) more.1)
+
+    by_stop : (stop : Stop) → Stops P qs writing stop
+        → ConcludesBy (IsTextOf P qs) (Begun P qs) R writing (status_of stop)
+    by_stop WriteFault x = (x.1, (x.0, x.2), x.3, x.4, x.5)
+    by_stop NoMemory x = inr (x.1, (x.0, x.2), x.3)
+
+-- a piece that such a call made has those that are chosen from all
+piece_chosen : (Gives : Call LongGround) (o : Options) → GivesChosen Gives o → 0 < o.apart → (base : LongGround)
+    → (i : ℕ) (query : List ℤ) (piece : List ℕ) → IsMade Gives base i query piece
+    → IsChoice o base.windows i query piece
+piece_chosen Gives o each some base i query piece made =
+    let needed = windows_needed o in
+    let text : List Pair → List ℕ = λ pairs. query_text None i (chosen_apart o.apart pairs o.k) in
+    sym made.6
+    ∙ each made.0 i made.1 (Ok made.2) made.3
+    ∙ ap (λ (g : LongGround). text (answer g.windows made.1.now needed)) made.4
+    ∙ ap (λ q. text (answer base.windows q needed)) made.5
+    ∙ ap (query_text None i) (nearest_enough o.apart o.k needed base.windows query some (omega arith))
+
+-- so the pieces that such calls made are, where all were written, a text of chosen windows
+pub chosen_done : (Gives : Call LongGround) (o : Options) → GivesChosen Gives o → 0 < o.apart → (base : LongGround)
+    → (qs : List (List ℤ)) (before now : Option (List ℕ)) (ended : Result (Unit {0}) Stop)
+    → OnOk ended ((text : List ℕ) × IsTextOf (IsMade Gives base) qs text × (now ≡ append_known before text))
+    → OnOk ended (AppendsChoices o base.windows qs before now)
+chosen_done Gives o each some base =
+    done_map (IsMade Gives base) (IsChoice o base.windows) (piece_chosen Gives o each some base)
+
+-- and where they were not all written, a beginning of one
+pub chosen_stopped : (Gives : Call LongGround) (o : Options) → GivesChosen Gives o → 0 < o.apart → (base : LongGround)
+    → (qs : List (List ℤ)) (writing : Writing) (ended : Result (Unit {0}) Stop)
+    → IfErr ended (Stops (IsMade Gives base) qs writing)
+    → IfErr ended (Stops (IsChoice o base.windows) qs writing)
+chosen_stopped Gives o each some base =
+    stopped_map (IsMade Gives base) (IsChoice o base.windows) (piece_chosen Gives o each some base)
