@@ -163,7 +163,7 @@ fn drawn_windows_are_those_of_a_plain_choice(rt: HostRuntime) -> Result<(), Fail
         values.push((state >> 28) as i16)?;
     }
     for length in 1..=9usize {
-        let series = &values[..3 * length];
+        let series = &values[..values.len().min(3 * length)];
         let bytes = raw(alloc, series)?;
         for case in 0..100u32 {
             let case = Case {
