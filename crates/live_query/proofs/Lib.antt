@@ -1,0 +1,6 @@
+-- The lemmas of this crate.
+pub mod FillTies
+pub mod FillKnowing
+pub mod FillEffort
+pub mod FillRunning
+pub mod GoingOn
