@@ -4,3 +4,6 @@ pub mod FillKnowing
 pub mod FillEffort
 pub mod FillRunning
 pub mod GoingOn
+pub mod DrainTies
+pub mod DrainEffort
+pub mod DrainKnowing

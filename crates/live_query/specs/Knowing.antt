@@ -2,6 +2,7 @@
 use Rattle.std.specs.Prelude.{◌≡◌, ℕ, length}
 use Rattle.search_machine.specs.Ground.{Fits}
 use Rattle.search_machine.specs.OwnRecord.{RecordedWorker}
+use Rattle.search_machine.specs.Workers.{Worker}
 use Rattle.search_machine.specs.Stands.{StandsFor}
 use Rattle.query_core.specs.Questions.{last_of}
 use Rattle.query_core.specs.Turning.{search_of}
@@ -32,8 +33,10 @@ pub record FillsOn (w : Working) (h : FillKept) (v : Working) (k : FillKept) : T
   pub best : k.best ≡ h.best
   pub floor : k.floor ≡ h.floor
 
--- the hand in the drain part is of the worker's search
+-- the hand in the drain part is of the search of the worker, which shows some worker of the machine
 pub record DrainServes (w : Working) (h : DrainKept) : Type 0 where
+  pub shown : Worker
+  pub shows : Shows w shown
   pub fits : Fits (search_of w 1)
   pub roots : h.roots ≡ length w.index.roots
   pub floor : h.floor ≡ last_of w.question

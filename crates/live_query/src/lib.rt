@@ -6,5 +6,6 @@
 mod fill_hand;
 mod filling;
 mod drain_hand;
+mod draining;
 mod search;
 mod searcher;
