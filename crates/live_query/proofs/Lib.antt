@@ -7,3 +7,5 @@ pub mod GoingOn
 pub mod DrainTies
 pub mod DrainEffort
 pub mod DrainKnowing
+pub mod Places
+pub mod Marks

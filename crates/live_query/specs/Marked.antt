@@ -5,7 +5,10 @@ use Rattle.list_totals.specs.Standing.{In}
 use Rattle.series_core.specs.declared.queue_words.Entry.{Entry}
 use Rattle.series_core.specs.EntryOrder.{IsAscending}
 use Rattle.lower_bound.specs.Bound.{View}
+use Rattle.sealed_runs.specs.Closed.{Line}
 use Rattle.subtree_build.specs.Index.{IndexParts}
+use Rattle.search_machine.specs.declared.outcome.QueueLine.{QueueLine}
+use Rattle.search_machine.specs.Outcome.{kept_of}
 use Rattle.query_core.specs.Questions.{leaf_bound}
 
 -- some worker has marked leaf l
@@ -29,3 +32,7 @@ pub record IsRunOf (view : View) (ix : IndexParts) (marks : List (List Bool)) (q
   pub ascending : IsAscending es
   pub exactly : (e : Entry)
       → In e es ↔ (IsMarkedEntry view ix marks (length ix.leaves) e × (e.leaf % queues ≡ m))
+
+-- what a closed run tells as the line of its queue
+abbrev pub line_of_run : Line → QueueLine
+line_of_run line = record { taken = line.taken; kept = kept_of line.kept }

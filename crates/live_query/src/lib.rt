@@ -3,9 +3,17 @@
 //! leaves that were put. Between the parts all workers have returned, and what they shared in the first is closed.
 #![tactic(auto)]
 
-mod fill_hand;
-mod filling;
 mod drain_hand;
+mod drain_part;
 mod draining;
+mod fill_hand;
+mod fill_part;
+mod filling;
+mod lines;
+mod marked;
+mod opening;
 mod search;
+mod sealed;
 mod searcher;
+
+pub use sealed::nearest_sealed;

@@ -1,4 +1,6 @@
 //! A worker with what it shares the search by. It has plain parameters alone, so that it goes to a thread of its own.
+ghost use Rattle.std.specs.Prelude.{◌≡◌, ◌↔◌, Some, true, slice_get};
+
 use best_word::WordPass;
 use std::marker::Model;
 
@@ -32,4 +34,16 @@ impl Model for Rested {
     ghost view = { λ r. record { best = r.seen.best; floor = r.seen.floor; marks = r.marks.items } };
 
     ghost invariant = { λ r. Unit {0} };
+}
+
+impl Rested {
+    /// Whether it put the leaf. A number that is no leaf was never put.
+    pub(crate) fn has_put(&self, leaf: u32) -> bool
+        ensures { (result ≡ true) ↔ (slice_get self.now.marks leaf ≡ Some true) }
+    {
+        match self.marks.get(leaf as usize) {
+            Some(mark) => *mark,
+            None => false,
+        }
+    }
 }
