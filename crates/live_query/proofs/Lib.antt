@@ -9,3 +9,6 @@ pub mod DrainEffort
 pub mod DrainKnowing
 pub mod Places
 pub mod Marks
+pub mod FillGather
+pub mod RunQueues
+pub mod SealedClose

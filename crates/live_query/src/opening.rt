@@ -20,7 +20,7 @@ pub(crate) fn open_team<'a, R: Rows>(
     requires count { vec_len passes ≡ vec_len workers }
     requires few { vec_len workers ≤ 64 }
     ensures workers { IfOk result (λ team. map (λ c. c.worker) team.items ≡ workers.entry.items) }
-    ensures hands { (best : Best) (floor : ℕ) → All (λ p. p ≡ fresh_pass best floor) passes.entry.items
+    ensures hands { (best : Best) (floor : ℕ) → All (λ p. p ≡ fresh_pass best floor) passes.items
         → IfOk result (λ team. All (λ c. c.hand ≡ fresh_kept best floor leaves) team.items) }
 {
     let mut team = Vec::with_capacity(alloc, workers.len())?;
@@ -28,7 +28,7 @@ pub(crate) fn open_team<'a, R: Rows>(
         let Some(seen) = passes.pop() else {
             unreachable!()
         };
-        let marks = vec![in alloc; false; leaves as usize]?;
+        let marks = no_marks(alloc, leaves)?;
         team.push_reserved(Searcher {
             worker,
             hand: Rested { seen, marks },
@@ -37,4 +37,11 @@ pub(crate) fn open_team<'a, R: Rows>(
         });
     }
     Ok(team)
+}
+
+// No mark of any of so many leaves.
+fn no_marks(alloc: Global, leaves: u32) -> Result<Vec<bool>, NoMemory>
+    ensures { IfOk result (λ marks. marks.items ≡ replicate leaves false) }
+{
+    Ok(vec![in alloc; false; leaves as usize]?)
 }
