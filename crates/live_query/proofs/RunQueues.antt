@@ -45,13 +45,14 @@ ascending_ordered (e ∷ es) h = (
 -- what passes stands in the list
 pub in_filter : (p : Entry → Bool) (es : List Entry) (d : Entry) → In d (filter p es) → In d es × (p d ≡ true)
 in_filter p [] d i = absurd i
-in_filter p (e ∷ es) d = cond_both (p e) (e ∷ filter p es) (filter p es)
+in_filter p (e ∷ es) d there = cond_both (p e) (e ∷ filter p es) (filter p es)
     (λ l. In d l → In d (e ∷ es) × (p d ≡ true))
     (λ passes i. ⊎_elim
     (λ (same : d ≡ e). (inl same, ap p same ∙ passes))
     (λ (more : In d (filter p es)). let r = in_filter p es d more in (inr r.0, r.1))
     i)
     (λ _ i. let r = in_filter p es d i in (inr r.0, r.1))
+    there
 
 pub ordered_filter : (p : Entry → Bool) (es : List Entry) → Ordered es → Ordered (filter p es)
 ordered_filter p [] h = tt
