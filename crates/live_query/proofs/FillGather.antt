@@ -18,16 +18,18 @@ use Rattle.search_machine.specs.OwnRecord.{OwnRecord, RecordedWorker, nothing_ye
 use Rattle.search_machine.specs.Stands.{Stands, StandsFor}
 use Rattle.search_machine.specs.Closes.{claimed_by}
 use Rattle.search_machine.proofs.EveryReply.{own_idle, own_leader}
-use Rattle.search_machine.proofs.Places.{get_map, get_some}
+use Rattle.search_machine.proofs.Places.{get_map, get_replicate, get_some}
 use Rattle.query_core.specs.Questions.{CanBeSearched, Question, last_of, search_over}
+use Rattle.query_core.specs.Teams.{AreHired}
 use Rattle.query_core.specs.Turning.{search_of}
 use Rattle.query_core.specs.Working.{IsOf, Shows, Working, opens_as}
 use Rattle.query_core.proofs.OfIndex.{search_fits}
 use Rattle.live_query.specs.FillHands.{FillKept, FillTied}
 use Rattle.live_query.specs.Knowing.{FillKnows, FillServes, FillsOn}
+use Rattle.live_query.specs.Resting.{Kept, fresh_kept}
 use Rattle.live_query.specs.Parts.{AllFilled, AreOpen, Filling, HasFilled, IsOpen, Resting, filling, resting}
 use Rattle.live_query.proofs.FillRunning.{is_end, not_end}
-use Rattle.live_query.proofs.Places.{CameFrom, Chosen, all_at, all_map, by_place, choose, map_at, totals_same}
+use Rattle.live_query.proofs.Places.{CameFrom, Chosen, all_at, all_from, all_map, by_place, choose, map_at, totals_same}
 
 -- the search of a worker at its place is that over its question and index
 pub search_at : (a : Question) (ix : IndexParts) (m i : ℕ) (w : Working) → IsOf a ix m i w → search_of w 1 ≡ search_over a ix 1 m
@@ -221,3 +223,23 @@ module _ (a : Question) (ix : IndexParts) (m : ℕ) (best : Best) (counter : Cou
             let s = once_below_yes n drawn.drawn (omega arith) in
             omega arith;
       }
+
+-- all of a list of one item are that item
+pub all_replicate : {X : Type 0} (n : ℕ) (x : X) (xs : List X) → xs ≡ replicate n x → All (λ y. y ≡ x) xs
+all_replicate n x xs is =
+    subst (All (λ y. y ≡ x)) (sym is) (all_from (λ y. y ≡ x) (replicate n x) (λ i y at. sym (get_replicate n x i y at)))
+
+-- searchers with hired workers that have put nothing are open
+pub team_opens : (a : Question) (ix : IndexParts) (m : ℕ) (best : Best) (team : List Resting) (ws : List Working)
+    → map (λ (c : Resting). c.worker) team ≡ ws → AreHired a ix m ws
+    → All (λ (c : Resting). c.hand ≡ fresh_kept best (last_of a) (length ix.leaves)) team → AreOpen a ix m best team
+team_opens a ix m best team ws are hired hands i c at =
+    let there = ap (λ l. slice_get l i) (sym are) ∙ map_at (λ (c : Resting). c.worker) team i c at in
+    let hand = all_at (λ (c : Resting). c.hand ≡ fresh_kept best (last_of a) (length ix.leaves)) team i c hands at in
+    record {
+      place = hired.places i c.worker there;
+      shows = hired.opens i c.worker there;
+      word = ap (λ (k : Kept). k.best) hand;
+      floor = ap (λ (k : Kept). k.floor) hand;
+      marks = ap (λ (k : Kept). k.marks) hand;
+    }
