@@ -68,9 +68,9 @@ leaf_less h k m v e d =
     let n = length (run_at h.runs m).entries in
     let here = left_here h m x d.run d.visit in
     let now : open_left x.closed (n - x.claim.met) ≡ n - x.claim.met
-        = ap (λ o. open_left o (n - x.claim.met)) d.leaf.going in
+    = ap (λ o. open_left o (n - x.claim.met)) d.leaf.going in
     let was : run_left h m ≡ n - (visit_at h.visits m).claim.met
-        = ap (λ o. open_left o (n - (visit_at h.visits m).claim.met)) d.goes_on in
+    = ap (λ o. open_left o (n - (visit_at h.visits m).claim.met)) d.goes_on in
     let drawn = d.leaf.drawn in
     let most = d.leaf.most in
     let all = ap all_left d.after in

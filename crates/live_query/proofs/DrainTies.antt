@@ -147,7 +147,7 @@ module _ (h : DrainKept) (r : OwnRecord) (m v : ℕ) (t : DrainTied h r) where
           (λ (same : m ≡ n).
           let shut = t.closed n low old in
           let going : is_some (visit_at h.visits n).closed ≡ false
-              = ap (λ (k : ℕ). is_some (visit_at h.visits k).closed) (sym same) ∙ ap is_some d.goes_on in
+          = ap (λ (k : ℕ). is_some (visit_at h.visits k).closed) (sym same) ∙ ap is_some d.goes_on in
           absurd (true≢false (sym shut ∙ going)))
           (λ (ne : m ≡ n → ⊥).
           ap (λ (x : Visit). is_some x.closed) (visit_other h.visits m n (now k) (λ q. ne (sym q))) ∙ t.closed n low old)
@@ -159,11 +159,11 @@ module _ (h : DrainKept) (r : OwnRecord) (m v : ℕ) (t : DrainTied h r) where
       kept_now n u low c = ⊎_elim
           (λ (same : m ≡ n).
           let going : (visit_at (visits k) n).closed ≡ None
-              = ap (λ (j : ℕ). (visit_at (visits k) j).closed) (sym same) ∙ ap (λ (x : Visit). x.closed) here ∙ d.leaf.going in
+          = ap (λ (j : ℕ). (visit_at (visits k) j).closed) (sym same) ∙ ap (λ (x : Visit). x.closed) here ∙ d.leaf.going in
           absurd (none-some u (sym going ∙ c)))
           (λ (ne : m ≡ n → ⊥).
           let was : (visit_at h.visits n).closed ≡ Some u
-              = ap (λ (x : Visit). x.closed) (sym (visit_other h.visits m n (now k) (λ q. ne (sym q)))) ∙ c in
+          = ap (λ (x : Visit). x.closed) (sym (visit_other h.visits m n (now k) (λ q. ne (sym q)))) ∙ c in
           let k = t.kept n u low was in (k.0, inr k.1, k.2, k.3))
           (cases_eq m n)
 
@@ -221,7 +221,7 @@ module _ (h : DrainKept) (r : OwnRecord) (m v : ℕ) (t : DrainTied h r) where
           (λ (same : m ≡ n). ((popped_with (Closed told)), inl refl, same, same_Some v u (sym (shut_now n same) ∙ c)))
           (λ (ne : m ≡ n → ⊥).
           let was : (visit_at h.visits n).closed ≡ Some u
-              = ap (λ (x : Visit). x.closed) (sym (visit_other h.visits m n (now k) (λ q. ne (sym q)))) ∙ c in
+          = ap (λ (x : Visit). x.closed) (sym (visit_other h.visits m n (now k) (λ q. ne (sym q)))) ∙ c in
           let k = t.kept n u low was in (k.0, inr k.1, k.2, k.3))
           (cases_eq m n)
 

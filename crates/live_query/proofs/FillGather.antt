@@ -79,8 +79,16 @@ module _ (a : Question) (ix : IndexParts) (m : ℕ) (best : Best) (counter : Cou
     opener_stands zero = own_leader g fits
     opener_stands (suc i) = own_idle g (suc i) (omega arith)
 
+    opener_claims : (i : ℕ) → is_end (opens_as g i).phase ≡ false
+    opener_claims zero = refl
+    opener_claims (suc i) = refl
+
+    opens_running : c.worker.phase ≢ Done
+    opens_running = not_end c.worker.phase (ap is_end (sym opens.shows.phase) ∙ opener_claims i)
+
     opens_knowing : FillKnows c.worker (filling counter m c).hand
     opens_knowing = record {
+      running = opens_running;
       member = record { worker = opens_as g i; own = nothing_yet };
       shows = opens.shows;
       stands = subst (λ (j : ℕ). StandsFor (search_of c.worker 1) j (record { worker = opens_as g i; own = nothing_yet }))
@@ -89,13 +97,6 @@ module _ (a : Question) (ix : IndexParts) (m : ℕ) (best : Best) (counter : Cou
           (sym (search_at a ix m i c.worker opens.place)) (opener_stands i));
       tied = fresh_tied;
     }
-
-    opener_claims : (i : ℕ) → is_end (opens_as g i).phase ≡ false
-    opener_claims zero = refl
-    opener_claims (suc i) = refl
-
-    opens_running : c.worker.phase ≢ Done
-    opens_running = not_end c.worker.phase (ap is_end (sym opens.shows.phase) ∙ opener_claims i)
 
   -- what all know as they open
   pub all_serving : (team : List Resting) (cells : List Filling) → cells ≡ map (filling counter m) team
@@ -110,12 +111,6 @@ module _ (a : Question) (ix : IndexParts) (m : ℕ) (best : Best) (counter : Cou
   all_knowing team cells is opens =
       all_map (λ (c : Filling). FillKnows c.worker c.hand) (filling counter m) team cells is
       (λ i c at. opens_knowing i c (opens i c at))
-
-  pub all_running : (team : List Resting) (cells : List Filling) → cells ≡ map (filling counter m) team
-      → AreOpen a ix m best team → All (λ (c : Filling). c.worker.phase ≢ Done) cells
-  all_running team cells is opens =
-      all_map (λ (c : Filling). c.worker.phase ≢ Done) (filling counter m) team cells is
-      (λ i c at. opens_running i c (opens i c at))
 
   abbrev On : Filling → Filling → Type 0
   On x y = FillsOn x.worker x.hand y.worker y.hand
@@ -144,7 +139,6 @@ module _ (a : Question) (ix : IndexParts) (m : ℕ) (best : Best) (counter : Cou
 
     module _ (passes : List Pass) (are : passes ≡ map (λ (c : Filling). c.hand.claim) cells)
         (knows : All (λ (c : Filling). FillKnows c.worker c.hand) cells)
-        (running : All (λ (c : Filling). c.worker.phase ≢ Done) cells)
         (filled : All (λ (c : Filling). fills c.worker.phase ≡ false) cells)
         (count : counter.count ≡ length ix.roots) (drawn : EachDrawnOnce counter.count passes) where
       -- a searcher with the record of its calls
@@ -159,26 +153,28 @@ module _ (a : Question) (ix : IndexParts) (m : ℕ) (best : Best) (counter : Cou
           let y = get_some cells i low in
           let k = all_at (λ (c : Filling). FillKnows c.worker c.hand) cells i y.0 knows y.1 in
           let w = was i y.0 y.1 in
-          let place = moved w.from.worker y.0.worker i w.opened.place w.goes.place in
-          (k.member, record {
-            cell = y.0;
-            at = y.1;
-            tied = k.tied;
-            has = record {
-              place = place;
-              filled = all_at (λ (c : Filling). fills c.worker.phase ≡ false) cells i y.0 filled y.1;
-              running = all_at (λ (c : Filling). c.worker.phase ≢ Done) cells i y.0 running y.1;
-              word = w.goes.best ∙ w.opened.word;
-              floor = w.goes.floor ∙ w.opened.floor;
-              shows = k.shows;
-              stands = subst (λ (j : ℕ). StandsFor g j k.member) place.number
-                  (subst (λ (h : Ground). StandsFor h y.0.worker.number k.member)
-                  (search_at a ix m i y.0.worker place) k.stands);
-              hand = y.0.hand;
-              rests = refl;
+          let place = moved w.from.worker y.0.worker i w.opened.place w.goes.place in (
+            k.member,
+            record {
+              cell = y.0;
+              at = y.1;
               tied = k.tied;
-            };
-          })
+              has = record {
+                place = place;
+                filled = all_at (λ (c : Filling). fills c.worker.phase ≡ false) cells i y.0 filled y.1;
+                running = k.running;
+                word = w.goes.best ∙ w.opened.word;
+                floor = w.goes.floor ∙ w.opened.floor;
+                shows = k.shows;
+                stands = subst (λ (j : ℕ). StandsFor g j k.member) place.number
+                    (subst (λ (h : Ground). StandsFor h y.0.worker.number k.member)
+                    (search_at a ix m i y.0.worker place) k.stands);
+                hand = y.0.hand;
+                rests = refl;
+                tied = k.tied;
+              };
+            },
+          )
         where
           moved : (w v : Working) (i : ℕ) → IsOf a ix m i w → IsOf w.question w.index w.queues w.number v → IsOf a ix m i v
           moved w v i first second = record {
@@ -209,14 +205,14 @@ module _ (a : Question) (ix : IndexParts) (m : ℕ) (best : Best) (counter : Cou
         each = λ i c x at_c at_x.
             let k = all.each i x at_x in
             let there : Some (resting k.cell) ≡ Some c
-                = sym (map_at resting cells i k.cell k.at) ∙ ap (λ l. slice_get l i) (sym rests) ∙ at_c in
+            = sym (map_at resting cells i k.cell k.at) ∙ ap (λ l. slice_get l i) (sym rests) ∙ at_c in
             subst (λ c. HasFilled a ix m best i c x) (same_Some (resting k.cell) c there) k.has;
         once = λ n. let e = claims_are n in let b = drawn.once n in let s = once_below_most n drawn.drawn in omega arith;
         all_claimed = λ i x n at_x ended low.
             let k = all.each i x at_x in
             let pass = ap (λ l. slice_get l i) are ∙ map_at (λ (c : Filling). c.hand.claim) cells i k.cell k.at in
             let full = all_at (λ (p : Pass). p.ended ≡ true → drawn.drawn ≡ counter.count) passes i k.cell.hand.claim
-                drawn.whole pass (k.tied.ended ended) in
+            drawn.whole pass (k.tied.ended ended) in
             let e = claims_are n in
             let b = drawn.once n in
             let nodes = searches.index.one_node_each in

@@ -79,8 +79,15 @@ module _ (w v : Working) (h k : FillKept) (serves : FillServes w h) (knows : Fil
   stands_on : StandsFor g w.number after_it
   stands_on = reply_stands g serves.fits w.number x t.0 (t.1.fits 1) knows.stands
 
+  -- the worker is not done
+  fills_running : v.phase ≢ Done
+  fills_running =
+      let runs = fills_runs g x.worker x.worker.phase t.0 refl (ap fills knows.shows.phase ∙ fill) in
+      not_end v.phase (ap is_end (sym (t.1.next 1 x knows.shows).phase) ∙ runs)
+
   pub fill_knows : FillKnows v k
   fill_knows = record {
+    running = fills_running;
     member = after_it;
     shows = t.1.next 1 x knows.shows;
     stands = subst (λ (i : ℕ). StandsFor (search_of v 1) i after_it) (sym is.number)
@@ -95,9 +102,3 @@ module _ (w v : Working) (h k : FillKept) (serves : FillServes w h) (knows : Fil
   -- the worker keeps its place, and the hand its objects
   pub fills_on : FillsOn w h v k
   fills_on = record { place = is; claims = same.claims; best = same.best; floor = same.floor }
-
-  -- the worker is not done
-  pub fills_running : v.phase ≢ Done
-  fills_running =
-      let runs = fills_runs g x.worker x.worker.phase t.0 refl (ap fills knows.shows.phase ∙ fill) in
-      not_end v.phase (ap is_end (sym (t.1.next 1 x knows.shows).phase) ∙ runs)

@@ -108,7 +108,7 @@ left_taken l (e ∷ es) taken some =
     (λ left. ⊎_elim
     (λ (is : (one_if_same l e.leaf ≡ 1) × (l ≡ e.leaf)).
     let gone : nat_lt 0 (entered e.leaf taken) ≡ true
-        = ap (λ k. nat_lt 0 (entered k taken)) (sym is.1) ∙ positive (entered l taken) some in
+    = ap (λ k. nat_lt 0 (entered k taken)) (sym is.1) ∙ positive (entered l taken) some in
     absurd (true≢false (sym left ∙ ap not gone)))
     (λ (not_here : one_if_same l e.leaf ≡ 0). omega arith)
     (counts_or_not l e.leaf))
@@ -126,7 +126,7 @@ left_other l (e ∷ es) taken none =
     (λ gone. ⊎_elim
     (λ (is : (one_if_same l e.leaf ≡ 1) × (l ≡ e.leaf)).
     let stays : nat_lt 0 (entered e.leaf taken) ≡ false
-        = ap (λ k. nat_lt 0 (entered k taken)) (sym is.1) ∙ nothing (entered l taken) none in
+    = ap (λ k. nat_lt 0 (entered k taken)) (sym is.1) ∙ nothing (entered l taken) none in
     absurd (true≢false (sym (ap not stays) ∙ gone)))
     (λ (not_here : one_if_same l e.leaf ≡ 0). omega arith)
     (counts_or_not l e.leaf))

@@ -261,7 +261,7 @@ module _ (a : Question) (ix : IndexParts) (m : ℕ) (best : Best) (searches : Ca
       was_closed : (i : ℕ) (y : RecordedWorker) (j : ℕ) → slice_get ys i ≡ Some y → j < m → WasClosed y.own j
       was_closed i y j at low =
           let drains : OwnDrains g y.own i m y.worker.rest
-              = subst (OwnPhase g y.own i y.worker.rest y.worker.list) (worker_done i y at) (stands i y at).phase in
+          = subst (OwnPhase g y.own i y.worker.rest y.worker.list) (worker_done i y at) (stands i y at).phase in
           let x = round_covers i m j low in
           subst (WasClosed y.own) x.2 (drains.closed x.0 x.1)
 
@@ -288,7 +288,7 @@ module _ (a : Question) (ix : IndexParts) (m : ℕ) (best : Best) (searches : Ca
           let e = all.each marked.0 y.0 y.1 in
           let same = same_Some e.way.from c.0 (sym e.way.at ∙ c.1) in
           let marks : marked.1 ≡ e.way.has.hand.marks
-              = sym c.2 ∙ ap (λ (c : Resting). c.hand.marks) (sym same) ∙ ap (λ (k : Kept). k.marks) e.way.has.rests in
+          = sym c.2 ∙ ap (λ (c : Resting). c.hand.marks) (sym same) ∙ ap (λ (k : Kept). k.marks) e.way.has.rests in
           let w = e.way.has.tied.marked l (ap (λ ms. slice_get ms l) (sym marks) ∙ marked.3) in
           record {
             place = marked.0;
@@ -396,8 +396,8 @@ module _ (a : Question) (ix : IndexParts) (m : ℕ) (best : Best) (searches : Ca
             let at_queue : p.made.queue ≡ j = right.queue ∙ ap (queue_of g) p.leaf ∙ r.1 in
             let leaf : p.made.entry.leaf ≡ l = p.leaf ∙ sym f.2 in
             let counted = cond-true (eqb p.made.queue j && not (is_refused p.made.reply)) (one_if_same l p.made.entry.leaf) 0
-                (and_from (eqb p.made.queue j) (not (is_refused p.made.reply)) (eq-eqb p.made.queue j at_queue)
-                (ap not (placed_all p.place p.member p.made p.at p.has))) in
+            (and_from (eqb p.made.queue j) (not (is_refused p.made.reply)) (eq-eqb p.made.queue j at_queue)
+            (ap not (placed_all p.place p.member p.made p.at p.has))) in
             let one = ap (one_if_same l) leaf ∙ same_counts l in
             let x = in_total (placed_of j l) p.made p.member.own.puts p.has in
             let y = total_at (placed_by j l) ys p.place p.member p.at in
@@ -411,9 +411,10 @@ module _ (a : Question) (ix : IndexParts) (m : ℕ) (best : Best) (searches : Ca
             let which = placed_is j l p.0 p.2 in
             let right = (stands y.0 y.1 y.2).puts p.0 p.1 in
             let real = below_real g fits y.1.own p.0.entry.leaf right.below in
-            let inside = (is_run.exactly (entry_of g p.0.entry.leaf)).1
-                (record { real = real; bound = refl; marked = put_marked y.0 y.1 p.0 y.2 p.1 },
-                sym right.queue ∙ which.0) in
+            let inside = (is_run.exactly (entry_of g p.0.entry.leaf)).1 (
+              record { real = real; bound = refl; marked = put_marked y.0 y.1 p.0 y.2 p.1 },
+              sym right.queue ∙ which.0,
+            ) in
             subst (λ k. 0 < entered k run.entries) (sym which.1)
             (entered_in (entry_of g p.0.entry.leaf) run.entries inside)
 
@@ -475,7 +476,7 @@ module _ (a : Question) (ix : IndexParts) (m : ℕ) (best : Best) (searches : Ca
             let w = all.each r.0 y.0 y.1 in
             let same = same_Some (visit_at w.cell.hand.visits j) r.1 (sym (visit_of r.0 y.0 y.1) ∙ r.2) in
             let k = w.later.known.tied.kept j v (let b = ap (λ rs. length rs) w.way.goes.runs in omega arith)
-                (ap (λ (x : Visit). x.closed) same ∙ r.3) in
+            (ap (λ (x : Visit). x.closed) same ∙ r.3) in
             record { place = r.0; member = y.0; at = y.1; made = k.0; has = k.1; limit = k.3 }
           where
             vs_count : length vs ≡ length cells
@@ -541,7 +542,7 @@ module _ (a : Question) (ix : IndexParts) (m : ℕ) (best : Best) (searches : Ca
             let s = same_claims c in
             let roots = length-map ix.nodes leaf_numbers in
             let x = filled.all_claimed i e.way.record_of c e.way.at_record
-                (subst (λ os. In None os) e.later.claims ended) (omega arith) in
+            (subst (λ os. In None os) e.later.claims ended) (omega arith) in
             omega arith;
         reads = in_range;
         queue_count = queues.count;
@@ -570,7 +571,7 @@ module _ (a : Question) (ix : IndexParts) (m : ℕ) (best : Best) (searches : Ca
                 let y = get_map (λ (x : RecordedWorker). x.worker) ys i v at_v in
                 let e = all.each i y.0 y.1 in
                 let there = sym (map_at (λ (c : Draining). c.worker) cells i e.cell e.at)
-                    ∙ ap (λ l. slice_get l i) (sym ws_are) ∙ at_w in
+                ∙ ap (λ l. slice_get l i) (sym ws_are) ∙ at_w in
                 subst (Shows w) y.2 (subst (λ w. Shows w y.0.worker) (same_Some e.cell.worker w there) e.later.known.shows);
           };
           lines = ls_are ∙ sym (maps_same line_of line_of_run queues.items closed (queues.count ∙ sym (lines.count ∙ count))

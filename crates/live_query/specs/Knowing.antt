@@ -1,5 +1,6 @@
 -- What a worker and its hand know together, and when the hand is of the worker's search.
-use Rattle.std.specs.Prelude.{◌≡◌, ℕ, length}
+use Rattle.std.specs.Prelude.{◌≡◌, ◌≢◌, ℕ, length}
+use Rattle.search_machine.specs.declared.phase.Phase.TheVariants.{Done}
 use Rattle.search_machine.specs.Ground.{Fits}
 use Rattle.search_machine.specs.OwnRecord.{RecordedWorker}
 use Rattle.search_machine.specs.Workers.{Worker}
@@ -19,8 +20,9 @@ pub record FillServes (w : Working) (h : FillKept) : Type 0 where
   pub queues : h.queues ≡ w.queues
   pub marks : length h.marks ≡ length w.index.leaves
 
--- some record is what the hand was told, and the worker stands for it
+-- the worker is not done; some record is what the hand was told, and the worker stands for it
 pub record FillKnows (w : Working) (h : FillKept) : Type 0 where
+  pub running : w.phase ≢ Done
   pub member : RecordedWorker
   pub shows : Shows w member.worker
   pub stands : StandsFor (search_of w 1) w.number member

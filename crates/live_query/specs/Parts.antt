@@ -1,5 +1,5 @@
 -- The searchers before, between and after the two parts, and the records of their calls.
-use Rattle.std.specs.Prelude.{◌≡◌, ◌≢◌, ℕ, ◌<◌, List, None, Some, Bool, false, length, map, replicate, slice_get}
+use Rattle.std.specs.Prelude.{◌≡◌, ◌≢◌, ℕ, ◌<◌, List, None, Some, Bool, false, length, map, replicate, slice_get, slice_index_or}
 use Rattle.list_totals.specs.Totals.{total}
 use Rattle.list_totals.specs.Standing.{In}
 use Rattle.claim_word.specs.Passes.{Claim as Counter, fresh_pass}
@@ -24,6 +24,7 @@ use Rattle.live_query.specs.declared.searcher.Searcher.{Searcher}
 use Rattle.live_query.specs.Resting.{Kept}
 use Rattle.live_query.specs.FillHands.{FillKept, FillTied}
 use Rattle.live_query.specs.DrainHands.{DrainKept, drain_over}
+use Rattle.live_query.specs.Knowing.{FillsOn, DrainsOn}
 
 -- a searcher outside the parts, in the fill part, and in the drain part
 abbrev pub Resting : Type 0
@@ -34,6 +35,20 @@ Filling = Searcher Working FillKept
 
 abbrev pub Draining : Type 0
 Draining = Searcher Working DrainKept
+
+-- each searcher of the fill part at its place, before some turns and after them
+abbrev pub AllFillOn : List Filling → List Filling → Type 0
+AllFillOn old new =
+    (i : ℕ) (d : Filling) → i < length old
+    → FillsOn (slice_index_or old i d).worker (slice_index_or old i d).hand
+    (slice_index_or new i d).worker (slice_index_or new i d).hand
+
+-- each searcher of the drain part at its place, before some turns and after them
+abbrev pub AllDrainOn : List Draining → List Draining → Type 0
+AllDrainOn old new =
+    (i : ℕ) (d : Draining) → i < length old
+    → DrainsOn (slice_index_or old i d).worker (slice_index_or old i d).hand
+    (slice_index_or new i d).worker (slice_index_or new i d).hand
 
 -- the searcher with a fresh pass of these claims, over so many queues
 abbrev pub filling : Counter → ℕ → Resting → Filling

@@ -1,9 +1,10 @@
 //! Workers that drain side by side, each in a thread of its own. Their one rule: a turn leaves less to do.
-ghost use Rattle.std.specs.Prelude.{◌≡◌, ◌≢◌, ℕ, ◌<◌, ◌↔◌, false, All, length, slice_index_or, vec_len};
+ghost use Rattle.std.specs.Prelude.{◌≡◌, ◌≢◌, ◌<◌, ◌↔◌, false, All, length, vec_len};
 ghost use Rattle.search_machine.specs.declared.phase.Phase.TheVariants.{Done};
 ghost use Rattle.search_machine.specs.Workers.{fills};
 ghost use Rattle.live_query.specs.Knowing.{DrainServes, DrainsOn};
 ghost use Rattle.live_query.specs.Efforts.{drain_left};
+ghost use Rattle.live_query.specs.Parts.{AllDrainOn};
 
 use crate::drain_hand::DrainHand;
 use crate::searcher::Searcher;
@@ -62,9 +63,7 @@ fn drain_row<'a, 'b, T: Threads + Sync, R: Rows + Sync, G: Gate + Sync>(
     requires drains { All (λ c. fills c.worker.phase ≡ false) team.old }
     ensures len { length team.new ≡ length team.old }
     ensures done { All (λ c. c.worker.phase ≡ Done) team.new }
-    ensures goes_on { (i : ℕ) (d : _) → i < length team.old
-        → DrainsOn (slice_index_or team.old i d).worker (slice_index_or team.old i d).hand
-        (slice_index_or team.new i d).worker (slice_index_or team.new i d).hand }
+    ensures goes_on { AllDrainOn team.old team.new }
 {
     let workers = team.len();
     thread::for_each_mut(rt, team, workers, &|_, searcher| searcher.drain(gate));
@@ -82,9 +81,7 @@ pub(crate) fn drain_together<'a, 'b, T: Threads + Sync, R: Rows + Sync, G: Gate 
     requires drains { All (λ c. fills c.worker.phase ≡ false) team.old.items }
     ensures len { vec_len team.new ≡ vec_len team.old }
     ensures done { All (λ c. c.worker.phase ≡ Done) team.new.items }
-    ensures goes_on { (i : ℕ) (d : _) → i < length team.old.items
-        → DrainsOn (slice_index_or team.old.items i d).worker (slice_index_or team.old.items i d).hand
-        (slice_index_or team.new.items i d).worker (slice_index_or team.new.items i d).hand }
+    ensures goes_on { AllDrainOn team.old.items team.new.items }
 {
     drain_row(rt, gate, team.as_mut_slice());
 }

@@ -76,7 +76,10 @@ impl<'a> FillHand<'a> {
         ensures marks { result.2.items ≡ self.entry.marks }
     {
         let FillHand {
-            claim, seen, marks, ..
+            claim,
+            seen,
+            marks,
+            ..
         } = self;
         (claim, seen, marks)
     }

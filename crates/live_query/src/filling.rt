@@ -1,9 +1,9 @@
 //! Workers that fill side by side, each in a thread of its own. Their one rule: a turn leaves less to do.
-ghost use Rattle.std.specs.Prelude.{◌≡◌, ◌≢◌, ℕ, ◌<◌, true, false, All, length, slice_index_or, vec_len};
-ghost use Rattle.search_machine.specs.declared.phase.Phase.TheVariants.{Done};
+ghost use Rattle.std.specs.Prelude.{◌≡◌, ◌<◌, true, false, All, length, vec_len};
 ghost use Rattle.search_machine.specs.Workers.{fills};
 ghost use Rattle.live_query.specs.Knowing.{FillServes, FillKnows, FillsOn};
 ghost use Rattle.live_query.specs.Efforts.{fill_left};
+ghost use Rattle.live_query.specs.Parts.{AllFillOn};
 
 use crate::fill_hand::FillHand;
 use crate::searcher::Searcher;
@@ -23,7 +23,6 @@ fn take_turn<R: Rows>(worker: &mut Worker<'_, R>, hand: &mut FillHand<'_>)
     requires fills { fills worker.old.phase ≡ true }
     ensures serves { FillServes worker.new hand.new }
     ensures knows { FillKnows worker.new hand.new }
-    ensures running { worker.new.phase ≢ Done }
     ensures goes_on { FillsOn worker.old hand.old worker.new hand.new }
     ensures less { fill_left worker.new hand.new < fill_left worker.old hand.old }
 {
@@ -36,11 +35,9 @@ impl<'a, 'b, R: Rows> Searcher<Worker<'a, R>, FillHand<'b>> {
     fn fill<G: Gate>(&mut self, gate: &G)
         requires serves { FillServes self.old.worker self.old.hand }
         requires knows { FillKnows self.old.worker self.old.hand }
-        requires running { self.old.worker.phase ≢ Done }
-        ensures serves { FillServes self.new.worker self.new.hand }
+            ensures serves { FillServes self.new.worker self.new.hand }
         ensures knows { FillKnows self.new.worker self.new.hand }
-        ensures running { self.new.worker.phase ≢ Done }
-        ensures filled { fills self.new.worker.phase ≡ false }
+            ensures filled { fills self.new.worker.phase ≡ false }
         ensures goes_on { FillsOn self.old.worker self.old.hand self.new.worker self.new.hand }
     {
         while !self.worker.filled() {
@@ -60,14 +57,10 @@ fn fill_row<'a, 'b, T: Threads + Sync, R: Rows + Sync, G: Gate + Sync>(
     requires some { 0 < length team.old }
     requires serves { All (λ c. FillServes c.worker c.hand) team.old }
     requires knows { All (λ c. FillKnows c.worker c.hand) team.old }
-    requires running { All (λ c. c.worker.phase ≢ Done) team.old }
     ensures len { length team.new ≡ length team.old }
     ensures knows { All (λ c. FillKnows c.worker c.hand) team.new }
-    ensures running { All (λ c. c.worker.phase ≢ Done) team.new }
     ensures filled { All (λ c. fills c.worker.phase ≡ false) team.new }
-    ensures goes_on { (i : ℕ) (d : _) → i < length team.old
-        → FillsOn (slice_index_or team.old i d).worker (slice_index_or team.old i d).hand
-        (slice_index_or team.new i d).worker (slice_index_or team.new i d).hand }
+    ensures goes_on { AllFillOn team.old team.new }
 {
     let workers = team.len();
     thread::for_each_mut(rt, team, workers, &|_, searcher| searcher.fill(gate));
@@ -82,14 +75,10 @@ pub(crate) fn fill_together<'a, 'b, T: Threads + Sync, R: Rows + Sync, G: Gate +
     requires some { 0 < vec_len team.old }
     requires serves { All (λ c. FillServes c.worker c.hand) team.old.items }
     requires knows { All (λ c. FillKnows c.worker c.hand) team.old.items }
-    requires running { All (λ c. c.worker.phase ≢ Done) team.old.items }
     ensures len { vec_len team.new ≡ vec_len team.old }
     ensures knows { All (λ c. FillKnows c.worker c.hand) team.new.items }
-    ensures running { All (λ c. c.worker.phase ≢ Done) team.new.items }
     ensures filled { All (λ c. fills c.worker.phase ≡ false) team.new.items }
-    ensures goes_on { (i : ℕ) (d : _) → i < length team.old.items
-        → FillsOn (slice_index_or team.old.items i d).worker (slice_index_or team.old.items i d).hand
-        (slice_index_or team.new.items i d).worker (slice_index_or team.new.items i d).hand }
+    ensures goes_on { AllFillOn team.old.items team.new.items }
 {
     fill_row(rt, gate, team.as_mut_slice());
 }

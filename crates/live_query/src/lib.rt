@@ -12,8 +12,11 @@ mod filling;
 mod lines;
 mod marked;
 mod opening;
-mod search;
 mod sealed;
+mod search;
 mod searcher;
 
 pub use sealed::nearest_sealed;
+
+#[cfg(test)]
+mod tests;

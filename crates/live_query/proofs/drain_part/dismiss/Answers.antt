@@ -16,7 +16,7 @@ loop-searcher-preserved g c =
     let searcher : Draining = c.in-Some.searcher in
     let rest : List Draining = into_iter_items c.next.new.self in
     let whole : done ++ searcher ∷ rest ≡ c.args.team.items
-        = ap (λ (xs : List Draining). done ++ xs) (sym c.in-Some.ensures.steps.0) ∙ was.whole in
+    = ap (λ (xs : List Draining). done ++ xs) (sym c.in-Some.ensures.steps.0) ∙ was.whole in
     let long = length-append done (searcher ∷ []) in
     let pass = c.push_reserved-in-loop-searcher in
     record {

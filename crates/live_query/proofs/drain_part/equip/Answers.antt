@@ -22,22 +22,22 @@ loop-searcher-preserved g c =
     let searcher : Resting = c.in-Some.searcher in
     let rest : List Resting = into_iter_items c.next.new.self in
     let whole : done ++ searcher ∷ rest ≡ c.args.team.items
-        = ap (λ (xs : List Resting). done ++ xs) (sym c.in-Some.ensures.steps.0) ∙ was.whole in
+    = ap (λ (xs : List Resting). done ++ xs) (sym c.in-Some.ensures.steps.0) ∙ was.whole in
     let long = length-append done (searcher ∷ []) in
     let runs = c.args.runs.now.runs in
     let P : List Visit → Type 0 = λ p. p ≡ fresh_visits runs in
     let split = all_ends P c.pop.new.self.items c.in-Some-pop.pass
-        (subst (All P) c.in-Some-pop.ensures.items was.fresh) in
+    (subst (All P) c.in-Some-pop.ensures.items was.fresh) in
     let own = all_ends (IsPass runs) c.pop.new.self.items c.in-Some-pop.pass
-        (subst (All (IsPass runs)) c.in-Some-pop.ensures.items was.own) in
+    (subst (All (IsPass runs)) c.in-Some-pop.ensures.items was.own) in
     let word : searcher.hand.best ≡ c.args.word.now
-        = all_middle (λ (s : Resting). s.hand.best ≡ c.args.word.now) done rest c.args.team.items searcher whole c.requires.word in
+    = all_middle (λ (s : Resting). s.hand.best ≡ c.args.word.now) done rest c.args.team.items searcher whole c.requires.word in
     let with_word : Best → Kept → List Visit → DrainKept
-        = λ b k visits. drain_over b k.floor c.args.roots runs visits in
+    = λ b k visits. drain_over b k.floor c.args.roots runs visits in
     let hand : c.new.result ≡ with_word searcher.hand.best searcher.hand (fresh_visits runs)
-        = c.new.ensures ∙ ap (λ (k : Kept). with_word c.args.word.now k c.in-Some-pop.pass) c.hand.view_is
-        ∙ ap (with_word c.args.word.now searcher.hand) split.1
-        ∙ ap (λ (b : Best). with_word b searcher.hand (fresh_visits runs)) (sym word) in
+    = c.new.ensures ∙ ap (λ (k : Kept). with_word c.args.word.now k c.in-Some-pop.pass) c.hand.view_is
+    ∙ ap (with_word c.args.word.now searcher.hand) split.1
+    ∙ ap (λ (b : Best). with_word b searcher.hand (fresh_visits runs)) (sym word) in
     let with_hand : DrainKept → Draining = λ h. record {
       worker = searcher.worker;
       hand = h;

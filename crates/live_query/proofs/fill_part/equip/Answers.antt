@@ -16,13 +16,13 @@ loop-searcher-preserved g c =
     let searcher : Resting = c.in-Some.searcher in
     let rest : List Resting = into_iter_items c.next.new.self in
     let whole : done ++ searcher ∷ rest ≡ c.args.team.items
-        = ap (λ (xs : List Resting). done ++ xs) (sym c.in-Some.ensures.steps.0) ∙ was.whole in
+    = ap (λ (xs : List Resting). done ++ xs) (sym c.in-Some.ensures.steps.0) ∙ was.whole in
     let long = length-append done (searcher ∷ []) in
     let P : Pass → Type 0 = λ p. p ≡ fresh_pass c.args.claims.now in
     let split = all_ends P c.pop.new.self.items c.in-Some-pop.claim
-        (subst (All P) c.in-Some-pop.ensures.items was.fresh) in
+    (subst (All P) c.in-Some-pop.ensures.items was.fresh) in
     let word : searcher.hand.best ≡ c.args.word.now
-        = all_middle (λ (s : Resting). s.hand.best ≡ c.args.word.now) done rest c.args.team.items searcher whole c.requires.word in
+    = all_middle (λ (s : Resting). s.hand.best ≡ c.args.word.now) done rest c.args.team.items searcher whole c.requires.word in
     let with_word : Best → Kept → FillKept = λ b k. record {
       claim = fresh_pass c.args.claims.now;
       best = b;
@@ -31,8 +31,8 @@ loop-searcher-preserved g c =
       marks = k.marks;
     } in
     let hand : c.new.result ≡ with_word searcher.hand.best searcher.hand
-        = c.new.ensures ∙ ap (with_word c.args.word.now) c.hand.view_is
-        ∙ ap (λ (b : Best). with_word b searcher.hand) (sym word) in
+    = c.new.ensures ∙ ap (with_word c.args.word.now) c.hand.view_is
+    ∙ ap (λ (b : Best). with_word b searcher.hand) (sym word) in
     let with_hand : FillKept → Filling = λ h. record {
       worker = searcher.worker;
       hand = h;

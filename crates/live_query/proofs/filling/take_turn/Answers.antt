@@ -1,5 +1,5 @@
 -- A turn keeps what the worker and its hand know, and leaves less to do.
-use Rattle.live_query.proofs.FillKnowing.{fill_serves, fill_knows, fills_on, fills_running}
+use Rattle.live_query.proofs.FillKnowing.{fill_serves, fill_knows, fills_on}
 use Rattle.live_query.proofs.FillEffort.{fill_less}
 use Rattle.live_query.proofs.filling.take_turn.Goals as goal
 
@@ -10,10 +10,6 @@ returns-clause-serves g c =
 pub returns-clause-knows : goal.returns-clause-knows
 returns-clause-knows g c =
     fill_knows _ _ _ _ c.requires.serves c.requires.knows c.turn.ensures.place c.requires.fills c.turn.ensures.turns
-
-pub returns-clause-running : goal.returns-clause-running
-returns-clause-running g c =
-    fills_running _ _ _ _ c.requires.serves c.requires.knows c.turn.ensures.place c.requires.fills c.turn.ensures.turns
 
 pub returns-clause-goes_on : goal.returns-clause-goes_on
 returns-clause-goes_on g c =

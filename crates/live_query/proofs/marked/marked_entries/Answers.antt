@@ -23,7 +23,7 @@ loop-leaf-preserved g c =
     let was = c.loop-leaf.invariant in
     let view : View = view_in c.args.search.now.task.now in
     elim c.if-was_put.branch [
-      then-was_put w ↦
+      | then-was_put w ↦
           let items = ap (λ (v : Vec Entry Global). v.items) w.entries-is ∙ w.push_reserved.ensures.items in
           record {
             len = let a = ap (λ (v : Vec Entry Global). vec_len v) w.entries-is in

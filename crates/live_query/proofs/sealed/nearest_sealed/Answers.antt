@@ -25,10 +25,10 @@ pub returns-clause-legal : goal.returns-clause-legal
 returns-clause-legal g c =
     -- there are as many searchers as workers
     let many : length c.in_ok-filled.filled.items ≡ c.args.workers
-        = c.in_ok-filled.ensures.len
-        ∙ sym (length-map c.in_ok-team.team.items (λ (s : Resting). s.worker))
-        ∙ ap (λ (ws : List Working). length ws) c.in_ok-team.ensures.workers
-        ∙ c.in_ok-hired.ensures.len in
+    = c.in_ok-filled.ensures.len
+    ∙ sym (length-map c.in_ok-team.team.items (λ (s : Resting). s.worker))
+    ∙ ap (λ (ws : List Working). length ws) c.in_ok-team.ensures.workers
+    ∙ c.in_ok-hired.ensures.len in
     let ends = c.in_ok-ended.ensures.ends in
     let lent = subst (λ (ws : List Working). EndsIn ws c.in_ok-ended.lines ends.state) (sym c.deref.ensures.value) ends.ends in
     IfOk-weaker c.conclude.result _ _ (λ o is.

@@ -1,6 +1,4 @@
 -- What holds before each turn of the fill part.
-use Rattle.std.proofs.Common.{◌≡◌, ◌≢◌}
-use Rattle.search_machine.specs.declared.phase.Phase.TheVariants.{Done}
 use Rattle.live_query.specs.Knowing.{FillServes, FillKnows, FillsOn}
 use Rattle.live_query.specs.Efforts.{fill_left}
 use Rattle.live_query.proofs.filling.Searcher+Worker+R+FillHand.fill.Given as goal
@@ -9,7 +7,6 @@ abbrev pub invariant-loop-self : goal.invariant-loop-self
 invariant-loop-self g l = record {
   serves : FillServes l.self.worker l.self.hand;
   knows : FillKnows l.self.worker l.self.hand;
-  running : l.self.worker.phase ≢ Done;
   goes_on : FillsOn l.fn.self.worker l.fn.self.hand l.self.worker l.self.hand;
 }
 
