@@ -11,4 +11,5 @@ pub mod Places
 pub mod Marks
 pub mod FillGather
 pub mod RunQueues
+pub mod DrainGather
 pub mod SealedClose

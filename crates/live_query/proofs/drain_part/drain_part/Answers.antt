@@ -4,7 +4,8 @@ use Rattle.sealed_runs.specs.Entries.{run_at}
 use Rattle.query_core.specs.Questions.{view_in}
 use Rattle.live_query.specs.Marked.{IsRunOf}
 use Rattle.live_query.specs.Parts.{Resting, marks_of}
-use Rattle.live_query.proofs.SealedClose.{all_busy, all_drain, all_draining, all_over, all_runs, all_word, ends_right}
+use Rattle.live_query.proofs.DrainGather.{all_busy, all_drain, all_draining, all_over, all_runs, all_word}
+use Rattle.live_query.proofs.SealedClose.{ends_right}
 use Rattle.live_query.proofs.drain_part.drain_part.Goals as goal
 
 pub equip-requires-clause-word : goal.equip-requires-clause-word
