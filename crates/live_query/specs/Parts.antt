@@ -4,7 +4,8 @@ use Rattle.list_totals.specs.Totals.{total}
 use Rattle.list_totals.specs.Standing.{In}
 use Rattle.claim_word.specs.Passes.{Claim as Counter, fresh_pass}
 use Rattle.best_word.specs.Passes.{Best}
-use Rattle.sealed_runs.specs.Entries.{Run}
+use Rattle.series_core.specs.declared.queue_words.Entry.{Entry}
+use Rattle.sealed_runs.specs.Entries.{Run, run_at}
 use Rattle.sealed_runs.specs.Sealing.{fresh_visits}
 use Rattle.subtree_build.specs.Index.{IndexParts}
 use Rattle.search_machine.specs.declared.phase.Phase.TheVariants.{Done}
@@ -17,10 +18,11 @@ use Rattle.search_machine.specs.Legal.{Legal, IsStraight}
 use Rattle.search_machine.specs.OwnRecord.{RecordedWorker}
 use Rattle.search_machine.specs.Stands.{StandsFor}
 use Rattle.search_machine.specs.Closes.{ClaimedOnce, claimed_by}
-use Rattle.query_core.specs.Questions.{Question, last_of, search_over}
+use Rattle.query_core.specs.Questions.{Question, last_of, search_over, view_in}
 use Rattle.query_core.specs.Teams.{EndsIn}
 use Rattle.query_core.specs.Working.{IsOf, Shows, Working, opens_as}
 use Rattle.live_query.specs.declared.searcher.Searcher.{Searcher}
+use Rattle.live_query.specs.Marked.{AreMarked, IsRunOf}
 use Rattle.live_query.specs.Resting.{Kept}
 use Rattle.live_query.specs.FillHands.{FillKept, FillTied}
 use Rattle.live_query.specs.DrainHands.{DrainKept, drain_over}
@@ -86,6 +88,16 @@ draining runs roots c = record {
 -- the marks of all searchers
 abbrev pub marks_of : List Resting → List (List Bool)
 marks_of team = map (λ (c : Resting). c.hand.marks) team
+
+-- the entries of all leaves that some searcher put
+abbrev pub AreEntriesOf : Question → IndexParts → List Resting → List Entry → Type 0
+AreEntriesOf a ix team es = AreMarked (view_in a) ix (marks_of team) (length ix.leaves) es
+
+-- run m of so many has those of the leaves that belong to queue m
+abbrev pub AreRunsOf : Question → IndexParts → List Resting → ℕ → List Run → Type 0
+AreRunsOf a ix team queues runs =
+    (m : ℕ) → m < queues
+    → IsRunOf (view_in a) ix (marks_of team) queues m (run_at runs m).entries
 
 -- searcher i of a search over m queues, which this bound word serves, as it opens: it has put nothing
 pub record IsOpen (a : Question) (ix : IndexParts) (m : ℕ) (best : Best) (i : ℕ) (c : Resting) : Type 0 where

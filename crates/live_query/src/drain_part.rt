@@ -38,8 +38,7 @@ pub(crate) fn drain_part<'a, T: Threads + Sync, R: Rows + Sync, G: Gate + Sync>(
         word.now.start ≡ start_limit g }
     requires filled { AllFilled search.now.task.now search.now.index.now search.now.queues word.now team.items }
     ensures over { IfOk result (λ r. AreOver search.now.task.now search.now.index.now r.0.items) }
-    ensures workers { IfOk result (λ r. length r.0.items ≡ length team.entry.items) }
-    ensures lines { IfOk result (λ r. length r.1 ≡ search.now.queues) }
+    ensures sizes { IfOk result (λ r. (length r.0.items ≡ length team.entry.items) × (length r.1 ≡ search.now.queues)) }
     ensures ends { IfOk result (λ r. EndsRight
         (search_over search.now.task.now search.now.index.now (length team.entry.items) search.now.queues) r.0.items r.1) }
 {

@@ -35,9 +35,9 @@ impl<'a, 'b, R: Rows> Searcher<Worker<'a, R>, FillHand<'b>> {
     fn fill<G: Gate>(&mut self, gate: &G)
         requires serves { FillServes self.old.worker self.old.hand }
         requires knows { FillKnows self.old.worker self.old.hand }
-            ensures serves { FillServes self.new.worker self.new.hand }
+        ensures serves { FillServes self.new.worker self.new.hand }
         ensures knows { FillKnows self.new.worker self.new.hand }
-            ensures filled { fills self.new.worker.phase ≡ false }
+        ensures filled { fills self.new.worker.phase ≡ false }
         ensures goes_on { FillsOn self.old.worker self.old.hand self.new.worker self.new.hand }
     {
         while !self.worker.filled() {

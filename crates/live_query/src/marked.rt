@@ -1,12 +1,12 @@
 //! Sealing between the parts: the leaves that the searchers put become runs, one for each queue.
 //! Each leaf is sealed once, whoever put it.
-ghost use Rattle.std.specs.Prelude.{◌≡◌, ℕ, ◌<◌, ◌≤◌, true, false, All, IfOk, length, replicate};
-ghost use Rattle.sealed_runs.specs.Entries.{LeavesDiffer, run_at};
+ghost use Rattle.std.specs.Prelude.{◌≡◌, ◌≤◌, true, false, All, IfOk, length, replicate};
+ghost use Rattle.sealed_runs.specs.Entries.{LeavesDiffer};
 ghost use Rattle.sealed_runs.specs.Sealing.{fresh_visits};
 ghost use Rattle.sealed_runs.specs.Visits.{IsPass};
-ghost use Rattle.query_core.specs.Questions.{CanBeSearched, view_in};
-ghost use Rattle.live_query.specs.Marked.{AreMarked, IsMarked, IsRunOf};
-ghost use Rattle.live_query.specs.Parts.{marks_of};
+ghost use Rattle.query_core.specs.Questions.{CanBeSearched};
+ghost use Rattle.live_query.specs.Marked.{IsMarked};
+ghost use Rattle.live_query.specs.Parts.{AreEntriesOf, AreRunsOf, marks_of};
 
 use crate::search::Search;
 use crate::searcher::{Rested, Searcher};
@@ -27,9 +27,8 @@ pub(crate) fn seal_marked<'a, R: Rows>(
     requires team { (1 ≤ length team.now) × (length team.now ≤ 64) }
     ensures count { IfOk result (λ r. length r.0.runs ≡ search.now.queues) }
     ensures callers { IfOk result (λ r. r.0.callers ≡ length team.now) }
-    ensures runs { IfOk result (λ r. (m : ℕ) → m < search.now.queues
-        → IsRunOf (view_in search.now.task.now) search.now.index.now (marks_of team.now) search.now.queues m
-        (run_at r.0.runs m).entries) }
+    ensures runs { let a = search.now.task.now in
+        IfOk result (λ r. AreRunsOf a search.now.index.now team.now search.now.queues r.0.runs) }
     ensures passes { IfOk result (λ r. r.1.items ≡ replicate (length team.now) (fresh_visits r.0.runs)) }
     ensures own { IfOk result (λ r. All (IsPass r.0.runs) r.1.items) }
 {
@@ -44,8 +43,7 @@ fn marked_entries<'a, R: Rows>(
     team: &[Searcher<Worker<'a, R>, Rested>],
 ) -> Result<Vec<Entry>, NoMemory>
     requires searches { CanBeSearched search.now.task.now search.now.index.now }
-    ensures { let leaves = length search.now.index.now.leaves in
-        IfOk result (λ es. AreMarked (view_in search.now.task.now) search.now.index.now (marks_of team.now) leaves es.items) }
+    ensures { IfOk result (λ es. AreEntriesOf search.now.task.now search.now.index.now team.now es.items) }
 {
     let leaves = search.index.leaf_count();
     let mut entries = Vec::with_capacity(alloc, leaves as usize)?;

@@ -20,8 +20,8 @@ pub(crate) fn open_team<'a, R: Rows>(
     requires count { vec_len passes ≡ vec_len workers }
     requires few { vec_len workers ≤ 64 }
     ensures workers { IfOk result (λ team. map (λ c. c.worker) team.items ≡ workers.entry.items) }
-    ensures hands { (best : Best) (floor : ℕ) → All (λ p. p ≡ fresh_pass best floor) passes.items
-        → IfOk result (λ team. All (λ c. c.hand ≡ fresh_kept best floor leaves) team.items) }
+    ensures hands { (b : Best) (low : ℕ) → All (λ p. p ≡ fresh_pass b low) passes.items
+        → IfOk result (λ team. All (λ c. c.hand ≡ fresh_kept b low leaves) team.items) }
 {
     let mut team = Vec::with_capacity(alloc, workers.len())?;
     for worker in workers {
