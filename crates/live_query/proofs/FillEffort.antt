@@ -1,0 +1,134 @@
+-- Each turn in the fill part leaves less to do.
+use Rattle.std.proofs.Common.{◌≡◌, ℕ, zero, suc, ◌+◌, ◌*◌, ◌<◌, ◌≤◌, List, [], ◌∷◌, None, Some, Option, true, false, length, drop, ltb, eqb, sym, refl, ap, ◌∙◌, subst, arith}
+use Rattle.std.specs.Prelude.{slice_get, not, cond, ◌&&◌, nat_le}
+use Rattle.std.proofs.lemmas.Bool.{cond_both, true≢false}
+use Rattle.list_totals.specs.Totals.{total}
+use Rattle.series_core.specs.declared.pair.Pair.{Pair}
+use Rattle.series_core.specs.declared.queue_words.PutReply.TheVariants.{Placed, Shut, Filled}
+use Rattle.search_machine.specs.declared.calls.Reply.{Reply}
+use Rattle.search_machine.specs.declared.calls.Reply.TheVariants.{Claimed, Seen, Offered, PutTold, PopTold}
+use Rattle.search_machine.specs.declared.phase.Phase.{Phase}
+use Rattle.search_machine.specs.declared.phase.Phase.TheVariants.{Claim, Look, Give, Late, Aim, Pop, Offer, Done}
+use Rattle.search_machine.specs.declared.phase.Onward.TheVariants.{Look as ToLook, Aim as ToAim}
+use Rattle.search_machine.specs.Ground.{Ground, scan}
+use Rattle.search_machine.specs.Workers.{Worker, after_reply, fills, leaves_below, after_claim, after_late, after_look, after_scan, improves, in_phase, is_new, scanned_by, skip, stopped, without}
+use Rattle.search_machine.specs.Calls.{call_in}
+use Rattle.query_core.specs.Turning.{Turns, search_of}
+use Rattle.query_core.specs.Working.{IsOf, Working}
+use Rattle.search_machine.proofs.Opening.{remove}
+use Rattle.search_machine.proofs.Places.{get_some, total_drop}
+use Rattle.live_query.specs.FillHands.{FillKept, FillDid, Ends}
+use Rattle.live_query.specs.Efforts.{phase_left, own_left, root_left, roots_left, fill_left}
+use Rattle.live_query.specs.Knowing.{FillServes, FillKnows}
+use Rattle.live_query.proofs.FillKnowing.{same_search}
+
+length_remove : (m : ℕ) (ls : List ℕ) → length (remove m ls) ≤ length ls
+length_remove m [] = omega arith
+length_remove m (l ∷ ls) =
+    let rest = length_remove m ls in
+    cond_both (not (eqb l m)) (l ∷ remove m ls) (remove m ls)
+    (λ r. length r ≤ length (l ∷ ls)) (λ _. omega arith) (λ _. omega arith)
+
+length_without : (o : Option ℕ) (ls : List ℕ) → length (without o ls) ≤ length ls
+length_without None ls = omega arith
+length_without (Some m) ls = length_remove m ls
+
+length_skip : (g : Ground) (v : ℕ) (ls : List ℕ) → length (skip g v ls) ≤ length ls
+length_skip g v [] = omega arith
+length_skip g v (l ∷ ls) =
+    cond_both (ltb v (g.bound l)) (skip g v ls) (l ∷ ls) (λ r. length r ≤ length (l ∷ ls))
+    (λ _. let a = length_skip g v ls in omega arith) (λ _. omega arith)
+
+-- less is left of a list the more of it is dropped
+drop_less : (f : List ℕ → ℕ) (xs : List (List ℕ)) (m n : ℕ) → m ≤ n → total f (drop n xs) ≤ total f (drop m xs)
+drop_less f [] zero zero le = omega arith
+drop_less f [] zero (suc n) le = omega arith
+drop_less f [] (suc m) zero le = omega arith
+drop_less f [] (suc m) (suc n) le = omega arith
+drop_less f (x ∷ xs) zero zero le = omega arith
+drop_less f (x ∷ xs) zero (suc n) le = let a = drop_less f xs 0 n (omega arith) in let b = whole f xs in omega arith
+  where
+    whole : (f : List ℕ → ℕ) (xs : List (List ℕ)) → total f (drop 0 xs) ≡ total f xs
+    whole f [] = refl
+    whole f (x ∷ xs) = refl
+drop_less f (x ∷ xs) (suc m) zero le = absurd (omega arith)
+drop_less f (x ∷ xs) (suc m) (suc n) le = drop_less f xs m n (omega arith)
+
+abbrev of : Worker → ℕ
+of w = own_left w.phase w.rest
+
+stopped_left : (w : Worker) (ls : List ℕ) → of (stopped w ls) ≤ 1 + 5 * length ls
+stopped_left w [] = omega arith
+stopped_left w (l ∷ ls) = omega arith
+
+claim_left : (g : Ground) (w : Worker) (n met : ℕ) (o : Option (List ℕ)) → slice_get g.roots n ≡ o → n < length g.roots
+    → met ≤ n → of (after_claim g w o) + total root_left (drop (suc n) g.roots) < 1 + total root_left (drop met g.roots)
+claim_left g w n met None e low le =
+    let x = get_some g.roots n low in absurd (Rattle.std.proofs.lemmas.Option.none-some x.0 (sym e ∙ x.1))
+claim_left g w n met (Some ls) e low le =
+    let a = total_drop root_left g.roots n ls e in
+    let b = drop_less root_left g.roots met n le in
+    let c = length_without g.start ls in
+    omega arith
+
+late_left : (g : Ground) (w : Worker) (l v : ℕ) → of (after_late g w l v) < 4 + 5 * length w.rest
+late_left g w l v = cond_both (is_new l w && nat_le (g.bound l) v) (scanned_by g w l v ToLook) (in_phase Look w)
+    (λ (x : Worker). of x < 4 + 5 * length w.rest)
+    (λ _. cond_both (improves g (scan g v (g.members l) w.list) v) (Offer ToLook) Look
+    (λ (p : Phase). phase_left p + 5 * length w.rest < 4 + 5 * length w.rest) (λ _. omega arith) (λ _. omega arith))
+    (λ _. omega arith)
+
+-- a reply in the fill part leaves less
+reply_left : (g : Ground) (i : ℕ) (w : Worker) (h k : FillKept) (phase : Phase) (reply : Reply)
+    → fills phase ≡ true → w.phase ≡ phase → h.claim.claims.count ≡ length g.roots
+    → FillDid h (call_in g i w phase) reply k
+    → of (after_reply g w phase reply) + roots_left g k < of w + roots_left g h
+reply_left g i w h k Claim (Claimed (Some n)) f e count d =
+    let p = ap phase_left e in
+    let m : k.claim.met ≡ suc n = ap (λ (h : FillKept). h.claim.met) d.2 ∙ (omega arith) in
+    let c = claim_left g w n h.claim.met (slice_get g.roots n) refl (omega (arith, d.0)) d.1 in
+    let s = ap (λ (n : ℕ). total root_left (drop n g.roots)) m in
+    omega arith
+reply_left g i w h k Claim (Claimed None) f e count d =
+    let p = ap phase_left e in
+    let m : h.claim.met ≤ k.claim.met = subst (λ (k : FillKept). h.claim.met ≤ k.claim.met) (sym d.after) d.met in
+    let s = drop_less root_left g.roots h.claim.met k.claim.met m in
+    omega arith
+reply_left g i w h k Look (Seen v) f e count d =
+    let p = ap phase_left e in
+    let a = stopped_left w (skip g v w.rest) in
+    let b = length_skip g v w.rest in
+    let s = ap (roots_left g) d.1 in
+    omega arith
+reply_left g i w h k (Give l) (PutTold Placed) f e count d =
+    let p = ap phase_left e in let s = ap (roots_left g) d.2 in omega arith
+reply_left g i w h k (Give l) (PutTold (Filled c)) f e count d =
+    let p = ap phase_left e in let s = ap (roots_left g) d.2 in omega arith
+reply_left g i w h k (Late l) (Seen v) f e count d =
+    let p = ap phase_left e in let a = late_left g w l v in let s = ap (roots_left g) d.1 in omega arith
+reply_left g i w h k (Offer ToLook) (Offered v) f e count d =
+    let p = ap phase_left e in let s = ap (roots_left g) d.1 in omega arith
+reply_left g i w h k (Offer (ToAim j)) reply f e count d = absurd (true≢false (sym f))
+reply_left g i w h k (Aim j) reply f e count d = absurd (true≢false (sym f))
+reply_left g i w h k (Pop j v) reply f e count d = absurd (true≢false (sym f))
+reply_left g i w h k Done reply f e count d = absurd (true≢false (sym f))
+reply_left g i w h k _ _ f e count d = absurd d
+
+module _ (w v : Working) (h k : FillKept) (serves : FillServes w h) (knows : FillKnows w h)
+    (is : IsOf w.question w.index w.queues w.number v) (fill : fills w.phase ≡ true) (t : Turns FillDid h k w v) where
+  -- a turn in the fill part leaves less
+  pub fill_less : fill_left v k < fill_left w h
+  fill_less =
+      let g : Ground = search_of w 1 in
+      let x = knows.member in
+      let shows = knows.shows in
+      let next = t.1.next 1 x shows in
+      let less = reply_left g w.number x.worker h k x.worker.phase t.0 (ap fills shows.phase ∙ fill) refl
+      (serves.roots ∙ sym serves.one_each ∙ sym (Rattle.std.proofs.lemmas.List.length-map w.index.nodes Rattle.subtree_build.specs.Outline.leaf_numbers))
+      (t.1.called 1 x shows) in
+      let a = ap phase_left next.phase in
+      let b = ap (λ (ls : List ℕ). length ls) next.rest in
+      let c = ap phase_left shows.phase in
+      let d = ap (λ (ls : List ℕ). length ls) shows.rest in
+      let e = ap (λ (g : Ground). roots_left g k) (same_search w v is) in
+      omega arith

@@ -1,0 +1,104 @@
+-- A turn in the fill part keeps what a worker and its hand know.
+use Rattle.std.proofs.Common.{◌≡◌, ◌≢◌, ℕ, None, Some, true, length, sym, refl, ap, ◌∙◌, subst, arith}
+use Rattle.series_core.specs.declared.queue_words.PutReply.TheVariants.{Placed, Filled}
+use Rattle.series_core.specs.declared.queue_words.PopReply.TheVariants.{Closed}
+use Rattle.search_machine.specs.declared.calls.Call.{Call}
+use Rattle.search_machine.specs.declared.calls.Call.TheVariants.{Claim, Read, Offer, Put, Pop}
+use Rattle.search_machine.specs.declared.calls.Reply.{Reply}
+use Rattle.search_machine.specs.declared.calls.Reply.TheVariants.{Claimed, Seen, Offered, PutTold, PopTold}
+use Rattle.search_machine.specs.Ground.{Fits, Ground}
+use Rattle.search_machine.specs.declared.phase.Phase.TheVariants.{Done}
+use Rattle.search_machine.specs.OwnRecord.{RecordedWorker}
+use Rattle.search_machine.specs.Replies.{after}
+use Rattle.search_machine.specs.Stands.{StandsFor}
+use Rattle.search_machine.specs.Workers.{fills}
+use Rattle.query_core.specs.Questions.{last_of, search_over}
+use Rattle.query_core.specs.Turning.{Turns, search_of}
+use Rattle.query_core.specs.Working.{IsOf, Shows, Working}
+use Rattle.search_machine.proofs.EveryReply.{reply_stands}
+use Rattle.live_query.specs.FillHands.{FillKept, FillDid}
+use Rattle.live_query.specs.Knowing.{FillServes, FillKnows, FillsOn}
+use Rattle.live_query.proofs.FillRunning.{fills_runs, is_end, not_end}
+use Rattle.live_query.proofs.FillTies.{IsReal, ties, gives_real, set_length}
+
+-- a call leaves the objects of the hand as they are
+pub record SameFill (h k : FillKept) : Type 0 where
+  pub claims : k.claim.claims ≡ h.claim.claims
+  pub best : k.best ≡ h.best
+  pub floor : k.floor ≡ h.floor
+  pub queues : k.queues ≡ h.queues
+  pub marks : length k.marks ≡ length h.marks
+
+same_of : (h k : FillKept) → k ≡ h → SameFill h k
+same_of h k e = subst (SameFill h) (sym e) (record { claims = refl; best = refl; floor = refl; queues = refl; marks = refl })
+
+pub did_same : (h k : FillKept) (call : Call) (reply : Reply) → FillDid h call reply k → SameFill h k
+did_same h k Claim (Claimed (Some n)) d =
+    subst (SameFill h) (sym d.2) (record { claims = refl; best = refl; floor = refl; queues = refl; marks = refl })
+did_same h k Claim (Claimed None) d =
+    subst (SameFill h) (sym d.after) (record { claims = d.claims; best = refl; floor = refl; queues = refl; marks = refl })
+did_same h k Read (Seen v) d = same_of h k d.1
+did_same h k (Offer x) (Offered v) d = same_of h k d.1
+did_same h k (Put m e) (PutTold Placed) d =
+    subst (SameFill h) (sym d.2) (record { claims = refl; best = refl; floor = refl; queues = refl; marks = set_length h.marks e.leaf true })
+did_same h k (Put m e) (PutTold (Filled c)) d = same_of h k d.2
+did_same h k (Pop m v) (PopTold (Closed x)) d = same_of h k d.1
+did_same h k _ _ d = absurd d
+
+-- the search is the same
+pub same_search : (w v : Working) → IsOf w.question w.index w.queues w.number v → search_of v 1 ≡ search_of w 1
+same_search w v is =
+    ap (λ a. search_over a v.index 1 v.queues) is.question
+    ∙ ap (λ ix. search_over w.question ix 1 v.queues) is.index
+    ∙ ap (λ q. search_over w.question w.index 1 q) is.queues
+
+module _ (w v : Working) (h k : FillKept) (serves : FillServes w h) (knows : FillKnows w h)
+    (is : IsOf w.question w.index w.queues w.number v) (fill : fills w.phase ≡ true) (t : Turns FillDid h k w v) where
+  abbrev g : Ground
+  g = search_of w 1
+
+  abbrev x : RecordedWorker
+  x = knows.member
+
+  same : SameFill h k
+  same = did_same h k _ t.0 (t.1.called 1 x knows.shows)
+
+  pub fill_serves : FillServes v k
+  fill_serves = record {
+    fits = subst (λ (g : Ground). Fits g) (sym (same_search w v is)) serves.fits;
+    roots = ap (λ c. c.count) same.claims ∙ serves.roots ∙ sym (ap (λ ix. length ix.roots) is.index);
+    one_each = subst (λ ix. length ix.nodes ≡ length ix.roots) (sym is.index) serves.one_each;
+    floor = same.floor ∙ serves.floor ∙ sym (ap last_of is.question);
+    queues = same.queues ∙ serves.queues ∙ sym is.queues;
+    marks = same.marks ∙ serves.marks ∙ sym (ap (λ ix. length ix.leaves) is.index);
+  }
+
+  abbrev after_it : RecordedWorker
+  after_it = after g w.number x t.0
+
+  stands_on : StandsFor g w.number after_it
+  stands_on = reply_stands g serves.fits w.number x t.0 (t.1.fits 1) knows.stands
+
+  -- the worker is not done
+  fills_running : v.phase ≢ Done
+  fills_running =
+      let runs = fills_runs g x.worker x.worker.phase t.0 refl (ap fills knows.shows.phase ∙ fill) in
+      not_end v.phase (ap is_end (sym (t.1.next 1 x knows.shows).phase) ∙ runs)
+
+  pub fill_knows : FillKnows v k
+  fill_knows = record {
+    running = fills_running;
+    member = after_it;
+    shows = t.1.next 1 x knows.shows;
+    stands = subst (λ (i : ℕ). StandsFor (search_of v 1) i after_it) (sym is.number)
+        (subst (λ (g : Ground). StandsFor g w.number after_it) (sym (same_search w v is)) stands_on);
+    tied = ties g w.number x.worker x.own h k x.worker.phase t.0
+        (ap fills knows.shows.phase ∙ fill)
+        (subst (λ (n : ℕ). IsReal n x.worker.phase) (sym serves.marks)
+        (gives_real g serves.fits w.number x.worker x.own knows.stands x.worker.phase refl))
+        serves.fits.some_queue serves.queues knows.tied (t.1.called 1 x knows.shows);
+  }
+
+  -- the worker keeps its place, and the hand its objects
+  pub fills_on : FillsOn w h v k
+  fills_on = record { place = is; claims = same.claims; best = same.best; floor = same.floor }

@@ -1,0 +1,160 @@
+-- What a call and its reply did to the hand in the fill part, the longer record says too.
+use Rattle.std.proofs.Common.{◌≡◌, ℕ, zero, suc, ◌+◌, ◌%◌, ◌<◌, ◌≤◌, List, [], ◌∷◌, ◌++◌, ◌⊎◌, None, Some, true, false, length, set, sym, refl, ap, ◌∙◌, subst, inl, inr, ⊎_elim, arith}
+use Rattle.std.specs.Prelude.{slice_get, slice_set}
+use Rattle.std.proofs.Math.Nat.{mod-lt}
+use Rattle.std.proofs.lemmas.Option.{none-some}
+use Rattle.std.proofs.lemmas.Bool.{cases_eq, true≢false}
+use Rattle.list_totals.specs.Totals.{one_if_same, total, times}
+use Rattle.list_totals.proofs.Totals.{times_push}
+use Rattle.claim_word.specs.Passes.{drew}
+use Rattle.series_core.specs.declared.queue_words.PutReply.TheVariants.{Placed, Shut, Filled}
+use Rattle.search_machine.specs.declared.calls.Call.{Call}
+use Rattle.search_machine.specs.declared.calls.Reply.{Reply}
+use Rattle.search_machine.specs.declared.calls.Reply.TheVariants.{Claimed, Seen, Offered, PutTold, PopTold}
+use Rattle.search_machine.specs.declared.phase.Phase.{Phase}
+use Rattle.search_machine.specs.declared.phase.Phase.TheVariants.{Claim, Look, Give, Late, Aim, Pop, Offer, Done}
+use Rattle.search_machine.specs.declared.phase.Onward.TheVariants.{Look as ToLook, Aim as ToAim}
+use Rattle.list_totals.specs.Standing.{In}
+use Rattle.search_machine.specs.Ground.{Fits, Ground, entry_of, queue_of, worst}
+use Rattle.search_machine.specs.Workers.{Worker, fills}
+use Rattle.search_machine.specs.Sound.{in_hand}
+use Rattle.search_machine.specs.OwnRecord.{OwnRecord, OfferMade, PutMade, WasPut, claims_of, is_refused, with_claim, with_read, with_offer, with_put}
+use Rattle.search_machine.specs.Calls.{call_in}
+use Rattle.search_machine.specs.Replies.{own_after}
+use Rattle.search_machine.specs.Stands.{Stands}
+use Rattle.search_machine.proofs.Counts.{same_counts}
+use Rattle.search_machine.proofs.OwnLate.{below_real}
+use Rattle.search_machine.proofs.Places.{get_set, get_set_other}
+use Rattle.live_query.specs.FillHands.{FillKept, FillDid, FillTied, InRange, Ends}
+
+-- a leaf that is given is below n
+abbrev pub IsReal : ℕ → Phase → Type 0
+IsReal n (Give l) = l < n
+IsReal n _ = Unit {0}
+
+get_here : {X : Type 0} (xs : List X) (i : ℕ) (y : X) → i < length xs → slice_get (set xs i y) i ≡ Some y
+get_here [] i y low = absurd (omega arith)
+get_here (x ∷ xs) zero y low = refl
+get_here (x ∷ xs) (suc i) y low = get_here xs i y (omega arith)
+
+tied_draw : (h : FillKept) (r : OwnRecord) (n : ℕ) → FillTied h r
+    → FillTied (record h { claim = drew h.claim n }) (with_claim (Some n) r)
+tied_draw h r n t = record {
+  claims = λ c. let e = t.claims c in let a = times_push c h.claim.draws n in omega arith;
+  ended = λ i. ⊎_elim (λ (e : None ≡ Some n). absurd (none-some n e)) t.ended i;
+  reads = t.reads;
+  placed = t.placed;
+  marked = t.marked;
+  put = t.put;
+  pops = t.pops;
+}
+
+tied_end : (h k : FillKept) (r : OwnRecord) → Ends h k → FillTied h r → FillTied k (with_claim None r)
+tied_end h k r d t = subst (λ (k : FillKept). FillTied k (with_claim None r)) (sym d.after) (record {
+  claims = λ c. let e = t.claims c in let a = ap (times c) d.draws in omega arith;
+  ended = λ i. d.ended;
+  reads = t.reads;
+  placed = t.placed;
+  marked = t.marked;
+  put = t.put;
+  pops = t.pops;
+})
+
+tied_read : (h : FillKept) (r : OwnRecord) (v : ℕ) → InRange h.floor h.best v → FillTied h r → FillTied h (with_read v r)
+tied_read h r v low t = record {
+  claims = t.claims;
+  ended = t.ended;
+  reads = λ u i. ⊎_elim (λ (e : u ≡ v). subst (InRange h.floor h.best) (sym e) low) (t.reads u) i;
+  placed = t.placed;
+  marked = t.marked;
+  put = t.put;
+  pops = t.pops;
+}
+
+tied_offer : (h : FillKept) (r : OwnRecord) (v : OfferMade) → FillTied h r → FillTied h (with_offer v r)
+tied_offer h r v t = record {
+  claims = t.claims;
+  ended = t.ended;
+  reads = t.reads;
+  placed = t.placed;
+  marked = t.marked;
+  put = t.put;
+  pops = t.pops;
+}
+
+module _ (h : FillKept) (r : OwnRecord) (p : PutMade) (low : p.entry.leaf < length h.marks) (is_placed : p.reply ≡ Placed) (t : FillTied h r) where
+  marked_now : (m : ℕ) → slice_get (set h.marks p.entry.leaf true) m ≡ Some true → WasPut (with_put p r) m
+  marked_now m e = ⊎_elim
+      (λ (new : (m ≡ p.entry.leaf) × (true ≡ true)). (p, inl refl, sym new.0))
+      (λ (old : slice_get h.marks m ≡ Some true). let w = t.marked m old in (w.0, inr w.1, w.2))
+      (get_set h.marks p.entry.leaf m true true e)
+
+  put_now : (m : ℕ) → WasPut (with_put p r) m → slice_get (set h.marks p.entry.leaf true) m ≡ Some true
+  put_now m w = ⊎_elim
+      (λ (e : m ≡ p.entry.leaf).
+      subst (λ (k : ℕ). slice_get (set h.marks p.entry.leaf true) k ≡ Some true) (sym e) (get_here h.marks p.entry.leaf true low))
+      (λ (ne : m ≡ p.entry.leaf → ⊥). ⊎_elim
+      (λ (e : w.0 ≡ p). absurd (ne (sym w.2 ∙ ap (λ (q : PutMade). q.entry.leaf) e)))
+      (λ (i : In w.0 r.puts). get_set_other h.marks p.entry.leaf m true ne ∙ t.put m (w.0, i, w.2))
+      w.1)
+      (cases_eq m p.entry.leaf)
+
+  tied_put : FillTied (record h { marks = slice_set h.marks p.entry.leaf true }) (with_put p r)
+  tied_put = record {
+    claims = t.claims;
+    ended = t.ended;
+    reads = t.reads;
+    placed = λ q i. ⊎_elim
+        (λ (e : q ≡ p). ap (λ (q : PutMade). is_refused q.reply) e
+        ∙ ap is_refused is_placed)
+        (t.placed q) i;
+    marked = marked_now;
+    put = put_now;
+    pops = t.pops;
+  }
+
+-- the hand after a call in the fill part is tied to the record after it
+pub ties : (g : Ground) (i : ℕ) (w : Worker) (r : OwnRecord) (h k : FillKept) (phase : Phase) (reply : Reply)
+    → fills phase ≡ true → IsReal (length h.marks) phase → 0 < g.queues → h.queues ≡ g.queues → FillTied h r
+    → FillDid h (call_in g i w phase) reply k → FillTied k (own_after g i w r phase reply)
+ties g i w r h k Claim (Claimed (Some n)) f real some q t d =
+    subst (λ (k : FillKept). FillTied k (with_claim (Some n) r)) (sym d.2) (tied_draw h r n t)
+ties g i w r h k Claim (Claimed None) f real some q t d = tied_end h k r d t
+ties g i w r h k Look (Seen v) f real some q t d =
+    subst (λ (k : FillKept). FillTied k (with_read v r)) (sym d.1) (tied_read h r v d.0 t)
+ties g i w r h k (Late l) (Seen v) f real some q t d =
+    subst (λ (k : FillKept). FillTied k (with_read v r)) (sym d.1) (tied_read h r v d.0 t)
+ties g i w r h k (Offer ToLook) (Offered v) f real some q t d =
+    let made : OfferMade = record { value = worst g w.list; reply = v } in
+    subst (λ (k : FillKept). FillTied k (with_offer made r)) (sym d.1) (tied_offer h r made t)
+ties g i w r h k (Give l) (PutTold Placed) f real some q t d =
+    let p : PutMade = record { queue = queue_of g l; entry = entry_of g l; reply = Placed } in
+    subst (λ (k : FillKept). FillTied k (with_put p r)) (sym d.2) (tied_put h r p d.1 refl t)
+ties g i w r h k (Give l) (PutTold (Filled c)) f real some q t d =
+    let low = mod-lt l some in
+    ⊎_elim (λ (out : h.queues ≤ queue_of g l). absurd (omega arith))
+    (λ (out : length h.marks ≤ l). absurd (omega arith)) d.1
+ties g i w r h k (Offer (ToAim j)) reply f real some q t d = absurd (true≢false (sym f))
+ties g i w r h k (Aim j) reply f real some q t d = absurd (true≢false (sym f))
+ties g i w r h k (Pop j v) reply f real some q t d = absurd (true≢false (sym f))
+ties g i w r h k Done reply f real some q t d = absurd (true≢false (sym f))
+ties g i w r h k _ _ f real some q t d = absurd d
+
+-- a leaf that a worker gives is a leaf
+pub gives_real : (g : Ground) → Fits g → (i : ℕ) (w : Worker) (r : OwnRecord) → Stands g i w r → (phase : Phase)
+    → w.phase ≡ phase → IsReal g.leaves phase
+gives_real g fits i w r s (Give l) e =
+    let one : in_hand l w.phase ≡ 1 = ap (in_hand l) e ∙ same_counts l in
+    below_real g fits r l (s.held l (omega arith)).1
+gives_real g fits i w r s Claim e = tt
+gives_real g fits i w r s Look e = tt
+gives_real g fits i w r s (Late l) e = tt
+gives_real g fits i w r s (Aim j) e = tt
+gives_real g fits i w r s (Pop j v) e = tt
+gives_real g fits i w r s (Offer next) e = tt
+gives_real g fits i w r s Done e = tt
+
+pub set_length : {X : Type 0} (xs : List X) (i : ℕ) (y : X) → length (set xs i y) ≡ length xs
+set_length [] i y = refl
+set_length (x ∷ xs) zero y = refl
+set_length (x ∷ xs) (suc i) y = let h = set_length xs i y in omega arith

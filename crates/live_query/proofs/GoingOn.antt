@@ -1,0 +1,54 @@
+-- Turns one after another: the worker keeps its place and the hand its objects, and in the drain part, whatever the record
+-- was, there is a later one.
+use Rattle.std.proofs.Common.{◌≡◌, true, sym, refl, ◌∙◌}
+use Rattle.search_machine.specs.OwnRecord.{RecordedWorker}
+use Rattle.query_core.specs.Working.{IsOf, Working}
+use Rattle.live_query.specs.FillHands.{FillKept}
+use Rattle.live_query.specs.DrainHands.{DrainKept}
+use Rattle.live_query.specs.Knowing.{FillsOn, DrainsBy, DrainsOn, IsLater}
+
+-- a worker is where it is
+same_place : (w : Working) → IsOf w.question w.index w.queues w.number w
+same_place w = record { question = refl; index = refl; number = refl; queues = refl }
+
+-- a place that is kept twice is kept
+place_on : (w v u : Working) → IsOf w.question w.index w.queues w.number v → IsOf v.question v.index v.queues v.number u
+    → IsOf w.question w.index w.queues w.number u
+place_on w v u first second = record {
+  question = second.question ∙ first.question;
+  index = second.index ∙ first.index;
+  number = second.number ∙ first.number;
+  queues = second.queues ∙ first.queues;
+}
+
+pub fills_stays : (w : Working) (h : FillKept) → FillsOn w h w h
+fills_stays w h = record { place = same_place w; claims = refl; best = refl; floor = refl }
+
+pub fills_then : (w v u : Working) (h k m : FillKept) → FillsOn w h v k → FillsOn v k u m → FillsOn w h u m
+fills_then w v u h k m first second = record {
+  place = place_on w v u first.place second.place;
+  claims = second.claims ∙ first.claims;
+  best = second.best ∙ first.best;
+  floor = second.floor ∙ first.floor;
+}
+
+pub drains_stays : (w : Working) (h : DrainKept) → DrainsOn w h w h
+drains_stays w h = record {
+  place = same_place w;
+  runs = refl;
+  best = refl;
+  floor = refl;
+  on = λ x known. (x, record { known = known; claims = refl; puts = refl });
+}
+
+pub drains_then : (w v u : Working) (h k m : DrainKept) → DrainsOn w h v k → DrainsOn v k u m → DrainsOn w h u m
+drains_then w v u h k m first second = record {
+  place = place_on w v u first.place second.place;
+  runs = second.runs ∙ first.runs;
+  best = second.best ∙ first.best;
+  floor = second.floor ∙ first.floor;
+  on = λ x known.
+      let y = first.on x known in
+      let z = second.on y.0 y.1.known in
+      (z.0, record { known = z.1.known; claims = z.1.claims ∙ y.1.claims; puts = z.1.puts ∙ y.1.puts });
+}

@@ -1,0 +1,473 @@
+-- What the searchers and the closed runs say together: the search has a legal and straight outcome (`ends_right`).
+use Rattle.std.proofs.Common.{◌≡◌, ◌≢◌, ℕ, zero, suc, ◌+◌, ◌%◌, ◌<◌, ◌≤◌, ◌⊎◌, List, [], ◌∷◌, None, Some, Option, Bool, All, true, false, length, map, get_or, eqb, refl, sym, ap, ◌∙◌, subst, inl, inr, ⊎_elim, arith}
+use Rattle.std.specs.Prelude.{IfSome, Any, is_some, not, nat_lt, slice_get, slice_index_or, ◌&&◌}
+use Rattle.std.proofs.lemmas.Bool.{and_from, cases_lt, cond-true, eq-eqb, true≢false}
+use Rattle.std.proofs.lemmas.List.{length-map}
+use Rattle.std.proofs.lemmas.Option.{none-some, same_Some, slice_get-get_or, slice_get_within, get_or_from_slice_get}
+use Rattle.list_totals.specs.Totals.{one_if_same, total, times}
+use Rattle.list_totals.specs.Standing.{In}
+use Rattle.list_totals.proofs.Standing.{in_at, in_contains, in_total, total_in}
+use Rattle.list_totals.proofs.Totals.{total_map}
+use Rattle.best_word.specs.Passes.{Best}
+use Rattle.series_core.specs.declared.queue_words.Entry.{Entry}
+use Rattle.lower_bound.specs.Bound.{View}
+use Rattle.leaf_queues.specs.PlainQueue.{PlainQueue}
+use Rattle.sealed_runs.specs.Closed.{AreLines, IsLine, Line, least_limit, line_at, no_line}
+use Rattle.sealed_runs.specs.Entries.{Run, entry_at, no_entry, run_at}
+use Rattle.sealed_runs.proofs.Members.{filter_contains, map_contains}
+use Rattle.std.proofs.lemmas.List.Elements.{All-contains}
+use Rattle.sealed_runs.specs.Sealing.{fresh_visits}
+use Rattle.sealed_runs.specs.Visits.{IsPass, IsVisit, Visit, column, fresh_visit, handed, is_refused as is_refused_place, leaves, no_visit, visit_at}
+use Rattle.subtree_build.specs.Index.{IndexParts}
+use Rattle.subtree_build.specs.Outline.{leaf_numbers}
+use Rattle.search_machine.specs.declared.phase.Phase.TheVariants.{Done}
+use Rattle.search_machine.specs.declared.outcome.QueueLine.{QueueLine}
+use Rattle.search_machine.specs.Basics.{Between, Ordered, entered}
+use Rattle.search_machine.specs.Closes.{AllStand, CameByPop, CameByPut, ClaimedOnce, Closes, ClosesStraight, QueueCloses, claimed_by, final, placed_by, placed_of, popped_by, popped_of, puts_by}
+use Rattle.search_machine.specs.Ground.{Fits, Ground, entry_of, last, queue_of, start_limit}
+use Rattle.search_machine.specs.Machine.{capacity_of}
+use Rattle.search_machine.specs.Outcome.{kept_of, line_of}
+use Rattle.search_machine.specs.OwnRecord.{Below, OwnRecord, PopMade, PutMade, RecordedWorker, WasClosed, WasPut, is_refused}
+use Rattle.search_machine.specs.Sound.{takes, waits}
+use Rattle.search_machine.specs.Stands.{OwnDrains, OwnPhase, StandsFor}
+use Rattle.search_machine.specs.Workers.{Worker, fills, round_queue}
+use Rattle.search_machine.proofs.AnyWorkers.{stands_any}
+use Rattle.search_machine.proofs.CallCounts.{placed_is}
+use Rattle.search_machine.proofs.Closing.{closed_legal}
+use Rattle.search_machine.proofs.ClosedStraight.{closed_straight}
+use Rattle.search_machine.proofs.Counts.{same_counts}
+use Rattle.search_machine.proofs.OwnLate.{below_real}
+use Rattle.search_machine.proofs.Places.{get_map, get_some, total_at, total_some}
+use Rattle.search_machine.proofs.PutsOnce.{placed_put, puts_once}
+use Rattle.query_core.specs.Questions.{CanBeSearched, Question, last_of, leaf_bound, search_over, view_in}
+use Rattle.query_core.specs.Teams.{AreOver, EndsIn}
+use Rattle.query_core.specs.Working.{IsOf, Shows, Working}
+use Rattle.query_core.specs.Turning.{search_of}
+use Rattle.query_core.proofs.OfIndex.{last_is, search_fits}
+use Rattle.live_query.specs.DrainHands.{DrainKept, DrainTied, drain_over, given_of}
+use Rattle.live_query.specs.FillHands.{FillKept, FillTied, InRange}
+use Rattle.live_query.specs.Knowing.{DrainServes, DrainsBy, DrainsOn, IsLater}
+use Rattle.live_query.specs.Marked.{IsMarked, IsMarkedEntry, IsRunOf, line_of_run}
+use Rattle.live_query.specs.Parts.{AllDrainOn, AllFilled, Draining, EndsRight, HasFilled, Resting, draining, marks_of}
+use Rattle.live_query.specs.Resting.{Kept}
+use Rattle.live_query.proofs.DrainGather.{Went, known_at, none_closed, went}
+use Rattle.live_query.proofs.FillGather.{search_at}
+use Rattle.live_query.proofs.Marks.{entry_same}
+use Rattle.live_query.proofs.Places.{CameFrom, Chosen, all_at, all_from, all_map, by_place, choose, map_at, maps_same, totals_same}
+use Rattle.live_query.proofs.RunQueues.{ascending_ordered, entered_in, in_filter, is_left, least_from, least_some, left_of, left_or_taken, once_entered, ordered_filter, round_covers}
+
+module _ (a : Question) (ix : IndexParts) (m : ℕ) (best : Best) (searches : CanBeSearched a ix) (some : 0 < m)
+    (team : List Resting) (filled : AllFilled a ix m best team) (runs : List Run) (roots : ℕ)
+    (count : length runs ≡ m) (all_roots : roots ≡ length ix.roots)
+    (before cells : List Draining) (is : before ≡ map (draining runs roots) team)
+    (len : length cells ≡ length before) (on : AllDrainOn before cells)
+    (n : ℕ) (some_worker : 0 < n) (as_many : length team ≡ n)
+    (start : best.start ≡ start_limit (search_over a ix 1 m))
+    (done : All (λ (c : Draining). c.worker.phase ≡ Done) cells)
+    (sealed : (j : ℕ) → j < m → IsRunOf (view_in a) ix (marks_of team) m j (run_at runs j).entries)
+    (passes : List (List Visit)) (are : passes ≡ map (λ (c : Draining). c.hand.visits) cells)
+    (own : All (IsPass runs) passes) (closed : List Line) (lines : AreLines runs passes closed) where
+  abbrev one : Ground
+  one = search_over a ix 1 m
+
+  -- a searcher that has drained, with what it was after it had filled
+  abbrev Way : ℕ → Draining → Type 0
+  Way i d = Went a ix m best searches some team filled runs roots count all_roots before cells is len on i d
+
+  -- a searcher that is done, with the record of all its calls
+  record Ended (i : ℕ) (y : RecordedWorker) : Type 0 where
+    cell : Draining
+    at : slice_get cells i ≡ Some cell
+    way : Way i cell
+    later : IsLater way.record_of cell.worker cell.hand y
+
+  ended : (i : ℕ) → i < length cells → (y : RecordedWorker) × Ended i y
+  ended i low =
+      let d = get_some cells i low in
+      let w = went a ix m best searches some team filled runs roots count all_roots before cells is len on i d.0 d.1 in
+      let y = w.goes.on w.record_of (known_at a ix m best searches some team filled runs roots count all_roots w.from w.record_of i w.has) in
+      (y.0, record { cell = d.0; at = d.1; way = w; later = y.1 })
+
+  abbrev g : Ground
+  g = search_over a ix n m
+
+  fits : Fits g
+  fits = search_fits a ix n m searches some_worker some
+
+  all : Chosen (length cells) Ended
+  all = choose (length cells) Ended ended
+
+  abbrev ys : List RecordedWorker
+  ys = all.items
+
+  cells_count : length cells ≡ n
+  cells_count = len ∙ ap (λ l. length l) is ∙ length-map team (draining runs roots) ∙ as_many
+
+  stands : AllStand g ys
+  stands i y at =
+      let e = all.each i y at in
+      let place = moved e.way.from.worker e.cell.worker i e.way.has.place e.way.goes.place in
+      stands_any one n i y
+      (subst (λ (j : ℕ). StandsFor one j y) place.number
+      (subst (λ (h : Ground). StandsFor h e.cell.worker.number y) (search_at a ix m i e.cell.worker place)
+      e.later.known.stands))
+    where
+      moved : (w v : Working) (i : ℕ) → IsOf a ix m i w → IsOf w.question w.index w.queues w.number v → IsOf a ix m i v
+      moved w v i first second = record {
+        question = second.question ∙ first.question;
+        index = second.index ∙ first.index;
+        number = second.number ∙ first.number;
+        queues = second.queues ∙ first.queues;
+      }
+
+  worker_done : (i : ℕ) (y : RecordedWorker) → slice_get ys i ≡ Some y → y.worker.phase ≡ Done
+  worker_done i y at =
+      let e = all.each i y at in
+      e.later.known.shows.phase ∙ all_at (λ (c : Draining). c.worker.phase ≡ Done) cells i e.cell done e.at
+
+  same_claims : (c : ℕ) → total (claimed_by c) ys ≡ total (claimed_by c) filled.records
+  same_claims c =
+      totals_same (claimed_by c) (claimed_by c) ys filled.records
+      (all.count ∙ cells_count ∙ sym as_many ∙ sym filled.count)
+      (λ i y x at_y at_x.
+      let e = all.each i y at_y in
+      let same = same_Some e.way.record_of x (sym e.way.at_record ∙ at_x) in
+      ap (λ os. total (Rattle.search_machine.specs.OwnRecord.claims_of c) os) e.later.claims ∙ ap (claimed_by c) same)
+
+  once : ClaimedOnce ys
+  once c = let e = same_claims c in let b = filled.once c in omega arith
+
+  in_range : (i : ℕ) (y : RecordedWorker) (v : ℕ) → slice_get ys i ≡ Some y → In v y.own.reads → Between g v
+  in_range i y v at read =
+      let e = all.each i y at in
+      let r = e.later.known.tied.reads v read in
+      let low = e.way.goes.floor ∙ e.way.has.floor ∙ sym (last_is a ix n m searches.question) in
+      let high = ap (λ (b : Best). b.start) (e.way.goes.best ∙ e.way.has.word) ∙ start in
+      (omega (arith, r.0, low), omega (arith, r.1, high))
+
+  -- a worker is closed to at each queue
+  was_closed : (i : ℕ) (y : RecordedWorker) (j : ℕ) → slice_get ys i ≡ Some y → j < m → WasClosed y.own j
+  was_closed i y j at low =
+      let drains : OwnDrains g y.own i m y.worker.rest
+      = subst (OwnPhase g y.own i y.worker.rest y.worker.list) (worker_done i y at) (stands i y at).phase in
+      let x = round_covers i m j low in
+      subst (WasClosed y.own) x.2 (drains.closed x.0 x.1)
+
+  placed_all : (i : ℕ) (y : RecordedWorker) (p : PutMade) → slice_get ys i ≡ Some y → In p y.own.puts
+      → is_refused p.reply ≡ false
+  placed_all i y p at put =
+      let e = all.each i y at in
+      e.way.has.tied.placed p (subst (λ ps. In p ps) e.later.puts put)
+
+  -- a marked leaf was put, and a leaf that was put is marked
+  record PutBy (l : ℕ) : Type 0 where
+    place : ℕ
+    member : RecordedWorker
+    at : slice_get ys place ≡ Some member
+    made : PutMade
+    has : In made member.own.puts
+    leaf : made.entry.leaf ≡ l
+
+  marked_put : (l : ℕ) → IsMarked (marks_of team) l → PutBy l
+  marked_put l marked =
+      let c = get_map (λ (c : Resting). c.hand.marks) team marked.0 marked.1 marked.2 in
+      let low = slice_get_within team marked.0 c.0 c.1 in
+      let y = get_some ys marked.0 (let b = all.count in let d = cells_count in omega arith) in
+      let e = all.each marked.0 y.0 y.1 in
+      let same = same_Some e.way.from c.0 (sym e.way.at ∙ c.1) in
+      let marks : marked.1 ≡ e.way.has.hand.marks
+      = sym c.2 ∙ ap (λ (c : Resting). c.hand.marks) (sym same) ∙ ap (λ (k : Kept). k.marks) e.way.has.rests in
+      let w = e.way.has.tied.marked l (ap (λ ms. slice_get ms l) (sym marks) ∙ marked.3) in
+      record {
+        place = marked.0;
+        member = y.0;
+        at = y.1;
+        made = w.0;
+        has = subst (λ ps. In w.0 ps) (sym e.later.puts) w.1;
+        leaf = w.2;
+      }
+
+  put_marked : (i : ℕ) (y : RecordedWorker) (p : PutMade) → slice_get ys i ≡ Some y → In p y.own.puts
+      → IsMarked (marks_of team) p.entry.leaf
+  put_marked i y p at put =
+      let e = all.each i y at in
+      let old = subst (λ ps. In p ps) e.later.puts put in
+      let marked = e.way.has.tied.put p.entry.leaf (p, old, refl) in (
+        i,
+        e.way.from.hand.marks,
+        map_at (λ (c : Resting). c.hand.marks) team i e.way.from e.way.at,
+        ap (λ (k : Kept). slice_get k.marks p.entry.leaf) e.way.has.rests ∙ marked,
+      )
+
+  module _ (j : ℕ) (low : j < m) where
+    abbrev run : Run
+    run = run_at runs j
+
+    abbrev line : Line
+    line = line_at closed j
+
+    abbrev vs : List Visit
+    vs = column passes j
+
+    is_line : IsLine run vs line
+    is_line = lines.each j (omega (arith, low, count))
+
+    is_run : IsRunOf (view_in a) ix (marks_of team) m j run.entries
+    is_run = sealed j low
+
+    -- the queue that the closed run stands for
+    abbrev queue : PlainQueue
+    queue = record {
+      waiting = left_of run.entries line.taken;
+      taken = line.taken;
+      placed = length (left_of run.entries line.taken) + length line.taken;
+      capacity = capacity_of g j g.leaves;
+      kept = line.kept;
+    }
+
+    entry_right : (e : Entry) → In e run.entries → e.bound ≡ g.bound e.leaf
+    entry_right e i = ((is_run.exactly e).0 i).0.bound
+
+    from_run : (e : Entry) → In e line.taken → In e run.entries
+    from_run e i =
+        let h = (is_line.exactly e).0 i in
+        handed_in e h.1 (of_run h.0 h.1 (slice_get-get_or vs h.0 h.1 h.2 ∙ ap Some h.3)) h.4
+      where
+        -- a visit of the column is of the run
+        of_run : (k : ℕ) (v : Visit) → slice_get vs k ≡ Some v → IsVisit run v
+        of_run k v at =
+            let p = get_map (λ (vs : List Visit). visit_at vs j) passes k v at in
+            subst (IsVisit run) p.2
+            ((all_at (IsPass runs) passes k p.0 own p.1).each j (let b = count in omega arith))
+
+        handed_in : (e : Entry) (v : Visit) → IsVisit run v → In e (leaves run.entries v) → In e run.entries
+        handed_in e v is i =
+            let r = map_contains (entry_at run.entries) (handed v) e (in_contains (leaves run.entries v) e i) in
+            let drawn = (filter_contains (λ x. not (is_refused_place v.refused x)) v.claim.draws r.0 r.1).0 in
+            let below = All-contains (λ x. x < v.claim.met) v.claim.draws r.0 is.below drawn in
+            let most = is.most in
+            in_at run.entries r.0 e no_entry (omega arith) r.2
+
+    once_here : (l : ℕ) → entered l run.entries ≤ 1
+    once_here l = once_entered g.bound run.entries is_run.ascending entry_right l
+
+    once_taken : (l : ℕ) → entered l line.taken ≤ 1
+    once_taken l = once_entered g.bound line.taken is_line.ascending (λ e i. entry_right e (from_run e i)) l
+
+    either : (e : Entry) → In e queue.waiting ⊎ In e queue.taken → In e run.entries
+    either e (inl waits) = (in_filter (is_left line.taken) run.entries e waits).0
+    either e (inr taken) = from_run e taken
+
+    came : (e : Entry) → In e queue.waiting ⊎ In e queue.taken → CameByPut ys j e
+    came e h =
+        let r = (is_run.exactly e).0 (either e h) in
+        let p = marked_put e.leaf r.0.marked in
+        let right = (stands p.place p.member p.at).puts p.made p.has in
+        record {
+          place = p.place;
+          member = p.member;
+          at = p.at;
+          made = p.made;
+          has = p.has;
+          queue = right.queue ∙ ap (queue_of g) p.leaf ∙ r.1;
+          entry = right.entry ∙ ap (entry_of g) p.leaf
+              ∙ entry_same (entry_of g e.leaf) e (sym r.0.bound) refl;
+        }
+
+    -- where the leaf is of the run, its put placed it here
+    placed_here : (l : ℕ) → 0 < entered l run.entries → 0 < total (placed_by j l) ys
+    placed_here l inside =
+        let f = Rattle.search_machine.proofs.Ending.entered_some l run.entries inside in
+        let r = (is_run.exactly f.0).0 f.1 in
+        let p = marked_put f.0.leaf r.0.marked in
+        let right = (stands p.place p.member p.at).puts p.made p.has in
+        let at_queue : p.made.queue ≡ j = right.queue ∙ ap (queue_of g) p.leaf ∙ r.1 in
+        let leaf : p.made.entry.leaf ≡ l = p.leaf ∙ sym f.2 in
+        let counted = cond-true (eqb p.made.queue j && not (is_refused p.made.reply)) (one_if_same l p.made.entry.leaf) 0
+        (and_from (eqb p.made.queue j) (not (is_refused p.made.reply)) (eq-eqb p.made.queue j at_queue)
+        (ap not (placed_all p.place p.member p.made p.at p.has))) in
+        let one = ap (one_if_same l) leaf ∙ same_counts l in
+        let x = in_total (placed_of j l) p.made p.member.own.puts p.has in
+        let y = total_at (placed_by j l) ys p.place p.member p.at in
+        omega arith
+
+    -- and a leaf that was placed here is of the run
+    placed_inside : (l : ℕ) → 0 < total (placed_by j l) ys → 0 < entered l run.entries
+    placed_inside l placed =
+        let y = total_some (placed_by j l) ys placed in
+        let p = total_in (placed_of j l) y.1.own.puts y.3 in
+        let which = placed_is j l p.0 p.2 in
+        let right = (stands y.0 y.1 y.2).puts p.0 p.1 in
+        let real = below_real g fits y.1.own p.0.entry.leaf right.below in
+        let inside = (is_run.exactly (entry_of g p.0.entry.leaf)).1 (
+          record { real = real; bound = refl; marked = put_marked y.0 y.1 p.0 y.2 p.1 },
+          sym right.queue ∙ which.0,
+        ) in
+        subst (λ k. 0 < entered k run.entries) (sym which.1)
+        (entered_in (entry_of g p.0.entry.leaf) run.entries inside)
+
+    put_counts : (l : ℕ) → waits l queue + takes l queue ≡ total (placed_by j l) ys
+    put_counts l =
+        let either_way = left_or_taken l run.entries line.taken (once_here l) (once_taken l) from_run in
+        let most = once_here l in
+        let a = placed_put g fits ys stands once j l in
+        let b = puts_once g fits ys stands once l in
+        ⊎_elim
+        (λ (inside : 0 < entered l run.entries). let p = placed_here l inside in omega arith)
+        (λ (outside : entered l run.entries ≤ 0). ⊎_elim
+        (λ (p : 0 < total (placed_by j l) ys). let inside = placed_inside l p in absurd (omega arith))
+        (λ (p : total (placed_by j l) ys ≤ 0). omega arith)
+        (cases_lt 0 (total (placed_by j l) ys)))
+        (cases_lt 0 (entered l run.entries))
+
+    popped_counts : (l : ℕ) → takes l queue ≡ total (popped_by j l) ys
+    popped_counts l =
+        is_line.counts (λ (e : Entry). one_if_same l e.leaf)
+        ∙ ap (λ ps. total (given_of l run) (column ps j)) are
+        ∙ total_map (given_of l run) (λ (vs : List Visit). visit_at vs j) (map (λ (c : Draining). c.hand.visits) cells)
+        ∙ total_map (λ (vs : List Visit). given_of l run (visit_at vs j)) (λ (c : Draining). c.hand.visits) cells
+        ∙ sym (totals_same (popped_by j l) (λ (c : Draining). given_of l run (visit_at c.hand.visits j)) ys cells all.count
+        (λ i y c at_y at_c.
+        let e = all.each i y at_y in
+        let same = same_Some e.cell c (sym e.at ∙ at_c) in
+        let low : j < length e.cell.hand.runs = let b = ap (λ rs. length rs) e.way.goes.runs in omega arith in
+        e.later.known.tied.popped j l low
+        ∙ ap (λ rs. given_of l (run_at rs j) (visit_at e.cell.hand.visits j)) e.way.goes.runs
+        ∙ ap (λ (c : Draining). given_of l run (visit_at c.hand.visits j)) same))
+
+    -- the visit of worker i
+    visit_of : (i : ℕ) (y : RecordedWorker) (at : slice_get ys i ≡ Some y)
+        → slice_get vs i ≡ Some (visit_at (all.each i y at).cell.hand.visits j)
+    visit_of i y at =
+        let e = all.each i y at in
+        ap (λ ps. slice_get (column ps j) i) are
+        ∙ map_at (λ (vs : List Visit). visit_at vs j) (map (λ (c : Draining). c.hand.visits) cells) i e.cell.hand.visits
+        (map_at (λ (c : Draining). c.hand.visits) cells i e.cell e.at)
+
+    visit_shut : (i : ℕ) (y : RecordedWorker) (at : slice_get ys i ≡ Some y) → WasClosed y.own j
+        → is_some (visit_at (all.each i y at).cell.hand.visits j).closed ≡ true
+    visit_shut i y at w =
+        let e = all.each i y at in
+        e.later.known.tied.closed j (let b = ap (λ rs. length rs) e.way.goes.runs in omega arith) w
+
+    shut : (i : ℕ) (y : RecordedWorker) → slice_get ys i ≡ Some y → WasClosed y.own j
+        → (v : ℕ) × (queue.kept ≡ Some v)
+    shut i y at w =
+        let r = least_some vs i _ (visit_of i y at) (visit_shut i y at w) in
+        (r.0, is_line.kept ∙ r.1)
+
+    kept : (v : ℕ) → queue.kept ≡ Some v → CameByPop ys v
+    kept v e =
+        let r = least_from vs v (sym is_line.kept ∙ e) in
+        let inside : r.0 < length vs = slice_get_within vs r.0 r.1 r.2 in
+        let y = get_some ys r.0 (omega (arith, inside, vs_count, all.count)) in
+        let w = all.each r.0 y.0 y.1 in
+        let same = same_Some (visit_at w.cell.hand.visits j) r.1 (sym (visit_of r.0 y.0 y.1) ∙ r.2) in
+        let k = w.later.known.tied.kept j v (let b = ap (λ rs. length rs) w.way.goes.runs in omega arith)
+        (ap (λ (x : Visit). x.closed) same ∙ r.3) in
+        record { place = r.0; member = y.0; at = y.1; made = k.0; has = k.1; limit = k.3 }
+      where
+        vs_count : length vs ≡ length cells
+        vs_count = length-map passes (λ (vs : List Visit). visit_at vs j) ∙ ap (λ ps. length ps) are
+            ∙ length-map cells (λ (c : Draining). c.hand.visits)
+
+    above : (v : ℕ) → queue.kept ≡ Some v → (e : Entry) → In e queue.waiting → v < e.bound
+    above v is_kept e waits =
+        let r = in_filter (is_left line.taken) run.entries e waits in
+        let rest = is_line.rest all_shut e r.0 (λ taken. not_taken e r.1 taken) in
+        subst (λ o. IfSome o (λ limit. limit < e.bound)) is_kept rest
+      where
+        all_shut : All (λ (x : Visit). x.closed ≢ None) vs
+        all_shut = all_from (λ (x : Visit). x.closed ≢ None) vs (λ i x at none.
+            let low = slice_get_within vs i x at in
+            let y = get_some ys i (omega (arith, low, vs_long, all.count)) in
+            let same = same_Some _ x (sym (visit_of i y.0 y.1) ∙ at) in
+            none_closed x.closed
+            (ap (λ (x : Visit). is_some x.closed) (sym same) ∙ visit_shut i y.0 y.1 (was_closed i y.0 j y.1 low_j)) none)
+          where
+            low_j : j < m
+            low_j = low
+
+            vs_long : length vs ≡ length cells
+            vs_long = length-map passes (λ (vs : List Visit). visit_at vs j) ∙ ap (λ ps. length ps) are
+                ∙ length-map cells (λ (c : Draining). c.hand.visits)
+
+        not_taken : (e : Entry) → is_left line.taken e ≡ true → In e line.taken → ⊥
+        not_taken e left taken = gone (entered e.leaf line.taken) (entered_in e line.taken taken) left
+          where
+            gone : (k : ℕ) → 0 < k → not (nat_lt 0 k) ≡ true → ⊥
+            gone k low left = grind (arith, Rattle.std.proofs.lemmas.Bool.Decides.nat_tests)
+
+    queue_closes : QueueCloses g ys j queue
+    queue_closes = record {
+      ordered = ordered_filter (is_left line.taken) run.entries (ascending_ordered run.entries is_run.ascending);
+      placed = refl;
+      capacity = refl;
+      came = came;
+      put = put_counts;
+      popped = popped_counts;
+      shut = shut;
+      kept = kept;
+      above = above;
+    }
+
+  -- the queues that the closed runs stand for
+  record Stood (j : ℕ) (q : PlainQueue) : Type 0 where
+    low : j < m
+    same : q ≡ queue j low
+
+  queues : Chosen m Stood
+  queues = choose m Stood (λ j low. (queue j low, record { low = low; same = refl }))
+
+  closes : Closes g ys queues.items
+  closes = record {
+    members = all.count ∙ cells_count;
+    stands = stands;
+    done = worker_done;
+    claims = once;
+    all_claimed = λ i y c at ended low.
+        let e = all.each i y at in
+        let s = same_claims c in
+        let roots = length-map ix.nodes leaf_numbers in
+        let x = filled.all_claimed i e.way.record_of c e.way.at_record
+        (subst (λ os. In None os) e.later.claims ended) (omega arith) in
+        omega arith;
+    reads = in_range;
+    queue_count = queues.count;
+    queues = λ j q at. let s = queues.each j q at in
+        subst (QueueCloses g ys j) (sym s.same) (queue_closes j s.low);
+  }
+
+  closes_straight : ClosesStraight g ys queues.items
+  closes_straight = record {
+    closes = closes;
+    placed = placed_all;
+    order = λ j q at. let s = queues.each j q at in
+        subst (λ (q : PlainQueue). Ordered q.taken) (sym s.same)
+        (ascending_ordered (line_at closed j).taken (is_line j s.low).ascending);
+  }
+
+  pub ends_right : (ws : List Working) (ls : List QueueLine) → ws ≡ map (λ (c : Draining). c.worker) cells
+      → ls ≡ map line_of_run closed → EndsRight g ws ls
+  ends_right ws ls ws_are ls_are = record {
+    state = final g ys queues.items;
+    ends = record {
+      workers = record {
+        count = ap (λ l. length l) ws_are ∙ length-map cells (λ (c : Draining). c.worker) ∙ sym all.count
+            ∙ sym (length-map ys (λ (x : RecordedWorker). x.worker));
+        shows = λ i w v at_w at_v.
+            let y = get_map (λ (x : RecordedWorker). x.worker) ys i v at_v in
+            let e = all.each i y.0 y.1 in
+            let there = sym (map_at (λ (c : Draining). c.worker) cells i e.cell e.at)
+            ∙ ap (λ l. slice_get l i) (sym ws_are) ∙ at_w in
+            subst (Shows w) y.2 (subst (λ w. Shows w y.0.worker) (same_Some e.cell.worker w there) e.later.known.shows);
+      };
+      lines = ls_are ∙ sym (maps_same line_of line_of_run queues.items closed (queues.count ∙ sym (lines.count ∙ count))
+          (λ j q l at_q at_l.
+          let s = queues.each j q at_q in
+          ap line_of s.same
+          ∙ ap line_of_run (get_or_from_slice_get closed j l no_line at_l)));
+    };
+    legal = closed_legal g fits ys queues.items closes;
+    straight = closed_straight g fits ys queues.items closes placed_all closes_straight.order;
+  }

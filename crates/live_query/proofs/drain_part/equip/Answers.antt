@@ -1,0 +1,57 @@
+-- The next searcher has its hand, with the next pass.
+use Rattle.std.proofs.Common.{◌≡◌, ℕ, ◌+◌, ◌≤◌, List, [], ◌∷◌, ◌++◌, All, length, vec_len, refl, sym, ap, ◌∙◌, subst, append_assoc, length-append, arith}
+use Rattle.std.specs.Vec.Iter.{into_iter_items}
+use Rattle.best_word.specs.Passes.{Best}
+use Rattle.sealed_runs.specs.Sealing.{fresh_visits}
+use Rattle.sealed_runs.specs.Visits.{IsPass, Visit}
+use Rattle.live_query.specs.DrainHands.{DrainKept, drain_over}
+use Rattle.live_query.specs.Parts.{Draining, Resting, draining}
+use Rattle.live_query.specs.Resting.{Kept}
+use Rattle.live_query.proofs.Places.{all_ends, all_middle, map_more}
+use Rattle.live_query.proofs.drain_part.equip.Goals as goal
+
+pub new-requires-clause-pass : goal.new-requires-clause-pass
+new-requires-clause-pass g c =
+    (all_ends (IsPass c.args.runs.now.runs) c.pop.new.self.items c.in-Some-pop.pass
+    (subst (All (IsPass c.args.runs.now.runs)) c.in-Some-pop.ensures.items c.loop-searcher.invariant.own)).1
+
+pub loop-searcher-preserved : goal.loop-searcher-preserved
+loop-searcher-preserved g c =
+    let was = c.loop-searcher.invariant in
+    let done : List Resting = c.loop-searcher.yielded in
+    let searcher : Resting = c.in-Some.searcher in
+    let rest : List Resting = into_iter_items c.next.new.self in
+    let whole : done ++ searcher ∷ rest ≡ c.args.team.items
+    = ap (λ (xs : List Resting). done ++ xs) (sym c.in-Some.ensures.steps.0) ∙ was.whole in
+    let long = length-append done (searcher ∷ []) in
+    let runs = c.args.runs.now.runs in
+    let P : List Visit → Type 0 = λ p. p ≡ fresh_visits runs in
+    let split = all_ends P c.pop.new.self.items c.in-Some-pop.pass
+    (subst (All P) c.in-Some-pop.ensures.items was.fresh) in
+    let own = all_ends (IsPass runs) c.pop.new.self.items c.in-Some-pop.pass
+    (subst (All (IsPass runs)) c.in-Some-pop.ensures.items was.own) in
+    let word : searcher.hand.best ≡ c.args.word.now
+    = all_middle (λ (s : Resting). s.hand.best ≡ c.args.word.now) done rest c.args.team.items searcher whole c.requires.word in
+    let with_word : Best → Kept → List Visit → DrainKept
+    = λ b k visits. drain_over b k.floor c.args.roots runs visits in
+    let hand : c.new.result ≡ with_word searcher.hand.best searcher.hand (fresh_visits runs)
+    = c.new.ensures ∙ ap (λ (k : Kept). with_word c.args.word.now k c.in-Some-pop.pass) c.hand.view_is
+    ∙ ap (with_word c.args.word.now searcher.hand) split.1
+    ∙ ap (λ (b : Best). with_word b searcher.hand (fresh_visits runs)) (sym word) in
+    let with_hand : DrainKept → Draining = λ h. record {
+      worker = searcher.worker;
+      hand = h;
+      number = searcher.number;
+      turn = searcher.turn;
+    } in
+    record {
+      whole = append_assoc done (searcher ∷ []) rest ∙ whole;
+      len = omega (arith, c.push_reserved.ensures.len, was.len, long);
+      left = omega (arith, was.left, long, c.in-Some-pop.ensures.len);
+      room = omega (arith, c.push_reserved.ensures.capacity, was.room);
+      fresh = split.0;
+      own = own.0;
+      ready = map_more (draining runs c.args.roots) done searcher (with_hand c.new.result)
+          c.loop-searcher.ready.items c.push_reserved.new.self.items c.push_reserved.ensures.items was.ready
+          (ap with_hand hand);
+    }

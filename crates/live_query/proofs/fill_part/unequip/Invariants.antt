@@ -1,0 +1,16 @@
+-- The passes and the searchers so far.
+use Rattle.std.proofs.Common.{◌≡◌, ◌≤◌, length, map, vec_capacity, vec_len}
+use Rattle.live_query.specs.Parts.{resting}
+use Rattle.live_query.proofs.fill_part.unequip.Given as goal
+
+abbrev pub invariant-loop-searcher : goal.invariant-loop-searcher
+invariant-loop-searcher g l = record {
+  can_next : (goal.iterator-loop-searcher g).can_next l.searcher-iterator;
+  is_finite : (goal.iterator-loop-searcher g).is_finite l.searcher-iterator;
+  passes : l.passes.items ≡ map (λ c. c.hand.claim) l.yielded;
+  rested : l.rested.items ≡ map resting l.yielded;
+  len : vec_len l.passes ≡ length l.yielded;
+  long : vec_len l.rested ≡ length l.yielded;
+  room : length l.fn.team.items ≤ vec_capacity l.passes;
+  space : length l.fn.team.items ≤ vec_capacity l.rested;
+}

@@ -1,0 +1,57 @@
+-- The next leaf has its entry where some searcher put it.
+use Rattle.std.proofs.Common.{◌≡◌, ℕ, ◌+◌, List, Vec, Global, ap, length, refl, subst, sym, ◌∙◌, vec_capacity, vec_len, arith}
+use Rattle.series_core.specs.declared.queue_words.Entry.{Entry}
+use Rattle.isax_word.specs.declared.word.Part.{Part}
+use Rattle.lower_bound.specs.Bound.{View, word_bound}
+use Rattle.subtree_build.proofs.LeafWords.{leaf_has_segments}
+use Rattle.query_core.specs.Questions.{view_in}
+use Rattle.live_query.specs.Marked.{AreMarked}
+use Rattle.live_query.specs.Parts.{marks_of}
+use Rattle.live_query.proofs.Marks.{entries_more, entries_skip, none_marked}
+use Rattle.live_query.proofs.marked.marked_entries.Goals as goal
+use Rattle.live_query.proofs.marked.marked_entries.Goals.{then-was_put, else-was_put}
+
+pub bound_word-bound-requires : goal.bound_word-bound-requires
+bound_word-bound-requires g c =
+    ap (λ (word : List Part). length word) c.leaf_word.ensures
+    ∙ leaf_has_segments c.args.search.now.index.now c.requires.searches.index c.loop-leaf.leaf (omega arith)
+    ∙ c.requires.searches.fits.segments
+    ∙ ap (λ (view : View). view.layout.cuts.segments) (sym c.view.ensures.view)
+
+pub loop-leaf-preserved : goal.loop-leaf-preserved
+loop-leaf-preserved g c =
+    let was = c.loop-leaf.invariant in
+    let view : View = view_in c.args.search.now.task.now in
+    elim c.if-was_put.branch [
+      | then-was_put w ↦
+          let items = ap (λ (v : Vec Entry Global). v.items) w.entries-is ∙ w.push_reserved.ensures.items in
+          record {
+            len = let a = ap (λ (v : Vec Entry Global). vec_len v) w.entries-is in
+                let b = w.push_reserved.ensures.len in omega arith;
+            room = let a = ap (λ (v : Vec Entry Global). vec_capacity v) w.entries-is in
+                let b = w.push_reserved.ensures.capacity in omega arith;
+            marked = subst (AreMarked view c.args.search.now.index.now (marks_of c.args.team.now) (c.loop-leaf.leaf + 1))
+                (sym items)
+                (entries_more view c.args.search.now.index.now (marks_of c.args.team.now) c.loop-leaf.leaf
+                c.loop-leaf.entries.items was.marked _ refl
+                (w.bound_word-bound.ensures.value
+                ∙ ap (λ (v : View). word_bound v w.leaf_word.result.now) w.view.ensures.view
+                ∙ ap (word_bound view) w.leaf_word.ensures)
+                (c.was_put.ensures.yes w.if-was_put.true));
+          }
+      | else-was_put w ↦ record {
+        len = let a = ap (λ (v : Vec Entry Global). vec_len v) w.entries-is in omega arith;
+        room = let a = ap (λ (v : Vec Entry Global). vec_capacity v) w.entries-is in omega arith;
+        marked = subst (AreMarked view c.args.search.now.index.now (marks_of c.args.team.now) (c.loop-leaf.leaf + 1))
+            (sym (ap (λ (v : Vec Entry Global). v.items) w.entries-is))
+            (entries_skip view c.args.search.now.index.now (marks_of c.args.team.now) c.loop-leaf.leaf
+            c.loop-leaf.entries.items was.marked (c.was_put.ensures.no w.if-was_put.false));
+      }
+    ]
+
+pub returns : goal.returns
+returns g c =
+    let all : c.loop-leaf.leaf ≡ length c.args.search.now.index.now.leaves =
+    omega (arith, c.leaf_count-leaves.ensures.count, c.loop-leaf.auto.leaf-end, c.loop-leaf-test.false) in
+    subst (λ (n : ℕ). AreMarked (view_in c.args.search.now.task.now) c.args.search.now.index.now (marks_of c.args.team.now) n
+    c.loop-leaf.entries.items) all c.loop-leaf.invariant.marked

@@ -1,0 +1,70 @@
+-- What is left to do for a worker, counted in turns: in the fill part by what may be undrawn, in the drain part by what may be
+-- left in the runs.
+use Rattle.std.specs.Prelude.{ℕ, ◌+◌, ◌-◌, ◌*◌, List, Option, None, Some, length, drop}
+use Rattle.list_totals.specs.Totals.{total}
+use Rattle.list_totals.specs.Below.{sum_below}
+use Rattle.sealed_runs.specs.Entries.{Run, run_at}
+use Rattle.sealed_runs.specs.Visits.{Visit, visit_at}
+use Rattle.search_machine.specs.declared.phase.Phase.{Phase}
+use Rattle.search_machine.specs.declared.phase.Phase.TheVariants.{Claim, Look, Give, Late, Aim, Pop, Offer, Done}
+use Rattle.search_machine.specs.declared.phase.Onward.TheVariants.{Look as ToLook, Aim as ToAim}
+use Rattle.search_machine.specs.Ground.{Ground}
+use Rattle.query_core.specs.Turning.{search_of}
+use Rattle.query_core.specs.Working.{Working}
+use Rattle.live_query.specs.FillHands.{FillKept}
+use Rattle.live_query.specs.DrainHands.{DrainKept}
+
+-- at most how many turns of the fill part are left from this phase, without those for its rest
+abbrev pub phase_left : Phase → ℕ
+phase_left Claim = 1
+phase_left Look = 2
+phase_left (Give l) = 6
+phase_left (Late l) = 4
+phase_left (Aim j) = 0
+phase_left (Pop j v) = 0
+phase_left (Offer ToLook) = 3
+phase_left (Offer (ToAim j)) = 0
+phase_left Done = 0
+
+-- so many with its rest
+abbrev pub own_left : Phase → List ℕ → ℕ
+own_left phase rest = phase_left phase + 5 * length rest
+
+-- for a root child
+abbrev pub root_left : List ℕ → ℕ
+root_left r = 2 + 5 * length r
+
+-- for the root children that may be undrawn
+abbrev pub roots_left : Ground → FillKept → ℕ
+roots_left g h = total root_left (drop h.claim.met g.roots)
+
+-- all that is left of the fill part
+abbrev pub fill_left : Working → FillKept → ℕ
+fill_left w h = own_left w.phase w.rest + roots_left (search_of w 1) h
+
+-- at most how many turns of the drain part are left from this phase over m queues, where no run gives a leaf
+abbrev pub round_left : ℕ → Phase → ℕ
+round_left m (Aim j) = 2 + 2 * (m - j)
+round_left m (Pop j v) = 1 + 2 * (m - j)
+round_left m (Offer (ToAim j)) = 3 + 2 * (m - j)
+round_left m (Offer ToLook) = 0
+round_left m Claim = 0
+round_left m Look = 0
+round_left m (Give l) = 0
+round_left m (Late l) = 0
+round_left m Done = 0
+
+-- how many entries a run may still give to a visit, where it has not answered Closed to it
+abbrev pub open_left : Option ℕ → ℕ → ℕ
+open_left None n = n
+open_left (Some v) n = 0
+
+-- how many run m may still give to the hand
+abbrev pub run_left : DrainKept → ℕ → ℕ
+run_left h m =
+    open_left (visit_at h.visits m).closed
+    (length (run_at h.runs m).entries - (visit_at h.visits m).claim.met)
+
+-- all that is left of the drain part
+abbrev pub drain_left : Working → DrainKept → ℕ
+drain_left w h = round_left w.queues w.phase + 3 * sum_below (length h.runs) (run_left h)

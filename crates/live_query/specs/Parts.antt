@@ -1,0 +1,145 @@
+-- The searchers before, between and after the two parts, and the records of their calls.
+use Rattle.std.specs.Prelude.{◌≡◌, ◌≢◌, ℕ, ◌<◌, List, None, Some, Bool, false, length, map, replicate, slice_get, slice_index_or}
+use Rattle.list_totals.specs.Totals.{total}
+use Rattle.list_totals.specs.Standing.{In}
+use Rattle.claim_word.specs.Passes.{Claim as Counter, fresh_pass}
+use Rattle.best_word.specs.Passes.{Best}
+use Rattle.series_core.specs.declared.queue_words.Entry.{Entry}
+use Rattle.sealed_runs.specs.Entries.{Run, run_at}
+use Rattle.sealed_runs.specs.Sealing.{fresh_visits}
+use Rattle.subtree_build.specs.Index.{IndexParts}
+use Rattle.search_machine.specs.declared.phase.Phase.TheVariants.{Done}
+use Rattle.search_machine.specs.declared.outcome.QueueLine.{QueueLine}
+use Rattle.search_machine.specs.Ground.{Ground}
+use Rattle.search_machine.specs.Workers.{fills}
+use Rattle.search_machine.specs.Machine.{State}
+use Rattle.search_machine.specs.Outcome.{outcome}
+use Rattle.search_machine.specs.Legal.{Legal, IsStraight}
+use Rattle.search_machine.specs.OwnRecord.{RecordedWorker}
+use Rattle.search_machine.specs.Stands.{StandsFor}
+use Rattle.search_machine.specs.Closes.{ClaimedOnce, claimed_by}
+use Rattle.query_core.specs.Questions.{Question, last_of, search_over, view_in}
+use Rattle.query_core.specs.Teams.{EndsIn}
+use Rattle.query_core.specs.Working.{IsOf, Shows, Working, opens_as}
+use Rattle.live_query.specs.declared.searcher.Searcher.{Searcher}
+use Rattle.live_query.specs.Marked.{AreMarked, IsRunOf}
+use Rattle.live_query.specs.Resting.{Kept}
+use Rattle.live_query.specs.FillHands.{FillKept, FillTied}
+use Rattle.live_query.specs.DrainHands.{DrainKept, drain_over}
+use Rattle.live_query.specs.Knowing.{FillsOn, DrainsOn}
+
+-- a searcher outside the parts, in the fill part, and in the drain part
+abbrev pub Resting : Type 0
+Resting = Searcher Working Kept
+
+abbrev pub Filling : Type 0
+Filling = Searcher Working FillKept
+
+abbrev pub Draining : Type 0
+Draining = Searcher Working DrainKept
+
+-- each searcher of the fill part at its place, before some turns and after them
+abbrev pub AllFillOn : List Filling → List Filling → Type 0
+AllFillOn old new =
+    (i : ℕ) (d : Filling) → i < length old
+    → FillsOn (slice_index_or old i d).worker (slice_index_or old i d).hand
+    (slice_index_or new i d).worker (slice_index_or new i d).hand
+
+-- each searcher of the drain part at its place, before some turns and after them
+abbrev pub AllDrainOn : List Draining → List Draining → Type 0
+AllDrainOn old new =
+    (i : ℕ) (d : Draining) → i < length old
+    → DrainsOn (slice_index_or old i d).worker (slice_index_or old i d).hand
+    (slice_index_or new i d).worker (slice_index_or new i d).hand
+
+-- the searcher with a fresh pass of these claims, over so many queues
+abbrev pub filling : Counter → ℕ → Resting → Filling
+filling claims queues c = record {
+  worker = c.worker;
+  hand = record {
+    claim = fresh_pass claims;
+    best = c.hand.best;
+    floor = c.hand.floor;
+    queues = queues;
+    marks = c.hand.marks;
+  };
+  number = c.number;
+  turn = c.turn;
+}
+
+-- the searcher that lets its pass of the claims go
+abbrev pub resting : Filling → Resting
+resting c = record {
+  worker = c.worker;
+  hand = record { best = c.hand.best; floor = c.hand.floor; marks = c.hand.marks };
+  number = c.number;
+  turn = c.turn;
+}
+
+-- the searcher with fresh visits of these runs, where there are so many root children
+abbrev pub draining : List Run → ℕ → Resting → Draining
+draining runs roots c = record {
+  worker = c.worker;
+  hand = drain_over c.hand.best c.hand.floor roots runs (fresh_visits runs);
+  number = c.number;
+  turn = c.turn;
+}
+
+-- the marks of all searchers
+abbrev pub marks_of : List Resting → List (List Bool)
+marks_of team = map (λ (c : Resting). c.hand.marks) team
+
+-- the entries of all leaves that some searcher put
+abbrev pub AreEntriesOf : Question → IndexParts → List Resting → List Entry → Type 0
+AreEntriesOf a ix team es = AreMarked (view_in a) ix (marks_of team) (length ix.leaves) es
+
+-- run m of so many has those of the leaves that belong to queue m
+abbrev pub AreRunsOf : Question → IndexParts → List Resting → ℕ → List Run → Type 0
+AreRunsOf a ix team queues runs =
+    (m : ℕ) → m < queues
+    → IsRunOf (view_in a) ix (marks_of team) queues m (run_at runs m).entries
+
+-- searcher i of a search over m queues, which this bound word serves, as it opens: it has put nothing
+pub record IsOpen (a : Question) (ix : IndexParts) (m : ℕ) (best : Best) (i : ℕ) (c : Resting) : Type 0 where
+  pub place : IsOf a ix m i c.worker
+  pub shows : Shows c.worker (opens_as (search_over a ix 1 m) i)
+  pub word : c.hand.best ≡ best
+  pub floor : c.hand.floor ≡ last_of a
+  pub marks : c.hand.marks ≡ replicate (length ix.leaves) false
+
+-- all searchers as they open
+abbrev pub AreOpen : Question → IndexParts → ℕ → Best → List Resting → Type 0
+AreOpen a ix m best team =
+    (i : ℕ) (c : Resting) → slice_get team i ≡ Some c → IsOpen a ix m best i c
+
+-- searcher i after the fill part: it stands for this record of its calls, to which its marks are tied
+pub record HasFilled (a : Question) (ix : IndexParts) (m : ℕ) (best : Best) (i : ℕ) (c : Resting)
+    (x : RecordedWorker) : Type 0 where
+  pub place : IsOf a ix m i c.worker
+  pub filled : fills c.worker.phase ≡ false
+  pub running : c.worker.phase ≢ Done
+  pub word : c.hand.best ≡ best
+  pub floor : c.hand.floor ≡ last_of a
+  pub shows : Shows c.worker x.worker
+  pub stands : StandsFor (search_over a ix 1 m) i x
+  pub hand : FillKept
+  pub rests : c.hand ≡ record { best = hand.best; floor = hand.floor; marks = hand.marks }
+  pub tied : FillTied hand x.own
+
+-- all searchers after the fill part, with the records of their calls: no root child was claimed twice, and each was claimed
+-- where a claim was answered None
+pub record AllFilled (a : Question) (ix : IndexParts) (m : ℕ) (best : Best) (team : List Resting) : Type 0 where
+  pub records : List RecordedWorker
+  pub count : length records ≡ length team
+  pub each : (i : ℕ) (c : Resting) (x : RecordedWorker) → slice_get team i ≡ Some c
+      → slice_get records i ≡ Some x → HasFilled a ix m best i c x
+  pub once : ClaimedOnce records
+  pub all_claimed : (i : ℕ) (x : RecordedWorker) (c : ℕ) → slice_get records i ≡ Some x
+      → In None x.own.claims → c < length ix.nodes → 0 < total (claimed_by c) records
+
+-- the workers and lines with which a search ends: they are those of a state whose outcome is legal and straight
+pub record EndsRight (g : Ground) (ws : List Working) (ls : List QueueLine) : Type 0 where
+  pub state : State
+  pub ends : EndsIn ws ls state
+  pub legal : Legal g (outcome g state)
+  pub straight : IsStraight (outcome g state)

@@ -1,0 +1,111 @@
+//! The drain part without locks: what was put is sealed into runs, the searchers take the leaves, and the runs are closed.
+ghost use Rattle.std.specs.Prelude.{◌≡◌, ◌≤◌, All, IfOk, List, length, map, vec_len};
+ghost use Rattle.sealed_runs.specs.Entries.{Run};
+ghost use Rattle.sealed_runs.specs.Sealing.{fresh_visits};
+ghost use Rattle.sealed_runs.specs.Visits.{IsPass};
+ghost use Rattle.search_machine.specs.Ground.{start_limit};
+ghost use Rattle.query_core.specs.Questions.{CanBeSearched, search_over};
+ghost use Rattle.query_core.specs.Teams.{AreOver};
+ghost use Rattle.live_query.specs.Parts.{AllFilled, EndsRight, draining};
+
+use crate::drain_hand::DrainHand;
+use crate::draining::{Draining, drain_together};
+use crate::lines::lines;
+use crate::marked::seal_marked;
+use crate::search::Search;
+use crate::searcher::{Rested, Searcher};
+use best_word::BestWord;
+use outside::{Gate, NoMemory};
+use query_core::{LineList, Worker};
+use sealed_runs::{RunPass, Runs};
+use series_core::Rows;
+use std::alloc::Global;
+use std::thread::Threads;
+
+/// Lets all searchers that have filled drain side by side: the workers as they end, and what each queue tells.
+pub(crate) fn drain_part<'a, T: Threads + Sync, R: Rows + Sync, G: Gate + Sync>(
+    rt: &T,
+    alloc: Global,
+    gate: &G,
+    search: &Search<'a, R>,
+    word: &BestWord,
+    team: Vec<Searcher<Worker<'a, R>, Rested>>,
+) -> Result<(Vec<Worker<'a, R>>, LineList), NoMemory>
+    requires searches { CanBeSearched search.now.task.now search.now.index.now }
+    requires queues { (1 ≤ search.now.queues) × (search.now.queues ≤ 64) }
+    requires team { (1 ≤ length team.items) × (length team.items ≤ 64) }
+    requires word { let g = search_over search.now.task.now search.now.index.now 1 search.now.queues in
+        word.now.start ≡ start_limit g }
+    requires filled { AllFilled search.now.task.now search.now.index.now search.now.queues word.now team.items }
+    ensures over { IfOk result (λ r. AreOver search.now.task.now search.now.index.now r.0.items) }
+    ensures sizes { IfOk result (λ r. (length r.0.items ≡ length team.entry.items) × (length r.1 ≡ search.now.queues)) }
+    ensures ends { IfOk result (λ r. EndsRight
+        (search_over search.now.task.now search.now.index.now (length team.entry.items) search.now.queues) r.0.items r.1) }
+{
+    let (runs, passes) = seal_marked(alloc, search, &team)?;
+    let roots = u64::from(search.index.root_count());
+    let mut team = equip(alloc, search.queues, roots, word, &runs, team, passes)?;
+    drain_together(rt, gate, &mut team);
+    let (workers, passes) = dismiss(alloc, team)?;
+    let lines = lines(alloc, &runs.close(passes), search.queues)?;
+    Ok((workers, lines))
+}
+
+// Gives each searcher its hand of the drain part, with a fresh pass of the runs.
+fn equip<'a, 'b, R: Rows>(
+    alloc: Global,
+    queues: u32,
+    roots: u64,
+    word: &'b BestWord,
+    runs: &'b Runs,
+    team: Vec<Searcher<Worker<'a, R>, Rested>>,
+    mut passes: Vec<RunPass>,
+) -> Result<Vec<Draining<'a, 'b, R>>, NoMemory>
+    requires queues { queues ≡ length runs.now.runs }
+    requires word { All (λ c. c.hand.best ≡ word.now) team.items }
+    requires fresh { All (λ p. p ≡ fresh_visits runs.now.runs) passes.items }
+    requires own { All (IsPass runs.now.runs) passes.items }
+    requires count { vec_len passes ≡ vec_len team }
+    ensures { IfOk result (λ ready. ready.items ≡ map (draining runs.now.runs roots) team.entry.items) }
+{
+    let mut ready = Vec::with_capacity(alloc, team.len())?;
+    for searcher in team {
+        let Some(pass) = passes.pop() else {
+            unreachable!()
+        };
+        let Searcher {
+            worker,
+            hand,
+            number,
+            turn,
+        } = searcher;
+        let Rested { seen, .. } = hand;
+        ready.push_reserved(Searcher {
+            worker,
+            hand: DrainHand::new(word, seen, runs, pass, queues, roots),
+            number,
+            turn,
+        });
+    }
+    Ok(ready)
+}
+
+// The workers, and their passes of the runs.
+fn dismiss<'a, 'b, R: Rows>(
+    alloc: Global,
+    team: Vec<Draining<'a, 'b, R>>,
+) -> Result<(Vec<Worker<'a, R>>, Vec<RunPass>), NoMemory>
+    ensures workers { IfOk result (λ r. r.0.items ≡ map (λ c. c.worker) team.entry.items) }
+    ensures passes { IfOk result (λ r. r.1.items ≡ map (λ c. c.hand.visits) team.entry.items) }
+    ensures own { (runs : List Run) → All (λ c. c.hand.runs ≡ runs) team.entry.items
+        → IfOk result (λ r. All (IsPass runs) r.1.items) }
+{
+    let mut workers = Vec::with_capacity(alloc, team.len())?;
+    let mut passes = Vec::with_capacity(alloc, team.len())?;
+    for searcher in team {
+        let Searcher { worker, hand, .. } = searcher;
+        workers.push_reserved(worker);
+        passes.push_reserved(hand.into_pass());
+    }
+    Ok((workers, passes))
+}

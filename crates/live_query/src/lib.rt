@@ -1,0 +1,22 @@
+//! The search for the k nearest rows by several workers, each in a thread of its own (MESSI, Peng, Fatourou, Palpanas, ICDE 2020).
+//! A search has two parts: in the fill part the workers claim root children and put leaves, in the drain part they take the
+//! leaves that were put. Between the parts all workers have returned, and what they shared in the first is closed.
+#![tactic(auto)]
+
+mod drain_hand;
+mod drain_part;
+mod draining;
+mod fill_hand;
+mod fill_part;
+mod filling;
+mod lines;
+mod marked;
+mod opening;
+mod sealed;
+mod search;
+mod searcher;
+
+pub use sealed::nearest_sealed;
+
+#[cfg(test)]
+mod tests;

@@ -1,0 +1,70 @@
+//! Sealing between the parts: the leaves that the searchers put become runs, one for each queue.
+//! Each leaf is sealed once, whoever put it.
+ghost use Rattle.std.specs.Prelude.{◌≡◌, ◌≤◌, true, false, All, IfOk, length, replicate};
+ghost use Rattle.sealed_runs.specs.Entries.{LeavesDiffer};
+ghost use Rattle.sealed_runs.specs.Sealing.{fresh_visits};
+ghost use Rattle.sealed_runs.specs.Visits.{IsPass};
+ghost use Rattle.query_core.specs.Questions.{CanBeSearched};
+ghost use Rattle.live_query.specs.Marked.{IsMarked};
+ghost use Rattle.live_query.specs.Parts.{AreEntriesOf, AreRunsOf, marks_of};
+
+use crate::search::Search;
+use crate::searcher::{Rested, Searcher};
+use outside::NoMemory;
+use query_core::Worker;
+use sealed_runs::{RunPass, Runs};
+use series_core::{Entry, Rows};
+use std::alloc::Global;
+
+/// Seals the leaves that some searcher put, each with its bound, with one pass of the runs for each searcher.
+pub(crate) fn seal_marked<'a, R: Rows>(
+    alloc: Global,
+    search: &Search<'a, R>,
+    team: &[Searcher<Worker<'a, R>, Rested>],
+) -> Result<(Runs, Vec<RunPass>), NoMemory>
+    requires searches { CanBeSearched search.now.task.now search.now.index.now }
+    requires queues { (1 ≤ search.now.queues) × (search.now.queues ≤ 64) }
+    requires team { (1 ≤ length team.now) × (length team.now ≤ 64) }
+    ensures count { IfOk result (λ r. length r.0.runs ≡ search.now.queues) }
+    ensures callers { IfOk result (λ r. r.0.callers ≡ length team.now) }
+    ensures runs { let a = search.now.task.now in
+        IfOk result (λ r. AreRunsOf a search.now.index.now team.now search.now.queues r.0.runs) }
+    ensures passes { IfOk result (λ r. r.1.items ≡ replicate (length team.now) (fresh_visits r.0.runs)) }
+    ensures own { IfOk result (λ r. All (IsPass r.0.runs) r.1.items) }
+{
+    let entries = marked_entries(alloc, search, team)?;
+    Runs::seal(alloc, entries, search.queues, team.len() as u32)
+}
+
+// The entries of all leaves that some searcher put.
+fn marked_entries<'a, R: Rows>(
+    alloc: Global,
+    search: &Search<'a, R>,
+    team: &[Searcher<Worker<'a, R>, Rested>],
+) -> Result<Vec<Entry>, NoMemory>
+    requires searches { CanBeSearched search.now.task.now search.now.index.now }
+    ensures { IfOk result (λ es. AreEntriesOf search.now.task.now search.now.index.now team.now es.items) }
+{
+    let leaves = search.index.leaf_count();
+    let mut entries = Vec::with_capacity(alloc, leaves as usize)?;
+    for leaf in 0..leaves {
+        if was_put(team, leaf) {
+            let bound = search.task.view().bound_word(search.index.leaf_word(leaf));
+            entries.push_reserved(Entry { bound, leaf });
+        }
+    }
+    Ok(entries)
+}
+
+// Whether some searcher put the leaf.
+fn was_put<'a, R: Rows>(team: &[Searcher<Worker<'a, R>, Rested>], leaf: u32) -> bool
+    ensures yes { result ≡ true → IsMarked (marks_of team.now) leaf }
+    ensures no { result ≡ false → ¬ (IsMarked (marks_of team.now) leaf) }
+{
+    for searcher in team {
+        if searcher.hand.has_put(leaf) {
+            return true;
+        }
+    }
+    false
+}

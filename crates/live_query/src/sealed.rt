@@ -1,0 +1,53 @@
+//! The search without locks: what was put is sealed into runs between the parts, so nobody waits for anybody.
+ghost use Rattle.std.specs.Prelude.{◌≡◌, ◌≤◌, IfOk};
+ghost use Rattle.series_core.specs.Answer.{answer};
+ghost use Rattle.subtree_build.specs.Fits.{Fits as IndexFits};
+ghost use Rattle.search_machine.specs.Legal.{Legal, IsStraight};
+ghost use Rattle.query_core.specs.Questions.{search_over};
+
+use crate::drain_part::drain_part;
+use crate::fill_part::fill_part;
+use crate::opening::open_team;
+use crate::search::Search;
+use best_word::BestWord;
+use outside::{Gate, NoMemory};
+use query_core::{Outcome, Task, conclude, hire, limit_of, search_law};
+use series_core::Rows;
+use std::alloc::Global;
+use std::thread::Threads;
+use subtree_build::Index;
+
+/// The search for the answer by 1 to 64 workers over 1 to 64 queues, each worker in a thread of its own; a worker alone starts
+/// none. Whatever the order of their steps, the outcome is legal and straight, and its pairs are the answer: the k nearest rows.
+/// It waits for nobody and returns; want of memory is its one refusal, and no memory is taken while workers take turns. Before
+/// each turn comes `gate.pass(worker, turn)`, with turns counted from 0 over both parts.
+pub fn nearest_sealed<T: Threads + Sync, R: Rows + Sync, G: Gate + Sync>(
+    rt: &T,
+    alloc: Global,
+    task: &Task<'_, R>,
+    index: &Index,
+    workers: u32,
+    queues: u32,
+    gate: &G,
+) -> Result<Outcome, NoMemory>
+    requires fits { IndexFits task.now.collection task.now.layout index.now }
+    requires workers { (1 ≤ workers) × (workers ≤ 64) }
+    requires queues { (1 ≤ queues) × (queues ≤ 64) }
+    ensures legal { IfOk result (λ o. Legal (search_over task.now index.now workers queues) o) }
+    ensures straight { IfOk result IsStraight }
+    ensures answer { IfOk result (λ o. o.pairs ≡ answer task.now.collection task.now.query task.now.k) }
+{
+    search_law(task, index);
+    let (start, list) = task.opening(alloc, index)?;
+    let (word, seen) = BestWord::begin(alloc, task, limit_of(start), workers)?;
+    let hired = hire(alloc, task, index, workers, queues, start, list)?;
+    let team = open_team(alloc, hired, seen, index.leaf_count())?;
+    let search = Search {
+        task,
+        index,
+        queues,
+    };
+    let filled = fill_part(rt, alloc, gate, &search, &word, team)?;
+    let (ended, lines) = drain_part(rt, alloc, gate, &search, &word, filled)?;
+    conclude(alloc, task, index, start, &ended, lines)
+}

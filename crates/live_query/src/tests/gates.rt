@@ -1,0 +1,96 @@
+//! Gates that watch the workers: each worker's turns are counted without a gap over both parts, and two workers come to their
+//! first turn side by side.
+use crate::nearest_sealed;
+use breakpoints::Table;
+use isax_word::Layout;
+use outside::{Gate, NoGate};
+use query_core::Task;
+use segment_sums::Cuts;
+use series_core::Flat;
+use std::sync::atomic::{AtomicU64, Ordering};
+use std::test::*;
+use subtree_build::{Settings, build};
+
+/// How often one hold looks for the other worker.
+const LOOKS: u32 = 1_000_000_000;
+
+/// A gate of two workers that counts the turns of each, and holds each at its first turn until the other has come.
+#[derive(Drop)]
+struct Meeting {
+    turns: [AtomicU64; 2],
+    gaps: AtomicU64,
+    ran_out: AtomicU64,
+}
+
+impl Meeting {
+    fn of_two() -> Meeting {
+        Meeting {
+            turns: [AtomicU64::new(0), AtomicU64::new(0)],
+            gaps: AtomicU64::new(0),
+            ran_out: AtomicU64::new(0),
+        }
+    }
+
+    fn taken(&self, worker: usize) -> u64 {
+        match self.turns.get(worker) {
+            Some(turns) => turns.load(Ordering::SeqCst),
+            None => 0,
+        }
+    }
+}
+
+impl Gate for Meeting {
+    fn pass(&self, worker: u32, turn: u64) {
+        let worker = worker as usize;
+        let Some(turns) = self.turns.get(worker) else {
+            self.gaps.fetch_add(1, Ordering::SeqCst);
+            return;
+        };
+        if turns.fetch_add(1, Ordering::SeqCst) != turn {
+            self.gaps.fetch_add(1, Ordering::SeqCst);
+        }
+        if turn > 0 || worker > 1 {
+            return;
+        }
+        for _look in 0..LOOKS {
+            if self.taken(1 - worker) > 0 {
+                return;
+            }
+        }
+        self.ran_out.fetch_add(1, Ordering::SeqCst);
+    }
+}
+
+#[test]
+fn two_workers_come_side_by_side_and_count_their_turns(rt: HostRuntime) -> Result<(), Fail> {
+    let alloc = rt.alloc();
+    let rows = Flat::from_values(2, [0, 0, 0, 20000, 300, 0].to_vec(alloc)?);
+    let layout = Layout {
+        cuts: Cuts::new(2, 2),
+        table: Table::Flat,
+    };
+    let settings = Settings {
+        layout,
+        leaf_size: 1,
+    };
+    let index = build(&rt, alloc, &rows, &settings, 1, &NoGate)?;
+    let query = [0, 0];
+    let task = Task::new(&rows, &query, 3, &layout);
+    let gate = Meeting::of_two();
+    let outcome = nearest_sealed(&rt, alloc, &task, &index, 2, 2, &gate)?;
+    assert_eq!(rt; outcome.pairs.items.len(), 3);
+    assert_eq!(rt;
+        gate.ran_out.load(Ordering::SeqCst),
+        0,
+        "each worker waited for the other"
+    );
+    assert_eq!(rt;
+        gate.gaps.load(Ordering::SeqCst),
+        0,
+        "no turn was left out or counted twice"
+    );
+    // each claims at the least once, and reads and pops once for each queue
+    assert!(rt; gate.taken(0) >= 5, "worker 0 took {} turns", gate.taken(0));
+    assert!(rt; gate.taken(1) >= 5, "worker 1 took {} turns", gate.taken(1));
+    Ok(())
+}
