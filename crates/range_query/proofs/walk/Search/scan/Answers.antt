@@ -1,8 +1,4 @@
 -- Each member of the leaf is that of a series, and has its means.
-use Rattle.std.proofs.Common.{◌∙◌, sym, ap}
-use Rattle.subtree_build.specs.Means.{all_means}
-use Rattle.subtree_build.proofs.Meaning.{means_of_leaf, means_of_one}
-use Rattle.range_query.specs.Searches.{asked_of}
 use Rattle.range_query.proofs.Scanning.{number_is_series}
 use Rattle.range_query.proofs.walk.Search.scan.Goals as goal
 
