@@ -4,7 +4,11 @@
 use Rattle.std.proofs.Common.{◌≡◌, ℕ, ◌+◌, ◌-◌, ◌<◌, List, [], ◌∷◌, ◌++◌, length, take, drop, map, get_or, refl, sym, ap, ◌∙◌, subst, arith, All}
 use Rattle.std.proofs.lemmas.List.{take-append-drop, take-map, drop-map, map-append, take_more, length-drop, get_or-map}
 use Rattle.std.proofs.lemmas.List.Elements.{All-nil, All-append, All-head, All-tail}
+use Rattle.std.specs.Prelude.{ℤ, Some, slice_get}
+use Rattle.std.proofs.lemmas.Option.{get_or_from_slice_get}
 use Rattle.series_core.specs.Collection.{Collection}
+use Rattle.segment_sums.specs.Division.{Division}
+use Rattle.mean_bound.specs.Means.{row_means}
 use Rattle.isax_word.specs.declared.layout.Layout.{Layout}
 use Rattle.isax_word.specs.declared.member.Member.{Member}
 use Rattle.subtree_build.specs.declared.leaf.GrownLeaf.{GrownLeaf}
@@ -76,3 +80,25 @@ means_of_one c layout members means i m own d are inside item is =
     ∙ ap (λ (ms : List (List ℕ)). get_or ms i d) are
     ∙ get_or-map (means_of c layout) members i m d inside
     ∙ ap (means_of c layout) (sym item)
+
+-- the means of one row more stand behind the others
+pub rows_push : (cuts : Division) (rows : List (List ℤ)) (i : ℕ) (row : List ℤ) (means : List (List ℕ)) (more : List ℕ)
+    → i < length rows → slice_get rows i ≡ Some row → means ≡ map (row_means cuts) (take i rows)
+    → more ≡ row_means cuts row → means ++ more ∷ [] ≡ map (row_means cuts) (take (i + 1) rows)
+rows_push cuts rows i row means more inside lent are is =
+    let f = row_means cuts in
+    let item : row ≡ get_or rows i row = sym (get_or_from_slice_get rows i row row lent) in
+    ap (λ (ms : List (List ℕ)). ms ++ more ∷ []) are
+    ∙ ap (λ (x : List ℕ). map f (take i rows) ++ x ∷ []) is
+    ∙ sym (map-append f (take i rows) (row ∷ []))
+    ∙ ap (λ (x : List ℤ). map f (take i rows ++ x ∷ [])) item
+    ∙ ap (map f) (sym (take_more rows i row inside))
+
+-- the means of a member stand at its number in the table of all rows
+pub mean_in_table : (c : Collection) (layout : Layout) (m : Member) (table : List (List ℕ)) (own : List ℕ)
+    → m.number < length c.series → table ≡ map (row_means layout.cuts) c.series → own ≡ get_or table m.number own
+    → own ≡ means_of c layout m
+mean_in_table c layout m table own low are is =
+    is
+    ∙ ap (λ (ms : List (List ℕ)). get_or ms m.number own) are
+    ∙ get_or-map (row_means layout.cuts) c.series m.number [] own low
