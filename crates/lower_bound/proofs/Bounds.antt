@@ -47,7 +47,7 @@ part_below_distance t l p xs qs is some long_x long_q contained =
     ≤ n * squared_distance xs qs) long_x square)
 
 -- what is left of two rows is a segment of each and what is left behind it
-rest_splits : (d : Division) (x q : List ℤ) (j : ℕ) → IsDivision d → length x ≡ d.row_length
+pub rest_splits : (d : Division) (x q : List ℤ) (j : ℕ) → IsDivision d → length x ≡ d.row_length
     → length q ≡ d.row_length
     → j < d.segments
     → squared_distance (drop (cut_place d j) x) (drop (cut_place d j) q)

@@ -1,5 +1,5 @@
 -- What one member makes of a list: one whose distance is above the limit or above the k-th pair leaves it (`meet_far`),
--- as one whose word's bound is (`meet_above`), and any other is added (`meet_near`); so members are scanned one by one
+-- as one whose bound by its means is (`meet_above`), and any other is added (`meet_near`); so members are scanned one by one
 -- (`scan_more`).
 use Rattle.std.proofs.Common.{◌≡◌, ℕ, zero, suc, ◌-◌, ◌<◌, ◌≤◌, ℤ, List, [], ◌∷◌, ◌++◌, ◌+◌, length, min, take, get_or, refl, sym, ap, ◌∙◌, subst, arith}
 use Rattle.std.specs.Prelude.{Some, slice_get, nat_le}
@@ -12,15 +12,14 @@ use Rattle.series_core.specs.Distance.{squared_distance}
 use Rattle.series_core.specs.Order.{distance_at}
 use Rattle.series_core.specs.Pairs.{smallest}
 use Rattle.series_core.specs.declared.pair.Pair.{Pair}
-use Rattle.isax_word.specs.FullWord.{full_word}
-use Rattle.lower_bound.proofs.Bounds.{full_bound_below_distance}
-use Rattle.lower_bound.specs.Bound.{view_of, word_bound, eight_bit_word}
+use Rattle.mean_bound.proofs.BelowDistances.{mean_bound_below}
+use Rattle.mean_bound.specs.MeanBound.{mean_bound, mean_view_of}
 use Rattle.isax_word.specs.declared.member.Member.{Member}
-use Rattle.subtree_build.proofs.Bounds.{length-full_word}
 use Rattle.subtree_build.specs.Index.{IndexParts}
+use Rattle.subtree_build.specs.Means.{means_of}
 use Rattle.subtree_build.specs.Members.{numbers_of, series_at}
 use Rattle.search_machine.specs.Ground.{pair_of, scan, scan_one}
-use Rattle.query_core.specs.Questions.{Question, IsQuestion, IsMemberOf, search_over, view_in}
+use Rattle.query_core.specs.Questions.{Question, IsQuestion, IsMemberOf, search_over}
 use Rattle.query_core.proofs.OfIndex.{distance_small}
 use Rattle.search_machine.proofs.ScanSteps.{passed_over, scan_next}
 
@@ -42,23 +41,6 @@ pub record MayAdd (a : Question) (best : Best) (limit most : ℕ) : Type 0 where
   pub wanted : best.k ≡ a.k
   pub most_is : most ≡ min limit (distance_at (best.k - 1) best.pairs)
 
--- what is known where the most that a distance may be is worked out
-pub may_add : (a : Question) (best : Best) (limit most far worst : ℕ) → IsQuestion a → IsBest best
-    → best.k ≡ a.k → far ≡ limit → worst ≡ distance_at (best.k - 1) best.pairs → most ≡ min far worst
-    → MayAdd a best limit most
-may_add a best limit most far worst question is_best wanted far_is worst_is most_is = record {
-  question = question;
-  is_best = is_best;
-  wanted = wanted;
-  most_is = omega arith;
-}
-
--- a member's full word has a symbol a segment
-pub full_is_long : (a : Question) (m : Member) → IsMemberOf a m → length m.full ≡ a.layout.cuts.segments
-full_is_long a m member =
-    ap (λ (f : List ℕ). length f) member.word
-    ∙ length-full_word a.layout (series_at a.collection m.number)
-
 module _ (a : Question) (m : Member) (best : Best) (limit most : ℕ) (member : IsMemberOf a m)
     (may : MayAdd a best limit most) where
   -- a member that is farther is passed over
@@ -75,19 +57,18 @@ module _ (a : Question) (m : Member) (best : Best) (limit most : ℕ) (member : 
       (omega (arith, far, may.most_is, leb-true (far_is a m.number) limit within)))))
       (λ _. refl)
 
-  -- and so is one whose word's bound is above
-  pub meet_above : most < word_bound (view_in a) (eight_bit_word m.full)
+  -- and so is one whose bound by its means is above
+  pub meet_above : (means : List ℕ) → means ≡ means_of a.collection a.layout m
+      → most < mean_bound (mean_view_of a.layout.cuts a.query) means
       → (ix : IndexParts) (workers queues : ℕ)
       → best.pairs ≡ scan_one (search_over a ix workers queues) limit m.number best.pairs
-  meet_above above =
+  meet_above means own above =
       let is = may.question in
       let series = series_at a.collection m.number in
-      let long : length series ≡ a.layout.cuts.row_length =
-      (is.collection.each m.number [] member.series).points ∙ is.points in
-      let below = full_bound_below_distance a.layout series a.query is.cuts long is.query in
-      let same : word_bound (view_in a) (eight_bit_word m.full)
-      ≡ word_bound (view_of a.layout a.query) (eight_bit_word (full_word a.layout series)) =
-      ap (λ f. word_bound (view_in a) (eight_bit_word f)) member.word in
+      let whole = is.collection.each m.number [] member.series in
+      let long : length series ≡ a.layout.cuts.row_length = whole.points ∙ is.points in
+      let below = mean_bound_below a.layout.cuts series a.query is.cuts long is.query whole.values is.values in
+      let same = ap (mean_bound (mean_view_of a.layout.cuts a.query)) own in
       meet_far (omega arith)
 
   -- any other is added

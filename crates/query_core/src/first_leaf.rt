@@ -30,7 +30,8 @@ impl<'a, R: Rows> Task<'a, R> {
         let Some(leaf) = index.start_leaf(self.view()) else {
             return Ok((None, list));
         };
-        self.scan(index.leaf_members(leaf), NONE, &mut list);
+        let members = index.leaf_members(leaf);
+        self.scan(members, index.leaf_means(leaf), NONE, &mut list);
         let limit = distance_of_worst(&list);
         Ok((Some(Start { leaf, limit }), list))
     }

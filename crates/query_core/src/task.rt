@@ -1,10 +1,12 @@
 //! The task of a search: which rows are searched, for what query, and how many pairs are wanted.
 ghost use Rattle.std.specs.Prelude.{◌≡◌, ◌<◌, ◌≤◌, length};
+ghost use Rattle.mean_bound.specs.MeanBound.{mean_view_of};
 ghost use Rattle.query_core.specs.Questions.{IsQuestion, view_in, last_of};
 
 use best_word::Floor;
 use isax_word::Layout;
 use lower_bound::QueryView;
+use mean_bound::MeanView;
 use series_core::{MAX_BEST, Rows, values_fit};
 use std::marker::Model;
 
@@ -15,12 +17,14 @@ pub struct Task<'a, R: Rows> {
     pub(crate) query: &'a [i16],
     k: u32,
     view: QueryView,
+    means: MeanView,
 }
 
 impl<'a, R: Rows> Model for Task<'a, R> {
     ghost use Rattle.std.specs.Prelude.{◌≡◌};
     ghost use Rattle.query_core.specs.Questions.{Question, IsQuestion};
     ghost use Rattle.lower_bound.specs.Bound.{view_of};
+    ghost use Rattle.mean_bound.specs.MeanBound.{mean_view_of};
 
     ghost Value = { Question };
 
@@ -36,7 +40,7 @@ impl<'a, R: Rows> Model for Task<'a, R> {
       query = t.query.now;
       k = t.k;
       layout = t.view.layout;
-    }) × (t.view ≡ view_of t.view.layout t.query.now) };
+    }) × (t.view ≡ view_of t.view.layout t.query.now) × (t.means ≡ mean_view_of t.view.layout.cuts t.query.now) };
 }
 
 /// The distance of the last pair of the answer, or `NONE` where there are fewer than k series: no limit falls below it.
@@ -67,6 +71,7 @@ impl<'a, R: Rows> Task<'a, R> {
             query,
             k,
             view: QueryView::new(layout, query),
+            means: MeanView::new(&layout.cuts, query),
         }
     }
 
@@ -76,6 +81,14 @@ impl<'a, R: Rows> Task<'a, R> {
         ensures question { IsQuestion self.now }
     {
         self.k
+    }
+
+    /// The query as bounds by means see it.
+    pub(crate) fn means(&self) -> &MeanView
+        ensures means { result.now ≡ mean_view_of self.now.layout.cuts self.now.query }
+        ensures question { IsQuestion self.now }
+    {
+        &self.means
     }
 
     /// The query as bounds see it.

@@ -216,8 +216,9 @@ impl<'a, R: Rows> Worker<'a, R> {
         ensures scanned { (workers : ℕ) (m : Shown) → Shows self.old m
             → Shows self.new (scanned_by (search_of self.old workers) m leaf limit next) }
     {
-        self.task
-            .scan(self.index.leaf_members(leaf), limit, &mut self.list);
+        let members = self.index.leaf_members(leaf);
+        let means = self.index.leaf_means(leaf);
+        self.task.scan(members, means, limit, &mut self.list);
         self.marks[leaf as usize] = true;
         self.stage = Stage::after_scan(distance_of_worst(&self.list), limit, next);
     }

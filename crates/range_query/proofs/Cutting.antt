@@ -1,4 +1,4 @@
--- What a bound above the radius rules out: of a member's word that member (`far_member`), of a leaf's all of it (`far_leaf`),
+-- What a bound above the radius rules out: of a member's means that member (`far_member`), of a leaf's all of it (`far_leaf`),
 -- and of a root child's all below it (`far_root`).
 use Rattle.std.proofs.Common.{append-nil, ◌≡◌, ℕ, ℤ, ◌<◌, ◌≤◌, List, [], ◌∷◌, ◌++◌, All, Some, length, refl, sym, ap, ◌∙◌, subst, true, false, arith}
 use Rattle.std.specs.Prelude.{slice_get, slice_index}
@@ -9,11 +9,13 @@ use Rattle.std.proofs.lemmas.Option.{get_or_from_slice_get}
 use Rattle.series_core.specs.Distance.{squared_distance}
 use Rattle.series_core.specs.declared.pair.Pair.{Pair}
 use Rattle.isax_word.specs.declared.word.Part.{Part}
-use Rattle.isax_word.specs.FullWord.{full_word}
 use Rattle.isax_word.specs.Word.{IsPart, IsWord, child_word}
 use Rattle.isax_word.proofs.Words.{IsWord-child_word}
-use Rattle.lower_bound.specs.Bound.{View, view_of, word_bound, eight_bit_word}
-use Rattle.lower_bound.proofs.Bounds.{child_bound, full_bound_below_distance}
+use Rattle.lower_bound.specs.Bound.{View, view_of, word_bound}
+use Rattle.lower_bound.proofs.Bounds.{child_bound}
+use Rattle.mean_bound.proofs.BelowDistances.{mean_bound_below}
+use Rattle.mean_bound.specs.Means.{row_means}
+use Rattle.mean_bound.specs.MeanBound.{mean_bound, mean_view_of}
 use Rattle.isax_word.specs.declared.member.Member.{Member}
 use Rattle.subtree_build.specs.Tree.{Tree, absent, leaf, split, leaves_of}
 use Rattle.subtree_build.specs.Index.{IndexParts, StandsUnder, leaf_at, root_word_at}
@@ -66,19 +68,16 @@ module _ (a : Asked) (ix : IndexParts) (view : View) (is : IsAsked a ix view) wh
       ap (λ (xs : List ℤ). length xs) (sym (series_is_row a i row there))
       ∙ (is.collection.each i [] low).points ∙ is.points ∙ sym is.query
 
-  -- a member whose word's bound is above the radius is not near
-  pub far_member : (i : ℕ) (full : List ℕ) → i < length a.collection.series
-      → full ≡ full_word view.layout (series_at a.collection i)
-      → a.radius < word_bound view (eight_bit_word full) → near_series a i ≡ []
-  far_member i full low word above =
+  -- a member whose bound by its means is above the radius is not near
+  pub far_member : (i : ℕ) (means : List ℕ) → i < length a.collection.series
+      → means ≡ row_means view.layout.cuts (series_at a.collection i)
+      → a.radius < mean_bound (mean_view_of view.layout.cuts a.query) means → near_series a i ≡ []
+  far_member i means low own above =
       let series = series_at a.collection i in
-      let long : length series ≡ view.layout.cuts.row_length =
-      (is.collection.each i [] low).points ∙ is.points in
-      let below = full_bound_below_distance view.layout series a.query is.cuts long is.query in
-      let same : word_bound view (eight_bit_word full)
-      ≡ word_bound (view_of view.layout a.query) (eight_bit_word (full_word view.layout series)) =
-      ap (λ v. word_bound v (eight_bit_word full)) is.of_query
-      ∙ ap (λ f. word_bound (view_of view.layout a.query) (eight_bit_word f)) word in
+      let whole = is.collection.each i [] low in
+      let long : length series ≡ view.layout.cuts.row_length = whole.points ∙ is.points in
+      let below = mean_bound_below view.layout.cuts series a.query is.cuts long is.query whole.values is.values in
+      let same = ap (mean_bound (mean_view_of view.layout.cuts a.query)) own in
       far_series a i (omega arith)
 
   -- below a node whose word's bound is above the radius nothing is near

@@ -1,6 +1,7 @@
 -- The pairs within a radius that the parts of an index hold: of a series, of members, of leaves, of root children.
-use Rattle.std.specs.Prelude.{◌≡◌, ℕ, ℤ, ◌+◌, ◌-◌, ◌*◌, ◌/◌, min, List, [], ◌∷◌, length, nat_le, if◌then◌else◌}
-use Rattle.std.specs.List.{flat_map, range_with_len}
+use Rattle.std.specs.Prelude.{◌≡◌, ℕ, ℤ, ◌+◌, ◌-◌, ◌*◌, ◌/◌, min, List, [], ◌∷◌, length, nat_le, if◌then◌else◌, FitsSigned}
+use Rattle.std.specs.List.{All, flat_map, range_with_len}
+use mir.Syntax.{w16}
 use Rattle.series_core.specs.Collection.{Collection, IsCollection}
 use Rattle.series_core.specs.Answer.{pair_of}
 use Rattle.series_core.specs.Distance.{squared_distance}
@@ -68,7 +69,7 @@ near_group a ix size g = flat_map (near_root a ix) (group_of size (length ix.roo
 abbrev pub near_drawn : Asked → IndexParts → ℕ → List ℕ → List Pair
 near_drawn a ix size draws = flat_map (near_group a ix size) draws
 
--- an index that fits the collection under the layout of a view of the query, all of one length
+-- an index that fits the collection under the layout of a view of the query, all of one length, and values of 16 bits
 pub record IsAsked (a : Asked) (ix : IndexParts) (view : View) : Type 0 where
   pub collection : IsCollection a.collection
   pub index : IsIndex ix
@@ -78,3 +79,4 @@ pub record IsAsked (a : Asked) (ix : IndexParts) (view : View) : Type 0 where
   pub query : length a.query ≡ view.layout.cuts.row_length
   pub of_query : view ≡ view_of view.layout a.query
   pub is_view : IsView view
+  pub values : All (FitsSigned w16) a.query

@@ -10,8 +10,9 @@ use crate::walk::Search;
 use claim_word::Claims;
 use isax_word::Layout;
 use lower_bound::QueryView;
+use mean_bound::MeanView;
 use outside::{Gate, NoMemory};
-use series_core::{Pair, Rows};
+use series_core::{Pair, Rows, values_fit};
 use std::alloc::Global;
 use std::thread::Threads;
 use subtree_build::Index;
@@ -39,10 +40,12 @@ pub fn within<T: Threads + Sync, R: Rows + Sync, G: Gate + Sync>(
     ensures { IfOk result (λ pairs. pairs.items ≡ within (R.collection rows.now) query.now radius) }
 {
     let view = QueryView::new(layout, query);
+    let means = MeanView::new(&layout.cuts, query);
     let search = Search {
         rows,
         index,
         view: &view,
+        means: &means,
         query,
         radius,
         size: group_size(index.root_count(), workers),
@@ -87,4 +90,5 @@ fn search_law<R: Rows>(rows: &R, index: &Index, view: &QueryView, query: &[i16],
     let _count = rows.count();
     let _roots = index.root_count();
     let _segments = view.segments();
+    values_fit(query);
 }

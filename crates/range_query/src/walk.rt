@@ -1,14 +1,14 @@
 //! The walk over one root child: it is cut where its bound is above the radius, and so is each leaf below it; the members of
-//! the leaves that remain are tested by their words' bounds and then by their distances.
+//! the leaves that remain are tested by the bounds of their means and then by their distances.
 ghost use Rattle.std.specs.Prelude.{◌≡◌, ◌<◌, ◌++◌, [], OnOk, length, true};
 ghost use Rattle.std.specs.Option.{option_to_list};
-ghost use Rattle.isax_word.specs.FullWord.{full_word};
-ghost use Rattle.subtree_build.specs.Members.{series_at};
+ghost use Rattle.subtree_build.specs.Means.{means_of};
 ghost use Rattle.range_query.specs.Searches.{IsReady, asked_of};
 ghost use Rattle.range_query.specs.Near.{near_series, near_leaf, near_root};
 
 use isax_word::Member;
 use lower_bound::QueryView;
+use mean_bound::{MeanView, Means};
 use outside::NoMemory;
 use series_core::{Pair, Rows};
 use simd_distance::distance_within;
@@ -21,6 +21,7 @@ pub(crate) struct Search<'a, R> {
     pub rows: &'a R,
     pub index: &'a Index,
     pub view: &'a QueryView,
+    pub means: &'a MeanView,
     pub query: &'a [i16],
     pub radius: u64,
     pub size: u32,
@@ -37,15 +38,14 @@ fn keep(found: &mut Vec<Pair>, pair: Option<Pair>) -> Result<(), NoMemory>
 }
 
 impl<'a, R: Rows> Search<'a, R> {
-    /// The member's pair, where it is within the radius.
-    fn near(&self, member: &Member) -> Option<Pair>
+    /// The pair of a member with these means, where it is within the radius.
+    fn near(&self, member: &Member, means: &Means) -> Option<Pair>
         requires ready { IsReady R.collection self.now }
         requires number { member.now.number < length (R.collection self.now.rows.now).series }
-        requires word { member.now.full
-            ≡ full_word self.now.view.now.layout (series_at (R.collection self.now.rows.now) member.now.number) }
+        requires means { means.now ≡ means_of (R.collection self.now.rows.now) self.now.view.now.layout member.now }
         ensures { option_to_list result ≡ near_series (asked_of R.collection self.now) member.now.number }
     {
-        if self.view.bound_full(&member.full) > self.radius {
+        if self.means.bound(means) > self.radius {
             return None;
         }
         let number = member.number;
@@ -77,8 +77,10 @@ impl<'a, R: Rows> Search<'a, R> {
         if self.is_cut(leaf) {
             return Ok(());
         }
-        for member in self.index.leaf_members(leaf) {
-            keep(found, self.near(member))?;
+        let members = self.index.leaf_members(leaf);
+        let means = self.index.leaf_means(leaf);
+        for i in 0..members.len() {
+            keep(found, self.near(&members[i], &means[i]))?;
         }
         Ok(())
     }

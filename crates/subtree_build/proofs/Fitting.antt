@@ -15,12 +15,13 @@ use Rattle.subtree_build.specs.declared.leaf.TreeLeaf.{TreeLeaf}
 use Rattle.subtree_build.specs.Tree.{Tree, leaves_of}
 use Rattle.subtree_build.specs.Division.{bits_left, roots_of, root_child, tree, tree_leaves}
 use Rattle.subtree_build.specs.Index.{IndexParts}
+use Rattle.subtree_build.specs.Means.{leaf_means}
 use Rattle.subtree_build.specs.Fits.{IsTreeOf, Fits, times_in, HasItsWord, MembersAreSeries, WordContainsMembers}
 use Rattle.subtree_build.proofs.ByNumber.{times_numbers}
 use Rattle.subtree_build.proofs.Partition.{total_in, total_divided, all_divided, total_by_roots}
 use Rattle.subtree_build.proofs.RootNumbers.{root_once}
 use Rattle.subtree_build.proofs.Contained.{divided_contains}
-use Rattle.subtree_build.proofs.OfCollection.{times_of_all, own_word, root_fits, root_contains_all}
+use Rattle.subtree_build.proofs.OfCollection.{times_of_all, own_word, own_number, IsReal, root_fits, root_contains_all}
 
 -- a total over lists put together is the total of their totals
 pub total_flat_map : {X Y : Type 0} (f : Y → ℕ) (h : X → List Y) (xs : List X)
@@ -93,6 +94,19 @@ own_in_tree c layout size =
     (All-filter (has_root root) (HasItsWord c layout) (members_of layout c) (own_word c layout)))
     (roots_of c layout))
 
+-- the number of each member of the tree's leaves is that of a series
+pub real_in_tree : (c : Collection) (layout : Layout) (size : ℕ)
+    → All (λ (x : TreeLeaf). All (IsReal c) x.members) (tree_leaves c layout size)
+real_in_tree c layout size =
+    let Real : TreeLeaf → Type 0 = λ x. All (IsReal c) x.members in
+    let P : List TreeLeaf → Type 0 = λ leaves. All Real leaves in
+    subst P (sym (leaves_by_roots c layout size))
+    (all_flat_map Real (λ root. leaves_of (root_child c layout size root))
+    (λ root. all_divided (IsReal c) size (bits_left (one_bit_word root layout.cuts.segments))
+    (one_bit_word root layout.cuts.segments) (of_root (members_of layout c) root)
+    (All-filter (has_root root) (IsReal c) (members_of layout c) (own_number c layout)))
+    (roots_of c layout))
+
 -- the word of each of the tree's leaves contains its members
 contained_in_tree : (c : Collection) (layout : Layout) (size : ℕ) → IsDivision layout.cuts
     → All WordContainsMembers (tree_leaves c layout size)
@@ -107,8 +121,8 @@ contained_in_tree c layout size is =
 
 -- an index that is the tree of a collection fits it
 pub tree_fits : (c : Collection) (layout : Layout) (size : ℕ) (ix : IndexParts) → IsDivision layout.cuts
-    → IsTreeOf c layout size ix → Fits c layout ix
-tree_fits c layout size ix is tree_is =
+    → IsTreeOf c layout size ix → ix.means ≡ map (leaf_means c layout) ix.leaves → Fits c layout ix
+tree_fits c layout size ix is tree_is means =
     let P : List TreeLeaf → Type 0 = λ leaves. All (MembersAreSeries c layout) leaves in
     let Q : List TreeLeaf → Type 0 = λ leaves. All WordContainsMembers leaves in
     record {
@@ -116,4 +130,5 @@ tree_fits c layout size ix is tree_is =
       each_once = λ i. ap (total (times_in i)) tree_is.leaves ∙ once_in_tree c layout size i is;
       own_words = subst P (sym tree_is.leaves) (own_in_tree c layout size);
       contained = subst Q (sym tree_is.leaves) (contained_in_tree c layout size is);
+      own_means = means;
     }

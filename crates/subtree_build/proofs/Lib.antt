@@ -22,6 +22,7 @@ pub mod OfCollection
 pub mod Fitting
 pub mod Indexing
 pub mod Placed
+pub mod Meaning
 pub mod Gathering
 pub mod Spliced
 pub mod Placing

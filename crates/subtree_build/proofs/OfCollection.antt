@@ -131,6 +131,23 @@ pub own_word : (c : Collection) (layout : Layout) → All (HasItsWord c layout) 
 own_word c layout =
     words_from c layout 0 c.series (λ k inside. ap (series_at c) (zero-add k))
 
+-- a member's number is that of a series
+abbrev pub IsReal : Collection → Member → Type 0
+IsReal c m = m.number < length c.series
+
+-- the members of rows from a number on have numbers below their end
+numbers_below : (layout : Layout) (i end : ℕ) (rows : List (List ℤ)) → i + length rows ≤ end
+    → All (λ (m : Member). m.number < end) (members_from layout i rows)
+numbers_below layout i end [] inside = All-nil _
+numbers_below layout i end (row ∷ rows) inside =
+    All-cons (λ (m : Member). m.number < end) (record { number = i; full = full_word layout row })
+    (members_from layout (i + 1) rows) (omega (arith, inside))
+    (numbers_below layout (i + 1) end rows (omega (arith, inside)))
+
+-- each member's number is that of a series
+pub own_number : (c : Collection) (layout : Layout) → All (IsReal c) (members_of layout c)
+own_number c layout = numbers_below layout 0 (length c.series) c.series (omega arith)
+
 -- what holds of the full word of each row holds of each member's
 full_from : (P : List ℕ → Type 0) (layout : Layout) → ((row : List ℤ) → P (full_word layout row))
     → (i : ℕ) (rows : List (List ℤ)) → All (λ (m : Member). P m.full) (members_from layout i rows)

@@ -167,7 +167,7 @@ few_members c layout size leaves members is kept are whole =
 
 -- an index with these root numbers, nodes and leaves at their places is the tree
 pub tree_is_seen : (c : Collection) (layout : Layout) (size segments : ℕ) (roots : List ℕ) (joined : Joined)
-    (places : List LeafPlace) → segments ≡ layout.cuts.segments → roots ≡ roots_of c layout
+    (places : List LeafPlace) (means : List (List (List ℕ))) → segments ≡ layout.cuts.segments → roots ≡ roots_of c layout
     → map outline joined.nodes.items ≡ all_numbered 0 (tree c layout size)
     → cut_leaves joined.leaves.items joined.members.items ≡ tree_leaves c layout size
     → places ≡ places_from 0 joined.leaves.items
@@ -176,8 +176,9 @@ pub tree_is_seen : (c : Collection) (layout : Layout) (size segments : ℕ) (roo
       roots = roots;
       nodes = joined.nodes.items;
       leaves = leaves_seen joined.members.items places;
+      means = means;
     })
-tree_is_seen c layout size segments roots joined places same roots_are nodes_are leaves_are at = record {
+tree_is_seen c layout size segments roots joined places means same roots_are nodes_are leaves_are at = record {
   segments = same;
   roots = roots_are;
   nodes = nodes_are;

@@ -6,6 +6,7 @@ pub mod Splitting
 pub mod Division
 pub mod Outline
 pub mod Index
+pub mod Means
 pub mod Fits
 pub mod Start
 pub mod Parts
@@ -21,6 +22,7 @@ pub use Rattle.isax_word.specs.FullWord
 pub use Rattle.isax_word.specs.Word
 pub use Rattle.lower_bound.specs.Gap
 pub use Rattle.lower_bound.specs.Bound
+pub use Rattle.mean_bound.specs.Means as RowMeans
 pub use Rattle.series_core.specs.Collection
 pub use Rattle.series_core.specs.Distance
 pub use Rattle.summary_phase.specs.Members as SeriesMembers

@@ -24,6 +24,10 @@ leaf_seen members p = leaf_with p.word (take (p.end - p.first) (drop p.first mem
 abbrev pub leaves_seen : List Member → List LeafPlace → List TreeLeaf
 leaves_seen members places = map (leaf_seen members) places
 
+-- the means of the members at places
+abbrev pub means_seen : List (List ℕ) → List LeafPlace → List (List (List ℕ))
+means_seen means places = map (λ p. take (p.end - p.first) (drop p.first means)) places
+
 -- a place lies among these members
 pub record IsPlace (members : List Member) (p : LeafPlace) : Type 0 where
   pub order : p.first ≤ p.end

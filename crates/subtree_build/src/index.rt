@@ -1,27 +1,30 @@
-//! The index: root children by root number, the nodes and the range of leaves below each, the leaves in order, and the
-//! members of all leaves in that order in one row.
+//! The index: root children by root number, the nodes and the range of leaves below each, the leaves in order, and in that
+//! order the members of all leaves in one row and their means in another.
 ghost use Rattle.std.specs.Prelude.{◌≡◌, ◌<◌, ◌^◌, IfOk, length, map, Some, slice_get, slice_index};
 ghost use Rattle.subtree_build.specs.Division.{roots_of, tree, tree_leaves};
 ghost use Rattle.subtree_build.specs.Fits.{Fits, IsTreeOf};
 ghost use Rattle.subtree_build.specs.Grown.{cut_leaves, members_in};
 ghost use Rattle.subtree_build.specs.Index.{IsIndex, leaf_at, root_word_at};
+ghost use Rattle.subtree_build.specs.Means.{means_at};
 ghost use Rattle.subtree_build.specs.Outline.{outline};
 ghost use Rattle.subtree_build.specs.Places.{tree_firsts, IsRange};
 ghost use Rattle.subtree_build.specs.Start.{node_at};
 ghost use Rattle.subtree_build.specs.Tree.{all_numbered};
 
 use crate::leaf::LeafPlace;
+use crate::means::means_of_all;
 use crate::node::Node;
 use crate::part::{Joined, placed};
 use crate::settings::Settings;
 use isax_word::Word;
+use mean_bound::Means;
 use outside::NoMemory;
 use series_core::Rows;
 use std::alloc::Global;
 use std::marker::Model;
 use summary_phase::Member;
 
-/// An iSAX tree over a collection, seen as its segments, root numbers, root children's nodes and leaves.
+/// An iSAX tree over a collection, seen as its segments, root numbers, root children's nodes, leaves and means.
 #[derive(Drop)]
 pub struct Index {
     segments: u32,
@@ -30,13 +33,15 @@ pub struct Index {
     firsts: Vec<u32>,
     leaves: Vec<LeafPlace>,
     members: Vec<Member>,
+    means: Vec<Means>,
 }
 
 impl Model for Index {
+    ghost use Rattle.std.specs.Prelude.{◌≡◌, length};
     ghost use Rattle.std.specs.Coded.{codes};
     ghost use Rattle.subtree_build.specs.contracts.node.Node as node;
     ghost use Rattle.subtree_build.specs.Index.{IndexParts, IsIndex};
-    ghost use Rattle.subtree_build.specs.Places.{leaves_seen, ArePlaces, AreRanges};
+    ghost use Rattle.subtree_build.specs.Places.{leaves_seen, means_seen, ArePlaces, AreRanges};
 
     ghost Value = { IndexParts };
 
@@ -47,6 +52,7 @@ impl Model for Index {
       roots = x.roots.items;
       nodes = x.nodes.items;
       leaves = leaves_seen x.members.items x.leaves.items;
+      means = means_seen x.means.items x.leaves.items;
     } };
 
     ghost invariant = { λ x. IsIndex (record {
@@ -54,8 +60,10 @@ impl Model for Index {
       roots = x.roots.items;
       nodes = x.nodes.items;
       leaves = leaves_seen x.members.items x.leaves.items;
+      means = means_seen x.means.items x.leaves.items;
     }) × ArePlaces x.members.items x.leaves.items
-        × AreRanges x.nodes.items x.firsts.items x.leaves.items };
+        × AreRanges x.nodes.items x.firsts.items x.leaves.items
+        × (length x.means.items ≡ length x.members.items) };
 }
 
 impl Index {
@@ -68,6 +76,7 @@ impl Index {
         roots: Vec<u32>,
         joined: Joined,
     ) -> Result<Index, NoMemory>
+        requires length { settings.now.layout.cuts.row_length ≡ (R.collection rows.now).points }
         requires roots { roots.items ≡ roots_of (R.collection rows.now) settings.now.layout }
         requires nodes { let trees = tree (R.collection rows.now) settings.now.layout settings.now.leaf_size in
             map outline joined.nodes.items ≡ all_numbered 0 trees }
@@ -88,6 +97,7 @@ impl Index {
         } = joined;
         let segments = settings.layout.cuts.segments();
         let leaves = placed(alloc, leaves.as_slice())?;
+        let means = means_of_all(alloc, rows, &settings.layout, members.as_slice())?;
         Ok(Index {
             segments,
             roots,
@@ -95,6 +105,7 @@ impl Index {
             firsts,
             leaves,
             members,
+            means,
         })
     }
 
@@ -165,6 +176,15 @@ impl Index {
     {
         let place = &self.leaves[l as usize];
         &self.members[place.first as usize..place.end as usize]
+    }
+
+    /// The means of the members of leaf number `l`, in the order of the members.
+    pub fn leaf_means(&self, l: u32) -> &[Means]
+        requires { l < length self.now.leaves }
+        ensures { result.now ≡ means_at self.now.means l }
+    {
+        let place = &self.leaves[l as usize];
+        &self.means[place.first as usize..place.end as usize]
     }
 
     /// How many segments the words have, from 1 to 16.

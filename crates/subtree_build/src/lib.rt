@@ -5,6 +5,7 @@ mod building;
 mod index;
 mod laws;
 mod leaf;
+mod means;
 mod node;
 mod part;
 mod phases;

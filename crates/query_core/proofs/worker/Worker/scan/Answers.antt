@@ -1,4 +1,5 @@
 use Rattle.std.proofs.Common.{◌≡◌, ◌<◌, false, length, refl, sym, subst, arith}
+use Rattle.subtree_build.proofs.Meaning.{means_of_leaf}
 use Rattle.query_core.specs.Questions.{view_in}
 use Rattle.query_core.specs.Working.{OnwardInRange, is_marked, phase_of}
 use Rattle.query_core.proofs.Homes.{leaf_is_members}
@@ -12,8 +13,17 @@ scan-requires-clause-members g c =
     let kept = c.self.invariant in
     let leaf : c.args.leaf < length inside.index.now.leaves =
     subst (λ w. c.args.leaf < length w.index.leaves) (sym c.self.view_is) c.requires.leaf in
-    rw c.leaf_members.ensures
+    rw c.leaf_members-members.ensures
     (leaf_is_members inside.task.now inside.index.now c.args.leaf kept.searched leaf)
+
+pub scan-requires-clause-means : goal.scan-requires-clause-means
+scan-requires-clause-means g c =
+    let inside = c.self.inside in
+    let kept = c.self.invariant in
+    let leaf : c.args.leaf < length inside.index.now.leaves =
+    subst (λ w. c.args.leaf < length w.index.leaves) (sym c.self.view_is) c.requires.leaf in
+    rw c.leaf_means-means.ensures
+    (rw c.leaf_members-members.ensures (means_of_leaf _ _ inside.index.now c.args.leaf kept.searched.fits leaf))
 
 pub invariant_of-self : goal.invariant_of-self
 invariant_of-self g c =
@@ -24,7 +34,7 @@ invariant_of-self g c =
     c.args.leaf c.args.limit c.self.invariant refl
     (subst (λ w. c.args.leaf < length w.index.leaves) back c.requires.leaf)
     (subst (λ w. is_marked w.marks c.args.leaf ≡ false) back c.requires.new)
-    c.scan.ensures.k (rw (← c.leaf_members.ensures) pairs)
+    c.scan.ensures.k (rw (← c.leaf_members-members.ensures) pairs)
     (c.after_scan-self-inside.ensures.range (view_in inside.task.now) inside.index.now inside.queues
     (subst (λ w. OnwardInRange w.queues c.args.next) back c.requires.next))
 
@@ -39,5 +49,5 @@ returns-clause-scanned g c workers m shows =
     scan_shown_as _ c.args.self.now workers m c.args.leaf c.args.limit c.args.next c.scan.new.list.pairs
     (phase_of c.after_scan-self-inside.result) c.scan.new.list.k c.distance_of_worst.result c.self.view_is shows
     (subst (λ n. c.args.leaf < n) (sym kept.marks) leaf) (omega (arith, c.ranges.limit))
-    (rw (← c.leaf_members.ensures) pairs) c.scan.ensures.k c.distance_of_worst.ensures
+    (rw (← c.leaf_members-members.ensures) pairs) c.scan.ensures.k c.distance_of_worst.ensures
     c.after_scan-self-inside.ensures.phase

@@ -1,8 +1,9 @@
+-- Each member of the leaf is that of a series, and has its means.
 use Rattle.range_query.proofs.Scanning.{number_is_series}
 use Rattle.range_query.proofs.walk.Search.scan.Goals as goal
 
 pub near-requires-clause-number : goal.near-requires-clause-number
 near-requires-clause-number g c =
-    number_is_series _ _ _ c.requires.ready c.args.leaf c.loop-member.member-index
-    c.leaf_members-member-items.result.now c.member-item.result c.requires.leaf
-    c.leaf_members-member-items.ensures c.loop-member-test.true c.member-item.is
+    number_is_series _ _ _ c.requires.ready.0 c.args.leaf c.loop-i.i
+    c.leaf_members-members.result.now c.index-members-i.result c.requires.leaf
+    c.leaf_members-members.ensures c.loop-i-test.true c.index-members-i.is

@@ -11,7 +11,7 @@ pub returns-then-root_bound-self : goal.returns-then-root_bound-self
 returns-then-root_bound-self g c =
     let found = c.args.found.now.items in
     sym (append-nil found)
-    ∙ ap (λ (l : List Pair). found ++ l) (sym (far_root _ _ _ c.requires.ready c.args.i c.requires.root (omega arith)))
+    ∙ ap (λ (l : List Pair). found ++ l) (sym (far_root _ _ _ c.requires.ready.0 c.args.i c.requires.root (omega arith)))
 
 pub loop-leaf-preserved : goal.loop-leaf-preserved
 loop-leaf-preserved g c =

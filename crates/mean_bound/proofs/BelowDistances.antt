@@ -1,0 +1,175 @@
+-- The law of bounds by means: the bound is at most the distance (`mean_bound_below`).
+use Rattle.std.proofs.Common.{◌≡◌, ℕ, zero, suc, ◌+◌, ◌-◌, ◌*◌, ◌/◌, ◌<◌, ◌≤◌, arith, refl, sym, subst, ◌∙◌, ◌⊎◌, inl, inr, ℤ, pos, neg_ℤ, ◌+ℤ◌, ◌-ℤ◌, ◌≤ℤ◌, List, ◌++◌, length, drop, map, replicate}
+use Rattle.std.specs.Prelude.{unsigned_abs, FitsSigned, max, min}
+use Rattle.std.specs.Int.{w16}
+use Rattle.std.specs.List.{All, range_with_len}
+use Rattle.std.proofs.lemmas.Int.{ints}
+use Rattle.std.proofs.lemmas.Bool.{cases_lt}
+use Rattle.std.proofs.lemmas.Nat.{mul-le, le-div}
+use Rattle.std.proofs.Math.Nat.{div-mul-le_self, lt-div-mul-add}
+use Rattle.series_core.specs.Distance.{squared_distance}
+use Rattle.segment_sums.specs.Division.{Division, IsDivision, cut_place, segment_length}
+use Rattle.segment_sums.specs.Sum.{segment_values, segment_sum}
+use Rattle.segment_sums.proofs.Places.{cut_place_first, cut_place_rises}
+use Rattle.segment_sums.proofs.Sums.{length-segment_values, segment_sum_within}
+use Rattle.lower_bound.proofs.Bounds.{rest_splits}
+use Rattle.lower_bound.proofs.Distances.{difference_of_sums}
+use Rattle.mean_bound.specs.Means.{raised_sum, segment_mean, row_means}
+use Rattle.mean_bound.specs.MeanBound.{low_mean, high_mean, least_length, squared_gaps, mean_bound, mean_view_of}
+
+-- a length times how far a mean lies below the least is at most how far the sum does
+below_gap : (l x q : ℕ) → 1 ≤ l → l * ((q + 1) / l - 1 - x / l) ≤ q - x
+below_gap l x q some = by_cases (cases_lt (x / l) ((q + 1) / l - 1))
+  where
+    -- the gap is the number of lengths from the mean on
+    by_parts : (m k : ℕ) → x < m * l + l → (m + k + 1) * l ≤ q + 1 → l * k ≤ q - x
+    by_parts m k low high = omega (arith, low, high)
+
+    by_cases : (x / l < (q + 1) / l - 1) ⊎ ((q + 1) / l - 1 ≤ x / l) → l * ((q + 1) / l - 1 - x / l) ≤ q - x
+    by_cases (inl low) =
+        let is : x / l + ((q + 1) / l - 1 - x / l) + 1 ≡ (q + 1) / l = omega (arith, low) in
+        by_parts (x / l) ((q + 1) / l - 1 - x / l) (lt-div-mul-add some)
+        (subst (λ n. n * l ≤ q + 1) (sym is) (div-mul-le_self (q + 1) l))
+    by_cases (inr high) =
+        let is : 0 ≡ (q + 1) / l - 1 - x / l = omega (arith, high) in
+        subst (λ n. l * n ≤ q - x) is (omega arith)
+
+-- and so for one that lies above the greatest
+above_gap : (l x q : ℕ) → 1 ≤ l → l * (x / l - (q + (l - 1)) / l) ≤ x - q
+above_gap l x q some = by_cases (cases_lt ((q + (l - 1)) / l) (x / l))
+  where
+    -- the gap is the number of lengths up to the mean
+    by_parts : (h k : ℕ) → q + (l - 1) < h * l + l → (h + k) * l ≤ x → l * k ≤ x - q
+    by_parts h k low high = omega (arith, low, high, some)
+
+    by_cases : ((q + (l - 1)) / l < x / l) ⊎ (x / l ≤ (q + (l - 1)) / l) → l * (x / l - (q + (l - 1)) / l) ≤ x - q
+    by_cases (inl low) =
+        let is : (q + (l - 1)) / l + (x / l - (q + (l - 1)) / l) ≡ x / l = omega (arith, low) in
+        by_parts ((q + (l - 1)) / l) (x / l - (q + (l - 1)) / l) (lt-div-mul-add some)
+        (subst (λ n. n * l ≤ x) (sym is) (div-mul-le_self x l))
+    by_cases (inr high) =
+        let is : 0 ≡ x / l - (q + (l - 1)) / l = omega (arith, high) in
+        subst (λ n. l * n ≤ x - q) is (omega arith)
+
+-- raised sums are as far from each other as the sums
+as_far : (x q : ℤ) (s a b : ℕ) → neg_ℤ (pos s) ≤ℤ x → neg_ℤ (pos s) ≤ℤ q
+    → a ≤ unsigned_abs (q +ℤ pos s) - unsigned_abs (x +ℤ pos s)
+    → b ≤ unsigned_abs (x +ℤ pos s) - unsigned_abs (q +ℤ pos s)
+    → max a b ≤ unsigned_abs (x -ℤ q)
+as_far x q s a b low_x low_q far_a far_b = omega (arith, ints, low_x, low_q, far_a, far_b)
+
+-- what is at most a length times a distance, where it is that length squared times a square, bounds the square by the
+-- distance
+cancelled : (l g d : ℕ) → 1 ≤ l → (l * g) * (l * g) ≤ l * d → l * (g * g) ≤ d
+cancelled l g d some below =
+    let same : l * (l * (g * g)) ≤ l * d = omega (arith, below) in
+    cancel l (l * (g * g)) d some same
+  where
+    cancel : (l a d : ℕ) → 1 ≤ l → l * a ≤ l * d → a ≤ d
+    cancel l a d some below = by_cases (cases_lt d a)
+      where
+        more : (k : ℕ) → l * (d + 1 + k) ≤ l * d → 1 ≤ 0
+        more k low = omega (arith, some, low)
+
+        by_cases : (d < a) ⊎ (a ≤ d) → a ≤ d
+        by_cases (inl less) =
+            let is : d + 1 + (a - (d + 1)) ≡ a = omega (arith, less) in
+            absurd (omega (arith, more (a - (d + 1)) (subst (λ n. l * n ≤ l * d) (sym is) below)))
+        by_cases (inr most) = most
+
+-- the greater of two gaps, cut at some number, times a length
+greater_gap : (l a b c d : ℕ) → l * a ≤ d → l * b ≤ d → l * min (max a b) c ≤ d
+greater_gap l a b c d one two = by_cases (cases_lt a b)
+  where
+    under : (k : ℕ) → k ≤ max a b → l * max a b ≤ d → l * k ≤ d
+    under k low most = omega (arith, mul-le l k l (max a b) (omega arith) low, most)
+
+    by_cases : (a < b) ⊎ (b ≤ a) → l * min (max a b) c ≤ d
+    by_cases (inl less) =
+        let is : b ≡ max a b = omega (arith, less) in
+        under (min (max a b) c) (omega arith) (subst (λ n. l * n ≤ d) is two)
+    by_cases (inr most) =
+        let is : a ≡ max a b = omega (arith, most) in
+        under (min (max a b) c) (omega arith) (subst (λ n. l * n ≤ d) is one)
+
+-- the least length is at most that of each segment
+least_is_least : (d : Division) (j : ℕ) → IsDivision d → least_length d ≤ segment_length d j
+least_is_least d j is =
+    let first = div-mul-le_self (j * d.row_length) d.segments in
+    let one = div-mul-le_self d.row_length d.segments in
+    let both : cut_place d j + least_length d ≤ cut_place d (j + 1)
+    = le-div (cut_place d j + least_length d) ((j + 1) * d.row_length) d.segments is.some_segments
+    (omega (arith, first, one)) in
+    omega (arith, both)
+
+-- the gap of segment j
+abbrev pub gap_at : Division → List ℤ → List ℤ → ℕ → ℕ
+gap_at d x q j =
+    min (max (low_mean d q j - segment_mean d x j) (segment_mean d x j - high_mean d q j)) 16383
+
+-- the least length times the square of a gap is at most the distance of the segments
+segment_below : (d : Division) (x q : List ℤ) (j : ℕ) → IsDivision d → length x ≡ d.row_length
+    → length q ≡ d.row_length → All (FitsSigned w16) x → All (FitsSigned w16) q → j < d.segments
+    → least_length d * (gap_at d x q j * gap_at d x q j)
+    ≤ squared_distance (segment_values d x j) (segment_values d q j)
+segment_below d x q j is whole_x whole_q fit_x fit_q used =
+    let l = segment_length d j in
+    let some : 1 ≤ l = omega (arith, cut_place_rises d j is) in
+    let low_x = (segment_sum_within d x j is whole_x fit_x used).0 in
+    let low_q = (segment_sum_within d q j is whole_q fit_q used).0 in
+    let far = unsigned_abs (segment_sum d x j -ℤ segment_sum d q j) in
+    let both : max (l * (low_mean d q j - segment_mean d x j)) (l * (segment_mean d x j - high_mean d q j)) ≤ far
+    = as_far (segment_sum d x j) (segment_sum d q j) (32768 * l) _ _ low_x low_q
+    (below_gap l (raised_sum d x j) (raised_sum d q j) some) (above_gap l (raised_sum d x j) (raised_sum d q j) some) in
+    let gap : l * gap_at d x q j ≤ far
+    = greater_gap l (low_mean d q j - segment_mean d x j) (segment_mean d x j - high_mean d q j) 16383 far
+    (omega (arith, both)) (omega (arith, both)) in
+    let long_x = length-segment_values d x j is whole_x used in
+    let same : length (segment_values d x j) ≡ length (segment_values d q j)
+    = long_x ∙ sym (length-segment_values d q j is whole_q used) in
+    let near = squared_distance (segment_values d x j) (segment_values d q j) in
+    let square = subst (λ n. (l * gap_at d x q j) * (l * gap_at d x q j) ≤ n * near) long_x
+    (difference_of_sums (l * gap_at d x q j) (segment_values d x j) (segment_values d q j) same gap) in
+    let own = cancelled l (gap_at d x q j) near some square in
+    let least = mul-le (least_length d) (gap_at d x q j * gap_at d x q j) l (gap_at d x q j * gap_at d x q j)
+    (least_is_least d j is) (omega arith) in
+    omega (arith, own, least)
+
+-- where there is no segment there is no gap
+none_behind : (n : ℕ) → squared_gaps (replicate n 0) (replicate n 0) (replicate n 0) ≡ 0
+none_behind zero = refl
+none_behind (suc n) = omega (arith, none_behind n)
+
+-- the gaps of the segments from one on, with zeros behind
+abbrev pub gaps_from : Division → List ℤ → List ℤ → ℕ → ℕ → ℕ → ℕ
+gaps_from d x q n j k =
+    squared_gaps (map (low_mean d q) (range_with_len j k) ++ replicate n 0)
+    (map (high_mean d q) (range_with_len j k) ++ replicate n 0)
+    (map (segment_mean d x) (range_with_len j k) ++ replicate n 0)
+
+-- the least length times their squares is at most the distance of what is left of the rows from there
+from_segment : (d : Division) (x q : List ℤ) (n j k : ℕ) → IsDivision d → length x ≡ d.row_length
+    → length q ≡ d.row_length → All (FitsSigned w16) x → All (FitsSigned w16) q → j + k ≡ d.segments
+    → least_length d * gaps_from d x q n j k ≤ squared_distance (drop (cut_place d j) x) (drop (cut_place d j) q)
+from_segment d x q n j zero is whole_x whole_q fit_x fit_q end =
+    subst (λ s. least_length d * s ≤ squared_distance (drop (cut_place d j) x) (drop (cut_place d j) q))
+    (sym (none_behind n)) (omega arith)
+from_segment d x q n j (suc k) is whole_x whole_q fit_x fit_q end =
+    let used : j < d.segments = omega (arith, end) in
+    let here = segment_below d x q j is whole_x whole_q fit_x fit_q used in
+    let behind = from_segment d x q n (j + 1) k is whole_x whole_q fit_x fit_q (omega (arith, end)) in
+    both (least_length d) (gap_at d x q j * gap_at d x q j) (gaps_from d x q n (j + 1) k) _ _ _ here behind
+    (rest_splits d x q j is whole_x whole_q used)
+  where
+    -- the bounds of two parts add up
+    both : (l a b e f g : ℕ) → l * a ≤ e → l * b ≤ f → g ≡ e + f → l * (a + b) ≤ g
+    both l a b e f g one two sum = omega (arith, one, two, sum)
+
+-- the bound of a series by its means is at most its distance
+pub mean_bound_below : (d : Division) (x q : List ℤ) → IsDivision d → length x ≡ d.row_length
+    → length q ≡ d.row_length → All (FitsSigned w16) x → All (FitsSigned w16) q
+    → mean_bound (mean_view_of d q) (row_means d x) ≤ squared_distance x q
+mean_bound_below d x q is whole_x whole_q fit_x fit_q =
+    subst (λ k. mean_bound (mean_view_of d q) (row_means d x) ≤ squared_distance (drop k x) (drop k q))
+    (cut_place_first d)
+    (from_segment d x q (16 - d.segments) 0 d.segments is whole_x whole_q fit_x fit_q (omega arith))

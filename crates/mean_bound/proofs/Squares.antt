@@ -1,0 +1,25 @@
+-- Squares of numbers of at most 16383 do not wrap in 32 bits (`squares_are`), and sixteen of them
+-- add up in 32 bits (`squares_small`).
+use Rattle.std.proofs.Common.{◌≡◌, ℕ, ◌*◌, ◌%◌, ◌≤◌, refl, arith, List, [], ◌∷◌, map, length}
+use Rattle.std.proofs.Math.Nat.{suc-mul, mul-le-mul}
+use Rattle.std.specs.Simd.Lanes.{zip2, sum_l, Each1}
+use Rattle.mean_bound.specs.MeanBound.{square}
+
+-- squares of small numbers do not wrap
+pub squares_are : (ns : List ℕ) → Each1 (λ n. n ≤ 16383) ns
+    → zip2 (λ a b. (a * b) % 4294967296) (map (λ n. n) ns) (map (λ n. n) ns) ≡ map square ns
+squares_are [] small = refl
+squares_are (n ∷ ns) small =
+    let fits : n * n ≤ 268402689 = mul-le-mul small.0 small.0 in
+    let first : (n * n) % 4294967296 ≡ n * n = omega (arith, fits) in
+    let rest = squares_are ns small.1 in
+    λ i. first i ∷ rest i
+
+-- the sum of their squares is small
+pub squares_small : (ns : List ℕ) → Each1 (λ n. n ≤ 16383) ns
+    → sum_l (map square ns) ≤ length ns * 268402689
+squares_small [] small = omega arith
+squares_small (n ∷ ns) small =
+    let fits : n * n ≤ 268402689 = mul-le-mul small.0 small.0 in
+    let rest = squares_small ns small.1 in
+    omega (arith, suc-mul (length ns) 268402689)

@@ -1,0 +1,66 @@
+//! The means of a series' segments, as they are stored. Values are raised by 32768, so that no mean is below 0; a mean is
+//! rounded down, and never up, since what is told of a series is that its sum is at least the mean times the length.
+ghost use Rattle.std.specs.Prelude.{◌≡◌, ◌*◌, ◌≤◌, pos, neg_ℤ, ◌+ℤ◌, ◌≤ℤ◌, length, unsigned_abs};
+ghost use Rattle.mean_bound.specs.Means.{of_segments, raised_sum, row_means, NoRaisedSumAbove};
+
+use segment_sums::Cuts;
+use std::marker::Model;
+
+/// The raised means of the segments of a series, seen as 16 numbers below 65536; those past the segments are 0.
+#[derive(Clone, Copy)]
+pub struct Means {
+    pub(crate) raised: [u16; 16],
+}
+
+impl Model for Means {
+    ghost use Rattle.std.specs.Prelude.{ℕ, List};
+
+    ghost Value = { List ℕ };
+
+    ghost view = { λ means. means.raised };
+
+    ghost inverse = { λ raised. record { raised = raised } };
+}
+
+impl Means {
+    /// The means of a row, whose length is that of the cuts.
+    pub fn of(cuts: &Cuts, row: &[i16]) -> Means
+        requires { length row.now ≡ cuts.now.row_length }
+        ensures { result ≡ row_means cuts.now row.now }
+    {
+        let sums = raised_sums(cuts, row);
+        let mut raised = [0; 16];
+        for j in 0..cuts.segments() {
+            let (from, to) = cuts.cut(j);
+            raised[j as usize] = (sums[j as usize] / (to - from)) as u16;
+        }
+        Means { raised }
+    }
+}
+
+/// The sums of a row's values, each raised by 32768, over each segment; the entries from the number of segments on are 0.
+pub(crate) fn raised_sums(cuts: &Cuts, row: &[i16]) -> [u32; 16]
+    requires { length row.now ≡ cuts.now.row_length }
+    ensures sums { result ≡ of_segments cuts.now (raised_sum cuts.now row.now) }
+    ensures limit { NoRaisedSumAbove cuts.now row.now cuts.now.segments }
+{
+    let mut sums = [0; 16];
+    cuts.sums(row, &mut sums);
+    let mut raised = [0; 16];
+    for j in 0..cuts.segments() {
+        let (from, to) = cuts.cut(j);
+        raised[j as usize] = raised_by(to - from, sums[j as usize]);
+    }
+    raised
+}
+
+/// The sum of so many values, each raised by 32768, from the sum of the values as they are.
+fn raised_by(length: u32, sum: i32) -> u32
+    requires few_values { length ≤ 65536 }
+    requires not_low { neg_ℤ (pos (32768 * length)) ≤ℤ sum }
+    requires not_high { sum ≤ℤ pos (32767 * length) }
+    ensures value { result ≡ unsigned_abs (sum +ℤ pos (32768 * length)) }
+    ensures limit { result ≤ 65535 * length }
+{
+    (i64::from(sum) + 32768 * i64::from(length)) as u32
+}

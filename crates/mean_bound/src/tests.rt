@@ -1,0 +1,117 @@
+//! Worked bounds by means, and bounds of scattered rows against a plain computation of the sums that a mean stands for.
+use crate::{MeanView, Means};
+use segment_sums::Cuts;
+use std::process::Abort;
+use std::test::Fail;
+
+/// The bound of a series by its means for a query, both of one length.
+fn bound(rt: &impl Abort, series: &[i16], query: &[i16], w: u32) -> u64 {
+    let n = series.len();
+    assert!(rt;
+        n == query.len() && 1 <= w && w <= 16 && w as usize <= n && n <= 65536,
+        "{w} segments of {n} values"
+    );
+    let cuts = Cuts::new(n as u32, w);
+    MeanView::new(&cuts, query).bound(&Means::of(&cuts, series))
+}
+
+#[test]
+fn worked_bounds(rt: HostRuntime) -> Result<(), Fail> {
+    let rows: [(&[i16], &[i16], u32, u64); 10] = [
+        (&[5], &[9], 1, 16),
+        (&[9], &[5], 1, 16),
+        (&[0; 4], &[1; 4], 2, 0),
+        (&[0; 4], &[3; 4], 2, 16),
+        (&[0; 5], &[10; 5], 2, 324),
+        (&[-10; 5], &[0; 5], 2, 324),
+        (&[-1, 0, 0, 0, -1], &[0; 5], 2, 0),
+        (&[7, 7, -7, -7], &[7, 7, -7, -7], 2, 0),
+        (&[-32768; 16], &[32767; 16], 16, 4294443024),
+        (&[32767; 16], &[-32768; 16], 16, 4294443024),
+    ];
+    for (series, query, w, expected) in rows {
+        assert_eq!(rt;
+            bound(&rt, series, query, w),
+            expected,
+            "{w} segments of {series:?} for {query:?}"
+        );
+    }
+    Ok(())
+}
+
+/// The whole number at or below a quotient, for a divisor above 0.
+fn floor(number: i64, by: i64) -> i64 {
+    if by <= 0 { 0 } else { number.div_euclid(by) }
+}
+
+/// How far a query's sum lies outside the sums that the mean of a series' sum stands for, in whole lengths.
+fn plain_gap(length: i64, sum: i64, query: i64) -> i64 {
+    let least = length.wrapping_mul(floor(sum, length));
+    let most = least.wrapping_add(length).wrapping_sub(1);
+    let outside = if query < least {
+        least.wrapping_sub(query)
+    } else if most < query {
+        query.wrapping_sub(most)
+    } else {
+        0
+    };
+    floor(outside, length).min(16383)
+}
+
+/// The bound, from the definition of a gap.
+fn plain_bound(series: &[i16], query: &[i16], w: usize) -> u64 {
+    let n = series.len();
+    if w == 0 {
+        return 0;
+    }
+    let mut squares = 0i64;
+    for j in 0..w {
+        let from = j.wrapping_mul(n) / w;
+        let to = j.wrapping_add(1).wrapping_mul(n) / w;
+        let mut sums = (0i64, 0i64);
+        for (value, asked) in series
+            .iter()
+            .zip(query)
+            .skip(from)
+            .take(to.wrapping_sub(from))
+        {
+            sums.0 = sums.0.wrapping_add(i64::from(*value));
+            sums.1 = sums.1.wrapping_add(i64::from(*asked));
+        }
+        let length = i64::try_from(to.wrapping_sub(from)).unwrap_or(0);
+        let gap = plain_gap(length, sums.0, sums.1);
+        squares = squares.wrapping_add(gap.wrapping_mul(gap));
+    }
+    (squares.unsigned_abs()).wrapping_mul((n / w) as u64)
+}
+
+/// Values scattered over so many bits.
+fn scattered(seed: u64, bits: u32) -> [i16; 100] {
+    let mut state = seed;
+    let mut values = [0; 100];
+    for value in &mut values {
+        state = state
+            .wrapping_mul(6364136223846793005)
+            .wrapping_add(1442695040888963407);
+        let drawn = ((state >> 48) as u16).cast_signed();
+        *value = drawn.wrapping_shr(16u32.wrapping_sub(bits));
+    }
+    values
+}
+
+#[test]
+fn bounds_are_those_of_the_sums(rt: HostRuntime) -> Result<(), Fail> {
+    for seed in 1..=40u64 {
+        let series = scattered(seed, 2 + (seed % 15) as u32);
+        let query = scattered(seed + 100, 16);
+        let n = 16 + 2 * seed as usize;
+        for w in 1..=16u32 {
+            assert_eq!(rt;
+                bound(&rt, &series[..n], &query[..n], w),
+                plain_bound(&series[..n], &query[..n], w as usize),
+                "{w} segments of {n} values from {seed}"
+            );
+        }
+    }
+    Ok(())
+}

@@ -1,0 +1,24 @@
+-- The means of members: those of their series' segments, member by member and leaf by leaf.
+use Rattle.std.specs.Prelude.{ℕ, List, [], map, slice_index_or}
+use Rattle.series_core.specs.Collection.{Collection}
+use Rattle.isax_word.specs.declared.layout.Layout.{Layout}
+use Rattle.isax_word.specs.declared.member.Member.{Member}
+use Rattle.mean_bound.specs.Means.{row_means}
+use Rattle.subtree_build.specs.declared.leaf.TreeLeaf.{TreeLeaf}
+use Rattle.subtree_build.specs.Members.{series_at}
+
+-- the means of a member's series
+abbrev pub means_of : Collection → Layout → Member → List ℕ
+means_of c layout m = row_means layout.cuts (series_at c m.number)
+
+-- the means of members, one after another
+abbrev pub all_means : Collection → Layout → List Member → List (List ℕ)
+all_means c layout members = map (means_of c layout) members
+
+-- the means of a leaf's members
+abbrev pub leaf_means : Collection → Layout → TreeLeaf → List (List ℕ)
+leaf_means c layout x = all_means c layout x.members
+
+-- the means that stand for leaf l
+abbrev pub means_at : List (List (List ℕ)) → ℕ → List (List ℕ)
+means_at means l = slice_index_or means l []
