@@ -14,3 +14,5 @@ pub mod Concluding
 pub mod Both
 pub mod Searching
 pub mod Converting
+pub mod Certifying
+pub mod Nearests
