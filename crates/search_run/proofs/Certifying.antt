@@ -1,5 +1,5 @@
 -- There is a certificate of each question that a tree can be searched for: the machine with one worker ends (`certificate_exists`).
-use Rattle.std.proofs.Common.{◌≡◌, ℕ, ◌<◌, ◌≤◌, List, refl, arith}
+use Rattle.std.proofs.Common.{ℕ, ◌<◌, List, refl, arith}
 use Rattle.std.specs.Prelude.{replicate}
 use Rattle.subtree_build.specs.Fits.{IsTreeOf}
 use Rattle.subtree_build.specs.Index.{IndexParts}

@@ -1,10 +1,9 @@
 -- How a command ends, from what it did: its clauses of completeness and of causes follow from `Concludes`.
-use Rattle.std.proofs.Common.{◌≡◌, ◌≢◌, ℕ, ◌++◌, List, length, inl, inr, refl, subst, arith, ⊎_elim, length-append}
-use Rattle.std.specs.Io.KnownBytes.{append_known}
+use Rattle.std.proofs.Common.{◌≢◌, ℕ, ◌++◌, List, inl, inr, refl, subst, arith, ⊎_elim, length-append}
 use Rattle.outside.specs.Sink.{AppendsPrefix}
 use Rattle.search_run.specs.Ends.{Answers, Asks, Concludes, ConcludesBy, Ends, Finishes, IsAnswered, IsFaultless, TellsCause, TellsFault, WroteNothing}
 use Rattle.search_run.specs.Commands.{CanAnswer, plan_of}
-use Rattle.search_run.specs.Plans.{CanPass, HasFault, Plan, Refuses, Writes}
+use Rattle.search_run.specs.Plans.{HasFault, Plan, Refuses}
 use Rattle.search_run.specs.Traffic.{Reading, Writing}
 use Rattle.command_words.specs.declared.command.Command.{Command}
 use Rattle.search_run.proofs.Exactly.{one_told, right_without}

@@ -1,7 +1,7 @@
 -- What is converted is read back as the same series with the labels that were written (`converts_back`).
-use Rattle.std.proofs.Common.{◌≡◌, ℕ, ◌≤◌, List, length, Option, None, Some, refl, sym, ap, ◌∙◌}
+use Rattle.std.proofs.Common.{ℕ, List, Option, None, Some, refl, sym, ap, ◌∙◌}
 use Rattle.std.proofs.lemmas.Option.{none-some}
-use Rattle.series_file.specs.Format.{HasForm, HasText, IsFile, numbers_of, text}
+use Rattle.series_file.specs.Format.{HasForm, HasText, IsFile}
 use Rattle.series_file.specs.declared.error.Form.{Form}
 use Rattle.series_file.specs.declared.error.Form.TheVariants.{Headed, Raw}
 use Rattle.series_file.specs.declared.error.Loaded.{Loaded}

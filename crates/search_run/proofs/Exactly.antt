@@ -1,5 +1,5 @@
 -- Where all steps can pass, a certificate has one fault at most (`one_told`), and none where a text is written.
-use Rattle.std.proofs.Common.{◌≡◌, ℕ, List, subst, sym, ap, ◌∙◌, ⊎_elim}
+use Rattle.std.proofs.Common.{◌≡◌, ℕ, List, subst, sym, ⊎_elim}
 use Rattle.std.specs.Prelude.{IsSome, IsSomeAnd}
 use Rattle.outside.specs.Files.{Held}
 use Rattle.std.proofs.Common.{Option}

@@ -1,12 +1,11 @@
 -- A named file that is held: it is not absent, its bytes pass the tests, and they stand for one thing (`one_loaded`).
-use Rattle.std.proofs.Common.{◌≡◌, ℕ, List, length, Option, None, Some, IfSome, ap, sym, ◌∙◌, subst}
+use Rattle.std.proofs.Common.{◌≡◌, ℕ, List, Option, None, Some, IfSome, ap, sym, ◌∙◌, subst}
 use Rattle.std.specs.Prelude.{IsSome, IsSomeAnd}
 use Rattle.std.proofs.lemmas.Bool.{false≢true}
 use Rattle.std.proofs.lemmas.Option.{none-some, same_Some}
 use Rattle.outside.specs.Files.{Held}
 use Rattle.series_core.specs.Collection.{Collection}
 use Rattle.series_file.specs.Faults.{fault}
-use Rattle.series_file.specs.Format.{IsFile}
 use Rattle.series_file.specs.declared.error.Form.{Form}
 use Rattle.series_file.specs.declared.error.FileError.{FileError}
 use Rattle.series_file.specs.declared.error.Loaded.{Loaded}

@@ -1,5 +1,5 @@
 -- Right pieces of `nearest`: there is one for each query (`plain_exists`, `certified_exists`).
-use Rattle.std.proofs.Common.{◌≡◌, ℕ, ◌++◌, List, refl, sym, subst, ◌∙◌, arith}
+use Rattle.std.proofs.Common.{ℕ, ◌++◌, List, refl, subst, ◌∙◌, arith}
 use Rattle.std.specs.Prelude.{ℤ}
 use Rattle.command_words.specs.Limits.{OptionsKeepLimits}
 use Rattle.command_words.specs.declared.options.Options.{Options}
@@ -8,10 +8,9 @@ use Rattle.series_core.specs.Collection.{IsCollection, IsSeries}
 use Rattle.series_core.specs.declared.pair.Pair.{Pair}
 use Rattle.series_file.specs.declared.error.Loaded.{Loaded}
 use Rattle.subtree_build.specs.declared.settings.Settings.{Settings}
-use Rattle.query_core.specs.Questions.{CanBeSearched, IsQuestion, Question}
+use Rattle.query_core.specs.Questions.{CanBeSearched, Question}
 use Rattle.certificate.specs.Printed.{IsCertificate}
 use Rattle.search_run.specs.Finding.{IsGround}
-use Rattle.search_run.specs.Layouts.{settings_of}
 use Rattle.search_run.specs.Nearests.{IsCertifiedPiece, question_of}
 use Rattle.search_run.specs.Texts.{IsAnswerPiece, query_text}
 use Rattle.search_run.proofs.Certifying.{certificate_exists}

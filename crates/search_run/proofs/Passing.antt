@@ -1,8 +1,7 @@
 -- Completeness: where all steps can pass, only a failed read, want of memory or a certificate refuses (`only_reading`).
-use Rattle.std.proofs.Common.{◌≡◌, ℕ, List, Option, None, Some, sym, ap, subst, arith, ⊎_elim}
+use Rattle.std.proofs.Common.{◌≡◌, ℕ, List, Option, None, Some, subst, arith, ⊎_elim}
 use Rattle.std.specs.Prelude.{IsSome, IsSomeAnd}
 use Rattle.outside.specs.Count.{Rose}
-use Rattle.outside.specs.Files.{Held}
 use Rattle.series_file.specs.declared.error.Form.{Form}
 use Rattle.series_file.specs.declared.error.Loaded.{Loaded}
 use Rattle.search_run.specs.Certificates.{IsFault, RefusesCertificate, Subject}

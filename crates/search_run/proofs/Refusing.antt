@@ -1,6 +1,6 @@
 -- What the statuses of refusals are: a status of words or of written text refuses no step (`refuses_for_cause`), and
 -- a certificate is told to be invalid only for a fault that it has (`invalid_has_fault`).
-use Rattle.std.proofs.Common.{◌≡◌, ℕ, List, Option, None, Some, inl, inr, ⊎_elim}
+use Rattle.std.proofs.Common.{ℕ, List, Option, None, Some, inl, inr, ⊎_elim}
 use Rattle.series_file.specs.declared.error.Form.{Form}
 use Rattle.search_run.specs.Certificates.{IsFault, RefusesCertificate, Subject}
 use Rattle.search_run.specs.Ends.{TellsCause}

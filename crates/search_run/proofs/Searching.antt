@@ -1,5 +1,5 @@
 -- A search whose pieces are made call by call ends as one whose pieces have what is found (`search_concludes`).
-use Rattle.std.proofs.Common.{◌≡◌, ℕ, ◌++◌, List, Option, inr, sym, ap, subst, ◌∙◌, refl, take}
+use Rattle.std.proofs.Common.{◌≡◌, ℕ, ◌++◌, List, inr, sym, ap, subst, ◌∙◌, refl, take}
 use Rattle.std.specs.Prelude.{ℤ, Result, Ok, IfOk}
 use Rattle.std.specs.Borrow.{Bor}
 use Rattle.std.specs.Global.{Vec}

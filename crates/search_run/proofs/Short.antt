@@ -5,7 +5,7 @@ use Rattle.outside.specs.declared.faults.NoMemory.{NoMemory}
 use Rattle.std.proofs.lemmas.List.{length-take}
 use Rattle.series_core.specs.Answer.{answer, pairs_of}
 use Rattle.series_core.specs.Collection.{Collection}
-use Rattle.series_core.specs.Pairs.{ascending, smallest}
+use Rattle.series_core.specs.Pairs.{ascending}
 use Rattle.series_core.specs.declared.pair.Pair.{Pair}
 use Rattle.series_core.proofs.Plain.{answer-smallest}
 

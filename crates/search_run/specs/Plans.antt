@@ -1,6 +1,6 @@
 -- A command as a list of steps: what it reads and tests, in order, and at its end the texts that it may write.
 -- What a step reads, the steps behind it speak of. All that keeps a command from its work is a step that refuses.
-use Rattle.std.specs.Prelude.{◌≡◌, ◌≢◌, ℕ, ◌<◌, ◌≤◌, ◌⊎◌, ⊤, List, Option, None, Some, IfSome, IsSome, IsSomeAnd}
+use Rattle.std.specs.Prelude.{◌≡◌, ◌≢◌, ℕ, ◌<◌, ◌≤◌, ◌⊎◌, ⊤, List, Option, Some, IfSome, IsSome, IsSomeAnd}
 use Rattle.outside.specs.Files.{Held}
 use Rattle.series_file.specs.declared.error.Form.{Form}
 use Rattle.series_file.specs.declared.error.Loaded.{Loaded}

@@ -1,4 +1,4 @@
-use Rattle.std.proofs.Common.{◌≡◌, ℕ, List, ◌++◌, ap, ◌∙◌}
+use Rattle.std.proofs.Common.{ℕ, List, ◌++◌, ap, ◌∙◌}
 use Rattle.series_core.specs.declared.pair.Pair.{Pair}
 use Rattle.search_run.specs.Texts.{query_text}
 use Rattle.search_run.proofs.Nearests.{asked_by, by_options}

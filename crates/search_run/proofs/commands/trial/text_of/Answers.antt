@@ -5,7 +5,7 @@ use Rattle.series_core.specs.Collection.{Collection}
 use Rattle.series_core.specs.declared.best.TheConstants.{MAX_BEST}
 use Rattle.random_walks.specs.Walks.{state_at, walk_number, walks_from}
 use Rattle.search_run.specs.Trials.{answers_of, summary_lines, summed, trial_queries, trial_series}
-use Rattle.search_run.proofs.Short.{answer_short, few_found}
+use Rattle.search_run.proofs.Short.{few_found}
 use Rattle.search_run.proofs.commands.trial.text_of.Goals as goal
 
 pub summary_of-requires-clause-few : goal.summary_of-requires-clause-few
