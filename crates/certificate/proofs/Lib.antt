@@ -4,6 +4,9 @@ pub mod Digits
 pub mod Fronts
 pub mod Seen
 pub mod Numbers
+pub mod SmallNumbers
+pub mod PrintedText
+pub mod Certified
 pub mod Many
 pub mod PartLists
 pub mod WordTests

@@ -6,6 +6,7 @@ pub mod LineForms
 pub mod Reading
 pub mod Refusals
 pub mod Verdict
+pub mod Printed
 pub use Rattle.series_core.specs.Collection
 pub use Rattle.series_core.specs.Answer
 pub use Rattle.lower_bound.specs.Bound

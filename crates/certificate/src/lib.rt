@@ -8,8 +8,10 @@ mod error;
 mod fields;
 mod leaves;
 mod line;
+mod line_text;
 mod misses;
 mod parts;
+mod printing;
 mod reader;
 mod text;
 mod words;
@@ -17,6 +19,8 @@ mod words;
 pub use block::{Block, EntryLists, LeafLine, LeafLineList, Said};
 pub use checking::check;
 pub use error::{CertError, Reject};
+pub use line_text::{LineText, ROOM};
+pub use printing::print;
 pub use text::read;
 
 #[cfg(test)]

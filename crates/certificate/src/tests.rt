@@ -1,6 +1,8 @@
 //! Tests: worked certificates with one change each, and one text changed at every line and at every byte.
 //! What each change gives was found by hand, and for the bytes by a plain slow program outside.
 
+mod printed;
+
 ghost use Rattle.std.specs.Prelude.{◌≡◌, IsTrue, IfSome, length};
 ghost use Rattle.std.specs.Option.{option_copied};
 

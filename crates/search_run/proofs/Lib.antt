@@ -15,3 +15,5 @@ pub mod Both
 pub mod Searching
 pub mod Windowed
 pub mod Converting
+pub mod Certifying
+pub mod Nearests

@@ -1,6 +1,8 @@
 -- Texts piece by piece: one more piece makes a longer text (`text_next`), and each beginning has an end (`text_finish`).
 use Rattle.std.proofs.Common.{◌≡◌, ℕ, zero, suc, ◌+◌, ◌<◌, ◌≤◌, List, [], ◌∷◌, ◌++◌, length, take, get_or, sym, ap, subst, ◌∙◌, refl, arith, append_assoc, append-nil}
 use Rattle.std.specs.Prelude.{ℤ}
+use Rattle.std.specs.List.{All}
+use Rattle.std.proofs.lemmas.List.Elements.{All-head, All-tail}
 use Rattle.std.proofs.lemmas.List.{take_all, take_more, length-take-le}
 use Rattle.search_run.specs.Texts.{IsTextFrom, IsTextOf}
 
@@ -31,25 +33,27 @@ text_map P Q each i [] text is = is
 text_map P Q each i (q ∷ qs) text is =
     (is.0, is.1, each i q is.0 is.2, text_map P Q each (i + 1) qs is.1 is.3, is.4)
 
--- where each query has a piece there is a text
-text_exists : (P : ℕ → List ℤ → List ℕ → Type 0) → ((i : ℕ) (q : List ℤ) → (piece : List ℕ) × P i q piece)
-    → (i : ℕ) (qs : List (List ℤ)) → (text : List ℕ) × IsTextFrom P i qs text
-text_exists P each i [] = ([], refl)
-text_exists P each i (q ∷ qs) =
-    let piece = each i q in
-    let rest = text_exists P each (i + 1) qs in
+-- where each of these queries has a piece there is a text
+text_exists : (P : ℕ → List ℤ → List ℕ → Type 0) (Asked : List ℤ → Type 0)
+    → ((i : ℕ) (q : List ℤ) → Asked q → (piece : List ℕ) × P i q piece)
+    → (i : ℕ) (qs : List (List ℤ)) → All Asked qs → (text : List ℕ) × IsTextFrom P i qs text
+text_exists P Asked each i [] all = ([], refl)
+text_exists P Asked each i (q ∷ qs) all =
+    let piece = each i q (All-head Asked q qs all) in
+    let rest = text_exists P Asked each (i + 1) qs (All-tail Asked q qs all) in
     (piece.0 ++ rest.0, (piece.0, rest.0, piece.1, rest.1, refl))
 
 -- and what was written of the first queries begins one
-pub text_finish : (P : ℕ → List ℤ → List ℕ → Type 0) → ((i : ℕ) (q : List ℤ) → (piece : List ℕ) × P i q piece)
-    → (i : ℕ) (qs : List (List ℤ)) (n : ℕ) (text : List ℕ) → IsTextFrom P i (take n qs) text
+pub text_finish : (P : ℕ → List ℤ → List ℕ → Type 0) (Asked : List ℤ → Type 0)
+    → ((i : ℕ) (q : List ℤ) → Asked q → (piece : List ℕ) × P i q piece)
+    → (i : ℕ) (qs : List (List ℤ)) (n : ℕ) (text : List ℕ) → All Asked qs → IsTextFrom P i (take n qs) text
     → (rest : List ℕ) × IsTextFrom P i qs (text ++ rest)
-text_finish P each i qs zero text before =
-    let whole = text_exists P each i qs in
+text_finish P Asked each i qs zero text all before =
+    let whole = text_exists P Asked each i qs all in
     (whole.0, subst (IsTextFrom P i qs) (sym (ap (λ xs. xs ++ whole.0) before)) whole.1)
-text_finish P each i [] (suc n) text before = ([], append-nil text ∙ before)
-text_finish P each i (q ∷ qs) (suc n) text before =
-    let more = text_finish P each (i + 1) qs n before.1 before.3 in (
+text_finish P Asked each i [] (suc n) text all before = ([], append-nil text ∙ before)
+text_finish P Asked each i (q ∷ qs) (suc n) text all before =
+    let more = text_finish P Asked each (i + 1) qs n before.1 (All-tail Asked q qs all) before.3 in (
       more.0,
       (
         before.0,

@@ -1,16 +1,15 @@
 -- What each command does: its steps, and at their end the texts that it may write.
-use Rattle.std.specs.Prelude.{◌≡◌, ℕ, ℤ, true, false, ⊤, List, Option, None, codes}
+use Rattle.std.specs.Prelude.{◌≡◌, ℕ, ℤ, true, ⊤, List, Option, None, codes}
 use Rattle.outside.specs.Files.{Held}
 use Rattle.command_words.specs.declared.command.Command.{Command}
 use Rattle.command_words.specs.declared.command.Command.TheVariants.{Nearest, Range, Verify, Trial, Convert, Windows}
 use Rattle.command_words.specs.declared.options.Options.{Options}
-use Rattle.series_core.specs.Answer.{answer, within}
-use Rattle.series_core.specs.Collection.{Collection}
-use Rattle.series_core.specs.declared.pair.Pair.{Pair}
+use Rattle.series_core.specs.Answer.{within}
 use Rattle.series_file.specs.declared.error.Loaded.{Loaded}
 use Rattle.search_run.specs.Certificates.{subject_of}
 use Rattle.search_run.specs.Conversions.{converted_text}
 use Rattle.search_run.specs.Loads.{form_of}
+use Rattle.search_run.specs.Nearests.{IsNearestPiece}
 use Rattle.search_run.specs.Plans.{CanPass, Plan, Load, Compare, Divide, Check, Write}
 use Rattle.search_run.specs.Texts.{IsAnswerPiece, IsTextOf}
 use Rattle.search_run.specs.Trials.{trial_text}
@@ -19,7 +18,7 @@ use Rattle.search_run.specs.declared.status.Which.TheVariants.{Series, Queries}
 
 -- the command is one that is answered, with these options
 abbrev pub IsServed : Command → Type 0
-IsServed (Nearest series queries o) = (o.certificate ≡ false) × (o.index ≡ None)
+IsServed (Nearest series queries o) = o.index ≡ None
 IsServed (Range series queries radius o) = ⊤
 IsServed (Verify series queries certificate o) = ⊤
 IsServed (Trial seed count length queries o) = ⊤
@@ -40,13 +39,22 @@ plan_over series queries o then_ =
     Load Series series (form_of o.raw) (λ x. Load Queries queries (form_of o.raw) (λ y.
     Compare x.rows.points y.rows.points (Divide o.segments x.rows.points (then_ x y))))
 
--- a text with what is found among the series for each query
-abbrev pub answers_rest : (Collection → List ℤ → List Pair) → Loaded → Loaded → Plan
-answers_rest found x y = Write (IsTextOf (IsAnswerPiece x.labels (found x.rows)) y.rows.series)
+-- a text with such a piece for each query
+abbrev pub pieces_rest : (Loaded → ℕ → List ℤ → List ℕ → Type 0) → Loaded → Loaded → Plan
+pieces_rest IsPiece x y = Write (IsTextOf (IsPiece x) y.rows.series)
 
 -- the same behind both files
-abbrev pub search_plan : List ℕ → List ℕ → Options → (Collection → List ℤ → List Pair) → Plan
-search_plan series queries o found = plan_over series queries o (answers_rest found)
+abbrev pub pieces_plan : List ℕ → List ℕ → Options → (Loaded → ℕ → List ℤ → List ℕ → Type 0) → Plan
+pieces_plan series queries o IsPiece = plan_over series queries o (pieces_rest IsPiece)
+
+-- the answers to each query: its k nearest, and where it is asked for their certificate
+abbrev pub nearest_plan : List ℕ → List ℕ → Options → Plan
+nearest_plan series queries o = pieces_plan series queries o (IsNearestPiece o.certificate o)
+
+-- all series within a radius of each query
+abbrev pub range_plan : List ℕ → List ℕ → ℕ → Options → Plan
+range_plan series queries radius o =
+    pieces_plan series queries o (λ x. IsAnswerPiece x.labels (λ q. within x.rows q radius))
 
 -- the text that says that a certificate holds
 abbrev pub valid_text : List ℕ
@@ -71,8 +79,8 @@ convert_plan series o = Load Series series (form_of o.raw) (λ x. Write (λ text
 
 -- what a command does; one that is not answered yet has no text
 abbrev pub plan_of : Command → Plan
-plan_of (Nearest series queries o) = search_plan series queries o (λ rows q. answer rows q o.k)
-plan_of (Range series queries radius o) = search_plan series queries o (λ rows q. within rows q radius)
+plan_of (Nearest series queries o) = nearest_plan series queries o
+plan_of (Range series queries radius o) = range_plan series queries radius o
 plan_of (Verify series queries certificate o) = verify_plan series queries certificate o
 plan_of (Trial seed count length queries o) = trial_plan seed count length queries o
 plan_of (Convert series o) = convert_plan series o

@@ -1,11 +1,15 @@
 -- The tree that a search goes over, and what the texts of a search are while its calls make them.
 use Rattle.std.specs.Prelude.{◌≡◌, ℕ, ℤ, List, take}
 use Rattle.command_words.specs.declared.options.Options.{Options}
+use Rattle.segment_sums.specs.Division.{IsDivision}
 use Rattle.series_core.specs.Collection.{Collection}
 use Rattle.series_file.specs.declared.error.Loaded.{Loaded}
 use Rattle.subtree_build.specs.Fits.{Fits, IsTreeOf}
+use Rattle.subtree_build.specs.Index.{IsIndex}
+use Rattle.query_core.specs.Questions.{Question}
 use Rattle.search_run.specs.Commands.{plan_over}
 use Rattle.search_run.specs.Ends.{ConcludesBy}
+use Rattle.search_run.specs.Layouts.{settings_of}
 use Rattle.search_run.specs.Pairs.{files_plan}
 use Rattle.search_run.specs.Plans.{Plan, Refuses, Write, Writes}
 use Rattle.search_run.specs.Texts.{Call, IsMade, IsTextOf}
@@ -19,28 +23,37 @@ pub record IsTreeFor (c : Collection) (tree : Tree) : Type 0 where
   pub fits : Fits c tree.settings.layout tree.index
   pub length : c.points ≡ tree.settings.layout.cuts.row_length
 
+-- what is asked of a tree: the k nearest series to a query, where words are made by the layout of its settings
+abbrev pub asked_of : Collection → List ℤ → ℕ → Tree → Question
+asked_of c query k tree = record { collection = c; query = query; k = k; layout = tree.settings.layout }
+
 -- a tree that was built: it is the one that its settings divide the series into
 abbrev pub IsBuiltOf : Collection → Tree → Type 0
 IsBuiltOf c tree = IsTreeOf c tree.settings.layout tree.settings.leaf_size tree.index
 
--- a tree that goes with the series
-abbrev pub IsGround : Ground → Type 0
-IsGround base = IsTreeFor base.series.rows base.tree
+-- what a search under these options goes over: its tree is an index of the series that they may be searched by, the one
+-- that the definition divides the series into, with the settings of the options
+pub record IsGround (o : Options) (base : Ground) : Type 0 where
+  pub searched : IsTreeFor base.series.rows base.tree
+  pub built : IsBuiltOf base.series.rows base.tree
+  pub settings : base.tree.settings ≡ settings_of base.series.rows.points o
+  pub index : IsIndex base.tree.index
+  pub cuts : IsDivision base.tree.settings.layout.cuts
 
 -- the pieces of a text that such calls made, over these series, for these queries
-abbrev pub IsMadeOver : Call Ground → Loaded → List (List ℤ) → List ℕ → Type 0
-IsMadeOver Gives series queries text =
-    (base : Ground) × (base.series ≡ series) × IsTextOf (IsMade Gives base) queries text
+abbrev pub IsMadeOver : Call Ground → Options → Loaded → List (List ℤ) → List ℕ → Type 0
+IsMadeOver Gives o series queries text = (base : Ground) × IsGround o base × (base.series ≡ series)
+    × IsTextOf (IsMade Gives base) queries text
 
 -- a search whose text is made so
 abbrev pub made_plan : Call Ground → List ℕ → List ℕ → Options → Plan
 made_plan Gives series queries o =
-    plan_over series queries o (λ x y. Write (IsMadeOver Gives x y.rows.series))
+    plan_over series queries o (λ x y. Write (IsMadeOver Gives o x y.rows.series))
 
 -- a search that made the pieces of the first queries, however many
 abbrev pub begun_plan : Call Ground → List ℕ → List ℕ → Options → Plan
 begun_plan Gives series queries o = plan_over series queries o
-    (λ x y. Write (λ text. (n : ℕ) × IsMadeOver Gives x (take n y.rows.series) text))
+    (λ x y. Write (λ text. (n : ℕ) × IsMadeOver Gives o x (take n y.rows.series) text))
 
 -- how a search over these files ends whose pieces such calls make, and what was written
 pub record EndsMaking (Gives : Call Ground) (reading : Reading) (writing : Writing) (series queries : List ℕ)

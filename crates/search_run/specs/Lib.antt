@@ -8,6 +8,7 @@ pub mod Loads
 pub mod Conversions
 pub mod Layouts
 pub mod Certificates
+pub mod Nearests
 pub mod Plans
 pub mod Windows
 pub mod LongSearches
@@ -25,3 +26,4 @@ pub use Rattle.series_file.specs.Faults
 pub use Rattle.random_walks.specs.Walks
 pub use Rattle.certificate.specs.Grammar
 pub use Rattle.certificate.specs.Verdict
+pub use Rattle.certificate.specs.Printed

@@ -1,6 +1,5 @@
 //! What commands write: texts piece by piece, and the line that tells how a run ended.
 
-pub mod line;
 pub mod pieces;
 pub mod stop;
 pub mod summary;

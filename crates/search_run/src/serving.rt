@@ -11,7 +11,7 @@ pub fn is_served(command: &Command) -> bool
     ensures no { result ≡ false → IsServed command.now → ⊥ }
 {
     match command {
-        Command::Nearest { options, .. } => !options.certificate && options.index.is_none(),
+        Command::Nearest { options, .. } => options.index.is_none(),
         Command::Range { .. }
         | Command::Verify { .. }
         | Command::Trial { .. }

@@ -1,5 +1,6 @@
 //! Whole runs as tables: words over files in memory, and the status, the text and the line that they end with.
 
+mod certifying;
 mod converting;
 mod failing;
 mod fixture;

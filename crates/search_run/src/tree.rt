@@ -2,6 +2,8 @@
 
 ghost use Rattle.std.specs.Prelude.{◌≡◌, IfOk};
 ghost use Rattle.command_words.specs.Limits.{OptionsKeepLimits};
+ghost use Rattle.segment_sums.specs.Division.{IsDivision};
+ghost use Rattle.subtree_build.specs.Index.{IsIndex};
 ghost use Rattle.search_run.specs.Layouts.{settings_of};
 ghost use Rattle.search_run.specs.Plans.{HasSegments};
 
@@ -34,6 +36,8 @@ pub fn tree_of<T: Threads + Sync, R: Rows + Sync, G: Gate + Sync>(
     requires segments { HasSegments options.now.segments (R.collection rows.now).points }
     ensures fits { IfOk result (IsTreeFor (R.collection rows.now)) }
     ensures built { IfOk result (IsBuiltOf (R.collection rows.now)) }
+    ensures index { IfOk result (λ tree. IsIndex tree.index) }
+    ensures cuts { IfOk result (λ tree. IsDivision tree.settings.layout.cuts) }
     ensures settings { IfOk result (λ tree. tree.settings ≡ settings_of (R.collection rows.now).points options.now) }
 {
     let settings = Settings {
@@ -48,5 +52,8 @@ pub fn tree_of<T: Threads + Sync, R: Rows + Sync, G: Gate + Sync>(
         options.workers,
         crew.gate,
     )?;
+    // for the facts that the index is one, and that the cuts divide a series
+    let _leaves = index.leaf_count();
+    let _segments = settings.layout.cuts.segments();
     Ok(Tree { index, settings })
 }

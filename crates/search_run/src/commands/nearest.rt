@@ -1,13 +1,14 @@
-//! The command `nearest`: for each query its k nearest, by a search of the tree.
+//! The command `nearest`: for each query its k nearest, by a search of the tree, and where it is asked for a certificate.
 
-ghost use Rattle.std.specs.Prelude.{◌≡◌, ◌≢◌, ◌<◌, ◌≤◌, length, IfOk};
+ghost use Rattle.std.specs.Prelude.{◌≡◌, ◌≢◌, ◌<◌, ◌≤◌, true, false, length, IfOk};
 ghost use Rattle.command_words.specs.Limits.{OptionsKeepLimits};
 ghost use Rattle.series_core.specs.Answer.{answer};
 ghost use Rattle.series_core.specs.declared.best.TheConstants.{MAX_BEST};
 ghost use Rattle.search_run.specs.Traffic.{read_from, wrote_to};
-ghost use Rattle.search_run.specs.Commands.{search_plan};
+ghost use Rattle.search_run.specs.Commands.{nearest_plan, pieces_plan};
 ghost use Rattle.search_run.specs.Ends.{Concludes, ended};
-ghost use Rattle.search_run.specs.Finding.{IsGround};
+ghost use Rattle.search_run.specs.Finding.{IsGround, IsTreeFor};
+ghost use Rattle.search_run.specs.Nearests.{IsCertifiedPiece, IsNearestPiece};
 ghost use Rattle.search_run.specs.Plans.{Refuses, Writes};
 ghost use Rattle.search_run.specs.Texts.{query_text};
 ghost use Rattle.search_run.specs.declared.status.Status.{Status};
@@ -15,15 +16,17 @@ ghost use Rattle.search_run.specs.declared.status.Which.{Which};
 
 use crate::commands::search::{Ground, answer_search};
 use crate::crew::Crew;
-use crate::finding::nearest;
+use crate::finding::{nearest, searched};
 use crate::input::pair::Search;
 use crate::output::text::query_text;
 use crate::status::{Status, Which};
+use certificate::print;
 use command_words::{Options, Text};
 use outside::{Files, Gate, NoMemory, Sink};
+use std::alloc::Global;
 use std::thread::Threads;
 
-/// Answers `nearest`: a search whose pieces have for each query its k nearest.
+/// Answers `nearest`: a search whose pieces have for each query its k nearest, and their certificate where it is asked for.
 pub fn answer_nearest<T: Threads + Sync, F: Files, S: Sink, G: Gate + Sync>(
     crew: &Crew<'_, T, G>,
     series: &Text,
@@ -33,8 +36,35 @@ pub fn answer_nearest<T: Threads + Sync, F: Files, S: Sink, G: Gate + Sync>(
     out: &mut S,
 ) -> Result<(), Status>
     requires { OptionsKeepLimits options.now }
-    ensures answers { let plan = search_plan series.now queries.now options.now
-        (λ rows q. answer rows q options.now.k) in
+    ensures answers { let plan = nearest_plan series.now queries.now options.now in
+        Concludes (Writes (F.held files.old) plan)
+        (Refuses (read_from F.held F.faults F.misses F.blamed files.old files.new) plan)
+        (wrote_to S.written S.faults S.sure out.old out.new) (ended result) }
+    ensures kept { F.held files.new ≡ F.held files.old }
+    ensures reliable { F.reliable files.old → (w : Which) → result ≢ Err (Status.ReadFault w) }
+{
+    let search = Search {
+        series,
+        queries,
+        options,
+    };
+    if options.certificate {
+        answer_certified(crew, &search, files, out)
+    } else {
+        answer_plain(crew, &search, files, out)
+    }
+}
+
+// Answers `nearest` without certificates.
+fn answer_plain<T: Threads + Sync, F: Files, S: Sink, G: Gate + Sync>(
+    crew: &Crew<'_, T, G>,
+    search: &Search<'_>,
+    files: &mut F,
+    out: &mut S,
+) -> Result<(), Status>
+    requires { OptionsKeepLimits search.now.options.now }
+    ensures answers { let plan = pieces_plan search.now.series.now search.now.queries.now search.now.options.now
+        (IsNearestPiece false search.now.options.now) in
         Concludes (Writes (F.held files.old) plan)
         (Refuses (read_from F.held F.faults F.misses F.blamed files.old files.new) plan)
         (wrote_to S.written S.faults S.sure out.old out.new) (ended result) }
@@ -42,10 +72,10 @@ pub fn answer_nearest<T: Threads + Sync, F: Files, S: Sink, G: Gate + Sync>(
     ensures reliable { F.reliable files.old → (w : Which) → result ≢ Err (Status.ReadFault w) }
 {
     let alloc = crew.alloc;
-    let k = options.k;
-    let queues = options.queues;
+    let k = search.options.k;
+    let queues = search.options.queues;
     let piece_of = |base: &Ground, i: u32, query: &[i16]| -> Result<Vec<u8>, NoMemory>
-        requires { IsGround base.now × (length query.now ≡ base.now.series.rows.points)
+        requires { IsTreeFor base.now.series.rows base.now.tree × (length query.now ≡ base.now.series.rows.points)
             × (0 < k) × (k ≤ MAX_BEST) × (1 ≤ queues) × (queues ≤ 64) }
         ensures { IfOk result (λ text. text.items
             ≡ query_text base.now.series.labels i (answer base.now.series.rows query.now k)) }
@@ -53,10 +83,52 @@ pub fn answer_nearest<T: Threads + Sync, F: Files, S: Sink, G: Gate + Sync>(
         let pairs = nearest(alloc, &base.series.rows, &base.tree, query, k, queues)?;
         query_text(alloc, i, &base.series.labels, &pairs)
     };
-    let search = Search {
-        series,
-        queries,
-        options,
-    };
-    answer_search(crew, &search, &piece_of, files, out)
+    answer_search(crew, search, &piece_of, files, out)
+}
+
+// Answers `nearest` with certificates.
+fn answer_certified<T: Threads + Sync, F: Files, S: Sink, G: Gate + Sync>(
+    crew: &Crew<'_, T, G>,
+    search: &Search<'_>,
+    files: &mut F,
+    out: &mut S,
+) -> Result<(), Status>
+    requires { OptionsKeepLimits search.now.options.now }
+    ensures answers { let plan = pieces_plan search.now.series.now search.now.queries.now search.now.options.now
+        (IsNearestPiece true search.now.options.now) in
+        Concludes (Writes (F.held files.old) plan)
+        (Refuses (read_from F.held F.faults F.misses F.blamed files.old files.new) plan)
+        (wrote_to S.written S.faults S.sure out.old out.new) (ended result) }
+    ensures kept { F.held files.new ≡ F.held files.old }
+    ensures reliable { F.reliable files.old → (w : Which) → result ≢ Err (Status.ReadFault w) }
+{
+    let alloc = crew.alloc;
+    let options = search.options;
+    let piece_of = |base: &Ground, i: u32, query: &[i16]| -> Result<Vec<u8>, NoMemory>
+        requires { IsGround options.now base.now × OptionsKeepLimits options.now
+            × (length query.now ≡ base.now.series.rows.points) }
+        ensures { IfOk result (λ text. IsCertifiedPiece options.entry.now base.now.series i query.now text.items) }
+    { certified_piece(alloc, options, base, i, query) };
+    answer_search(crew, search, &piece_of, files, out)
+}
+
+// The piece of query i: its answers, and behind them the lines that certify them.
+fn certified_piece(
+    alloc: Global,
+    options: &Options,
+    base: &Ground,
+    i: u32,
+    query: &[i16],
+) -> Result<Vec<u8>, NoMemory>
+    requires base { IsGround options.now base.now }
+    requires limits { OptionsKeepLimits options.now }
+    requires length { length query.now ≡ base.now.series.rows.points }
+    ensures { IfOk result (λ text. IsCertifiedPiece options.now base.now.series i query.now text.items) }
+{
+    let (rows, tree) = (&base.series.rows, &base.tree);
+    let outcome = searched(alloc, rows, tree, query, options.k, options.queues)?;
+    let mut text = query_text(alloc, i, &base.series.labels, &outcome.pairs)?;
+    let lines = print(alloc, &tree.index, &outcome)?;
+    text.extend_from_slice(&lines)?;
+    Ok(text)
 }

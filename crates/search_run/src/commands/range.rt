@@ -5,9 +5,9 @@ ghost use Rattle.std.specs.Thread.{IsSync};
 ghost use Rattle.command_words.specs.Limits.{OptionsKeepLimits};
 ghost use Rattle.series_core.specs.Answer.{within};
 ghost use Rattle.search_run.specs.Traffic.{read_from, wrote_to};
-ghost use Rattle.search_run.specs.Commands.{search_plan};
+ghost use Rattle.search_run.specs.Commands.{range_plan};
 ghost use Rattle.search_run.specs.Ends.{Concludes, ended};
-ghost use Rattle.search_run.specs.Finding.{IsGround};
+ghost use Rattle.search_run.specs.Finding.{IsTreeFor};
 ghost use Rattle.search_run.specs.Plans.{Refuses, Writes};
 ghost use Rattle.search_run.specs.Texts.{query_text};
 ghost use Rattle.search_run.specs.declared.status.Status.{Status};
@@ -34,8 +34,7 @@ pub fn answer_range<T: Threads + Sync, F: Files, S: Sink, G: Gate + Sync>(
     out: &mut S,
 ) -> Result<(), Status>
     requires { OptionsKeepLimits options.now }
-    ensures answers { let plan = search_plan series.now queries.now options.now
-        (λ rows q. within rows q radius) in
+    ensures answers { let plan = range_plan series.now queries.now radius options.now in
         Concludes (Writes (F.held files.old) plan)
         (Refuses (read_from F.held F.faults F.misses F.blamed files.old files.new) plan)
         (wrote_to S.written S.faults S.sure out.old out.new) (ended result) }
@@ -44,7 +43,7 @@ pub fn answer_range<T: Threads + Sync, F: Files, S: Sink, G: Gate + Sync>(
 {
     let workers = options.workers;
     let piece_of = |base: &Ground, i: u32, query: &[i16]| -> Result<Vec<u8>, NoMemory>
-        requires { IsSync T.row × IsSync G.row × IsGround base.now
+        requires { IsSync T.row × IsSync G.row × IsTreeFor base.now.series.rows base.now.tree
             × (length query.now ≡ base.now.series.rows.points) × (1 ≤ workers) × (workers ≤ 64) }
         ensures { IfOk result (λ text. text.items
             ≡ query_text base.now.series.labels i (within base.now.series.rows query.now radius)) }

@@ -43,7 +43,7 @@ pub fn answer_search<
     out: &mut S,
 ) -> Result<(), Status>
     requires limits { OptionsKeepLimits search.now.options.now }
-    requires callable { (base : _) (i : ℕ) (q : _) → IsGround base.now
+    requires callable { (base : _) (i : ℕ) (q : _) → IsGround search.now.options.now base.now
         → length q.now ≡ base.now.series.rows.points → P.pre piece_of.now base i q }
     ensures answers { EndsMaking (P.post piece_of.now)
         (read_from F.held F.faults F.misses F.blamed files.old files.new)

@@ -9,15 +9,14 @@ ghost use Rattle.certificate.specs.Spelling.{limit_text};
 ghost use Rattle.search_run.specs.Status.{fault_line, cause_of, file_cause, file_word};
 ghost use Rattle.search_run.specs.Status.{bound_part, certificate_cause, query_part, reject_cause};
 
-use crate::output::line::Line;
 use crate::status::{CertFault, Status, Which};
-use certificate::Reject;
+use certificate::{LineText, Reject};
 use outside::{Sink, write_whole};
 use series_core::NONE;
 use series_file::FileError;
 
 // Appends what the file is called.
-fn push_file(line: &mut Line, which: Which)
+fn push_file(line: &mut LineText, which: Which)
     requires { length line.old ≤ 9 }
     ensures text { line.new ≡ line.old ++ file_word which }
     ensures limit { length line.new ≤ 20 }
@@ -30,7 +29,7 @@ fn push_file(line: &mut Line, which: Which)
 }
 
 // Appends what is wrong with a series file.
-fn push_file_cause(line: &mut Line, cause: FileError)
+fn push_file_cause(line: &mut LineText, cause: FileError)
     requires { length line.old ≤ 40 }
     ensures text { line.new ≡ line.old ++ file_cause cause }
     ensures limit { length line.new ≤ 120 }
@@ -58,7 +57,7 @@ fn push_file_cause(line: &mut Line, cause: FileError)
 }
 
 // Appends text and a number behind it.
-fn push_counted(line: &mut Line, text: &str, n: u64)
+fn push_counted(line: &mut LineText, text: &str, n: u64)
     requires { length line.old + length text.now + 20 ≤ 200 }
     ensures text { line.new ≡ line.old ++ (text.now ++ decimal n) }
     ensures limit { length line.new ≤ length line.old + length text.now + 20 }
@@ -68,7 +67,7 @@ fn push_counted(line: &mut Line, text: &str, n: u64)
 }
 
 // Appends a query and a number of it, each behind its word.
-fn push_query_part(line: &mut Line, query: u32, word: &str, n: u32)
+fn push_query_part(line: &mut LineText, query: u32, word: &str, n: u32)
     requires { length line.old + length word.now ≤ 40 }
     ensures text { line.new ≡ line.old ++ query_part query word.now n }
     ensures limit { length line.new ≤ length line.old + length word.now + 46 }
@@ -78,7 +77,7 @@ fn push_query_part(line: &mut Line, query: u32, word: &str, n: u32)
 }
 
 // Appends the bound that is said of a leaf.
-fn push_bound_part(line: &mut Line, query: u32, leaf: u32, bound: u64)
+fn push_bound_part(line: &mut LineText, query: u32, leaf: u32, bound: u64)
     requires { length line.old ≤ 22 }
     ensures text { line.new ≡ line.old ++ bound_part query leaf bound }
     ensures limit { length line.new ≤ 110 }
@@ -88,7 +87,7 @@ fn push_bound_part(line: &mut Line, query: u32, leaf: u32, bound: u64)
 }
 
 // Appends a last distance, or that there is no last answer.
-fn push_last(line: &mut Line, last: u64)
+fn push_last(line: &mut LineText, last: u64)
     requires { length line.old ≤ 170 }
     ensures text { line.new ≡ line.old ++ limit_text last }
     ensures limit { length line.new ≤ length line.old + 20 }
@@ -101,7 +100,7 @@ fn push_last(line: &mut Line, last: u64)
 }
 
 // Appends which test a certificate fails.
-fn push_reject(line: &mut Line, reject: Reject)
+fn push_reject(line: &mut LineText, reject: Reject)
     requires { length line.old ≤ 22 }
     ensures text { line.new ≡ line.old ++ reject_cause reject }
     ensures limit { length line.new ≤ 160 }
@@ -128,7 +127,7 @@ fn push_reject(line: &mut Line, reject: Reject)
 }
 
 // Appends why a certificate does not hold.
-fn push_certificate_cause(line: &mut Line, fault: CertFault)
+fn push_certificate_cause(line: &mut LineText, fault: CertFault)
     requires { length line.old ≤ 22 }
     ensures text { line.new ≡ line.old ++ certificate_cause fault }
     ensures limit { length line.new ≤ 160 }
@@ -141,7 +140,7 @@ fn push_certificate_cause(line: &mut Line, fault: CertFault)
 }
 
 // Appends why the run ended so.
-fn push_cause(line: &mut Line, status: &Status)
+fn push_cause(line: &mut LineText, status: &Status)
     requires { length line.old ≤ 9 }
     ensures text { line.new ≡ line.old ++ cause_of status.now }
     ensures limit { length line.new ≤ 199 }
@@ -180,10 +179,10 @@ fn push_cause(line: &mut Line, status: &Status)
 }
 
 // The line of a status, empty where the whole text was written.
-fn line_of(status: &Status) -> Line
+fn line_of(status: &Status) -> LineText
     ensures { result ≡ fault_line status.now }
 {
-    let mut line = Line::new();
+    let mut line = LineText::new();
     if *status == Status::Done {
         return line;
     }

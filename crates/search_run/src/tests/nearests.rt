@@ -77,7 +77,13 @@ const NEARESTS: [Row; 16] = [
         "",
         "isearch: lengths differ: 4 and 3\n",
     ),
-    ("nearest A Q --certificate", Status::Usage, "", NO_COMMAND),
+    (
+        "nearest A Q --certificate",
+        Status::Done,
+        "query 0\n1 0 4\nstart 1 4\nqueue 0\nqueue 1\n\
+            leaf 0 word 0:1,0:1,0:1,0:1 bound 16\nleaf 1 word 1:1,1:1,1:1,1:1 scanned\n",
+        "",
+    ),
     ("nearest A Q --sealed", Status::Done, "query 0\n1 0 4\n", ""),
     ("nearest A Q --index I", Status::Usage, "", NO_COMMAND),
 ];

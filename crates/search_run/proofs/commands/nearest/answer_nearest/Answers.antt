@@ -1,14 +1,27 @@
-use Rattle.std.proofs.Common.{rules}
-use Rattle.series_core.specs.Answer.{answer}
+use Rattle.std.proofs.Common.{Bool, sym, subst}
+use Rattle.search_run.specs.Commands.{pieces_plan}
+use Rattle.search_run.specs.Ends.{Concludes, ended}
+use Rattle.search_run.specs.Nearests.{IsNearestPiece}
+use Rattle.search_run.specs.Plans.{Plan, Refuses, Writes}
 use Rattle.search_run.specs.Traffic.{read_from, wrote_to}
-use Rattle.search_run.proofs.Searching.{search_concludes}
 use Rattle.search_run.proofs.commands.nearest.answer_nearest.Goals as goal
 
-pub returns-clause-answers : goal.returns-clause-answers
-returns-clause-answers g c =
+pub returns-then-options-clause-answers : goal.returns-then-options-clause-answers
+returns-then-options-clause-answers g c =
     let reading = read_from g.F.Files.held g.F.Files.faults g.F.Files.misses g.F.Files.blamed c.args.files.now
-    c.answer_search.new.files in
-    let writing = wrote_to g.S.Sink.written g.S.Sink.faults g.S.Sink.sure c.args.out.now c.answer_search.new.out in
-    search_concludes _ (λ rows q. answer rows q c.args.options.now.k)
-    reading writing _ c.args.series.now c.args.queries.now c.args.options.now c.answer_search.ensures.answers
-    (λ at i q made met. search rules)
+    c.answer_certified.new.files in
+    let writing = wrote_to g.S.Sink.written g.S.Sink.faults g.S.Sink.sure c.args.out.now c.answer_certified.new.out in
+    let o = c.args.options.now in
+    let plan : Bool → Plan = λ flag. pieces_plan c.args.series.now c.args.queries.now o (IsNearestPiece flag o) in
+    subst (λ flag. Concludes (Writes reading.held (plan flag)) (Refuses reading (plan flag)) writing (ended c.answer_certified.result))
+    (sym c.if-options.true) c.answer_certified.ensures.answers
+
+pub returns-else-options-clause-answers : goal.returns-else-options-clause-answers
+returns-else-options-clause-answers g c =
+    let reading = read_from g.F.Files.held g.F.Files.faults g.F.Files.misses g.F.Files.blamed c.args.files.now
+    c.answer_plain.new.files in
+    let writing = wrote_to g.S.Sink.written g.S.Sink.faults g.S.Sink.sure c.args.out.now c.answer_plain.new.out in
+    let o = c.args.options.now in
+    let plan : Bool → Plan = λ flag. pieces_plan c.args.series.now c.args.queries.now o (IsNearestPiece flag o) in
+    subst (λ flag. Concludes (Writes reading.held (plan flag)) (Refuses reading (plan flag)) writing (ended c.answer_plain.result))
+    (sym c.if-options.false) c.answer_plain.ensures.answers

@@ -1,5 +1,6 @@
 use Rattle.std.proofs.Common.{refl}
 use Rattle.std.proofs.lemmas.Result.{err_from_is_err_and}
+use Rattle.search_run.specs.Finding.{IsGround}
 use Rattle.search_run.specs.Traffic.{read_from, wrote_to}
 use Rattle.search_run.specs.declared.commands.search.Ground.{Ground}
 use Rattle.search_run.proofs.Searching.{search_done, search_refused, search_stopped}
@@ -24,11 +25,19 @@ returns-in_err-write_pieces-clause-answers g c =
     let asked = c.args.search.now in
     let both = c.in_ok-both.both in
     let base : Ground = record { series = both.series; tree = c.in_ok-tree.tree } in
+    let made = c.in_ok-tree.ensures in
+    let over : IsGround asked.options.now base = record {
+      searched = made.fits;
+      built = made.built;
+      settings = made.settings;
+      index = made.index;
+      cuts = made.cuts;
+    } in
     let told = err_from_is_err_and c.from_residual-in_err-write_pieces.result
     c.from_residual-in_err-write_pieces.ensures.1 in
     rw (told.1, told.2)
     (search_stopped (goal.P-post g c.args.piece_of.now) reading writing asked.series.now asked.queries.now
-    asked.options.now base both.queries c.in_ok-both.ensures.found c.in_err-write_pieces.field-0.0
+    asked.options.now base over both.queries c.in_ok-both.ensures.found c.in_err-write_pieces.field-0.0
     c.in_err-write_pieces.ensures.stops)
 
 pub returns-clause-answers : goal.returns-clause-answers
@@ -39,6 +48,14 @@ returns-clause-answers g c =
     let asked = c.args.search.now in
     let both = c.in_ok-both.both in
     let base : Ground = record { series = both.series; tree = c.in_ok-tree.tree } in
+    let made = c.in_ok-tree.ensures in
+    let over : IsGround asked.options.now base = record {
+      searched = made.fits;
+      built = made.built;
+      settings = made.settings;
+      index = made.index;
+      cuts = made.cuts;
+    } in
     let wrote = c.in_ok-write_pieces.ensures.ok in
     search_done (goal.P-post g c.args.piece_of.now) reading writing asked.series.now asked.queries.now
-    asked.options.now base both.queries c.in_ok-both.ensures.found wrote.0 wrote.1 wrote.2
+    asked.options.now base over both.queries c.in_ok-both.ensures.found wrote.0 wrote.1 wrote.2

@@ -1,0 +1,103 @@
+//! The text of a line in place: it takes no memory of its own.
+
+ghost use Rattle.std.specs.Prelude.{◌≡◌, ◌+◌, ◌≤◌, ◌<◌, ◌++◌, ◌∷◌, length, codes, decimal, []};
+
+use itoa::Buffer;
+use std::marker::Model;
+
+/// How many bytes a line has room for.
+pub const ROOM: usize = 200;
+
+/// The bytes of a line so far.
+#[derive(Drop)]
+pub struct LineText {
+    bytes: [u8; ROOM],
+    length: usize,
+}
+
+impl Model for LineText {
+    ghost use Rattle.std.specs.Prelude.{ℕ, List, ◌≤◌, take};
+
+    ghost Value = { List ℕ };
+
+    ghost view = { λ l. take l.length l.bytes };
+
+    ghost invariant = { λ l. l.length ≤ 200 };
+}
+
+impl LineText {
+    /// An empty line.
+    pub fn new() -> LineText
+        ensures { result ≡ [] }
+    {
+        LineText {
+            bytes: [0; ROOM],
+            length: 0,
+        }
+    }
+
+    /// The bytes so far.
+    pub fn bytes(&self) -> &[u8]
+        ensures { result.now ≡ self.now }
+    {
+        &self.bytes[..self.length]
+    }
+
+    /// Makes the line empty again.
+    pub fn clear(&mut self)
+        ensures { self.new ≡ [] }
+    {
+        self.length = 0;
+    }
+
+    /// Appends text.
+    pub fn push(&mut self, text: &str)
+        requires { length self.old + length text.now ≤ ROOM }
+        ensures { self.new ≡ self.old ++ text.now }
+    {
+        let end = self.length + text.len();
+        self.bytes[self.length..end].copy_from_slice(text.as_bytes());
+        self.length = end;
+    }
+
+    /// Appends one byte.
+    pub fn push_byte(&mut self, byte: u8)
+        requires { length self.old < ROOM }
+        ensures { self.new ≡ self.old ++ byte ∷ [] }
+    {
+        self.bytes[self.length] = byte;
+        self.length += 1;
+    }
+
+    /// Appends a number in decimals.
+    pub fn push_number(&mut self, n: u64)
+        requires { length self.old + 20 ≤ ROOM }
+        ensures text { self.new ≡ self.old ++ decimal n }
+        ensures limit { length self.new ≤ length self.old + 20 }
+    {
+        let mut buffer = Buffer::new();
+        self.push(buffer.format(n));
+    }
+
+    /// Appends a number of one byte in decimals, digit by digit.
+    #[tactic(auto, using(crate::proofs::SmallNumbers::one_digit_text, crate::proofs::SmallNumbers::two_digits_text, crate::proofs::SmallNumbers::three_digits_text))]
+    pub fn push_small(&mut self, n: u8)
+        requires { length self.old + 3 ≤ ROOM }
+        ensures text { self.new ≡ self.old ++ decimal n }
+        ensures limit { length self.new ≤ length self.old + 3 }
+    {
+        let tens = n / 10;
+        if tens >= 10 {
+            self.push_byte(b'0' + tens / 10);
+            self.push_byte(b'0' + tens % 10);
+            self.push_byte(b'0' + n % 10);
+            return;
+        }
+        if tens > 0 {
+            self.push_byte(b'0' + tens);
+            self.push_byte(b'0' + n % 10);
+            return;
+        }
+        self.push_byte(b'0' + n);
+    }
+}
