@@ -20,11 +20,10 @@ ghost use Rattle.search_run.specs.declared.status.Which.{Which};
 use crate::commands::convert::answer_convert;
 use crate::commands::nearest::answer_nearest;
 use crate::commands::range::answer_range;
-use crate::commands::trial::{Trial, answer_trial};
+use crate::commands::trial::answer_trial;
 use crate::commands::verify::answer_verify;
 use crate::commands::windows::answer_windows;
 use crate::crew::Crew;
-use crate::input::pair::Search;
 use crate::output::tell::tell;
 use crate::serving::is_served;
 use crate::status::{Status, Which};
@@ -195,30 +194,14 @@ fn answer<T: Threads + Sync, F: Files, S: Sink, G: Gate + Sync>(
             length,
             queries,
             options,
-        } => {
-            let trial = Trial {
-                seed: *seed,
-                count: *count,
-                length: *length,
-                queries: *queries,
-                options,
-            };
-            answer_trial(crew, &trial, out)
-        }
+        } => answer_trial(crew, *seed, *count, *length, *queries, options, out),
         Command::Convert { series, options } => answer_convert(alloc, series, options, files, out),
         Command::Windows {
             series,
             queries,
             step,
             options,
-        } => {
-            let search = Search {
-                series,
-                queries,
-                options,
-            };
-            answer_windows(crew, &search, *step, files, out)
-        }
+        } => answer_windows(crew, series, queries, *step, options, files, out),
         _ => Err(Status::Usage),
     }
 }

@@ -28,35 +28,45 @@ use std::thread::Threads;
 
 /// What `trial` is asked for: `queries` walks among `count` walks of `length` values each, all from one seed.
 #[derive(Drop)]
-pub struct Trial<'a> {
-    /// The number that all walks are made from.
-    pub seed: u64,
-    /// The number of series.
-    pub count: u32,
-    /// The length of each.
-    pub length: u32,
-    /// The number of queries.
-    pub queries: u32,
-    /// How the search is done.
-    pub options: &'a Options,
+struct Trial<'a> {
+    // The number that all walks are made from.
+    seed: u64,
+    // The number of series.
+    count: u32,
+    // The length of each.
+    length: u32,
+    // The number of queries.
+    queries: u32,
+    // How the search is done.
+    options: &'a Options,
 }
 
-/// Answers `trial`: the four lines over the answers to the queries.
+/// Answers `trial`: the four lines over the answers to so many queries.
 pub fn answer_trial<T: Threads + Sync, S: Sink, G: Gate + Sync>(
     crew: &Crew<'_, T, G>,
-    trial: &Trial<'_>,
+    seed: u64,
+    count: u32,
+    length: u32,
+    queries: u32,
+    options: &Options,
     out: &mut S,
 ) -> Result<(), Status>
-    requires trial { KeepsTrialLimits trial.now.count trial.now.length trial.now.queries }
-    requires options { OptionsKeepLimits trial.now.options.now }
-    ensures answers { let plan = trial_plan trial.now.seed trial.now.count trial.now.length trial.now.queries
-        trial.now.options.now in (reading : Reading)
+    requires trial { KeepsTrialLimits count length queries }
+    requires options { OptionsKeepLimits options.now }
+    ensures answers { let plan = trial_plan seed count length queries options.now in (reading : Reading)
         → Concludes (Writes reading.held plan) (Refuses reading plan)
         (wrote_to S.written S.faults S.sure out.old out.new) (ended result) }
     ensures reads_nothing { (w : Which) → result ≢ Err (Status.ReadFault w) }
 {
-    check_segments(trial.options.segments, trial.length)?;
-    let text = text_of(crew, trial)?;
+    check_segments(options.segments, length)?;
+    let trial = Trial {
+        seed,
+        count,
+        length,
+        queries,
+        options,
+    };
+    let text = text_of(crew, &trial)?;
     write_whole(out, &text)?;
     Ok(())
 }

@@ -29,7 +29,7 @@ use crate::output::stop::Stop;
 use crate::output::text::query_text;
 use crate::status::{Status, Which};
 use crate::tree::{Tree, tree_of};
-use command_words::Options;
+use command_words::{Options, Text};
 use outside::{Files, Gate, NoMemory, Sink};
 use series_core::{Flat, Rows};
 use series_file::Form;
@@ -52,23 +52,30 @@ ghost use Rattle.search_run.specs.LongSearches.{GivesChosen};
 /// which begin a whole number of `step` values from the front.
 pub fn answer_windows<T: Threads + Sync, F: Files, S: Sink, G: Gate + Sync>(
     crew: &Crew<'_, T, G>,
-    search: &Search<'_>,
+    series: &Text,
+    queries: &Text,
     step: u32,
+    options: &Options,
     files: &mut F,
     out: &mut S,
 ) -> Result<(), Status>
-    requires limits { OptionsKeepLimits search.now.options.now }
+    requires limits { OptionsKeepLimits options.now }
     requires step { 1 ≤ step }
-    requires needed { windows_needed search.now.options.now ≤ MAX_BEST }
-    ensures answers { let plan = windows_plan search.now.series.now search.now.queries.now step search.now.options.now in
+    requires needed { windows_needed options.now ≤ MAX_BEST }
+    ensures answers { let plan = windows_plan series.now queries.now step options.now in
         Concludes (Writes (F.held files.old) plan)
         (Refuses (read_from F.held F.faults F.misses F.blamed files.old files.new) plan)
         (wrote_to S.written S.faults S.sure out.old out.new) (ended result) }
     ensures kept { F.held files.new ≡ F.held files.old }
     ensures reliable { F.reliable files.old → (w : Which) → result ≢ Err (Status.ReadFault w) }
 {
-    let both = read_long(crew.alloc, files, search)?;
-    write_windows(crew, &both, step, search.options, out)?;
+    let search = Search {
+        series,
+        queries,
+        options,
+    };
+    let both = read_long(crew.alloc, files, &search)?;
+    write_windows(crew, &both, step, options, out)?;
     Ok(())
 }
 
