@@ -16,3 +16,5 @@ pub mod Searching
 pub mod Converting
 pub mod Certifying
 pub mod Nearests
+pub mod CertifiedTexts
+pub mod Verified
