@@ -1,6 +1,6 @@
 -- What `nearest` writes with certificates holds for `verify` under the same words (`text_holds`).
-use Rattle.std.proofs.Common.{◌≡◌, ℕ, zero, suc, ◌+◌, ◌<◌, ◌≤◌, List, [], ◌∷◌, ◌++◌, length, map, min, Option, None, Some, true, refl, sym, ap, ◌∙◌, subst, arith, append_assoc, append-nil}
-use Rattle.std.specs.Prelude.{ℤ, ◌^◌, IfSome, decimal, is_some, slice_index}
+use Rattle.std.proofs.Common.{◌≡◌, ℕ, ◌+◌, ◌<◌, ◌≤◌, List, [], ◌∷◌, ◌++◌, length, Option, None, Some, refl, sym, ap, ◌∙◌, subst, arith, append_assoc}
+use Rattle.std.specs.Prelude.{ℤ, ◌^◌, IfSome}
 use Rattle.std.specs.List.{All, concat}
 use Rattle.command_words.specs.Limits.{IsWithin, OptionsKeepLimits}
 use Rattle.command_words.specs.declared.options.Options.{Options}
@@ -12,8 +12,8 @@ use Rattle.series_file.specs.declared.error.Form.{Form}
 use Rattle.series_file.specs.declared.error.Form.TheVariants.{Headed, Raw}
 use Rattle.series_file.specs.declared.error.Loaded.{Loaded}
 use Rattle.certificate.specs.Certified.{Asked, CertifyQueries, IsAsked, labels_of}
-use Rattle.certificate.specs.Printed.{Certifies, search_lines, search_text}
-use Rattle.certificate.specs.Spelling.{answer_line as spelled_answer, answer_lines as answer_line_list, block_lines, file_text, lines_from, query_line as spelled_query}
+use Rattle.certificate.specs.Printed.{search_lines, search_text}
+use Rattle.certificate.specs.Spelling.{answer_line as spelled_answer, answer_lines as answer_line_list, block_lines, lines_from, query_line as spelled_query}
 use Rattle.certificate.specs.declared.block.Block.{Block}
 use Rattle.certificate.proofs.ValidBlocks.{blocks_pass, blocks_spelled}
 use Rattle.certificate.proofs.Whole.{verdict_answers}
@@ -82,8 +82,7 @@ blocks_of x y o i (q ∷ qs) text is =
     ∙ ap (λ (t : List ℕ). t ++ (answer_lines x.labels 1 ps ++ search_text said)) (query_same i)
     ∙ ap (λ (t : List ℕ). spelled_query i ++ t)
     (ap (λ (t : List ℕ). t ++ search_text said) (answers_same x.labels 1 ps)
-    ∙ sym (concat-both (answer_line_list 1 ps (labels_of x.labels ps)) (search_lines said))) in
-    (
+    ∙ sym (concat-both (answer_line_list 1 ps (labels_of x.labels ps)) (search_lines said))) in (
       block ∷ rest.0,
       (record { answers = refl; labels = refl; search = lines.1.1 }, rest.1),
       is.4 ∙ ap (λ (t : List ℕ). t ++ is.1) piece

@@ -1,5 +1,5 @@
 -- A text of `nearest` with certificates is valid, and `verify` finds no fault in it (`texts_valid`, `texts_faultless`).
-use Rattle.std.proofs.Common.{◌≡◌, ℕ, List, Option, Some, ◌⊎◌, ⊎_elim, sym, ap, ◌∙◌, subst}
+use Rattle.std.proofs.Common.{◌≡◌, ℕ, List, Option, Some, ⊎_elim, sym, ap, ◌∙◌, subst}
 use Rattle.std.proofs.lemmas.Option.{same_Some}
 use Rattle.outside.specs.Files.{Held}
 use Rattle.breakpoints.specs.declared.table.Table.{Table}
@@ -12,7 +12,6 @@ use Rattle.search_run.specs.Loads.{HoldsBytes, HoldsFile, form_of}
 use Rattle.search_run.specs.Nearests.{IsNearestPiece}
 use Rattle.search_run.specs.Texts.{IsTextOf}
 use Rattle.search_run.specs.Verified.{AskAlike, CertifiedTextsAreFaultless, CertifiedTextsAreValid, IsCertifiedText}
-use Rattle.search_run.specs.declared.status.CertFault.{CertFault}
 use Rattle.search_run.proofs.CertifiedTexts.{text_holds}
 use Rattle.search_run.proofs.Held.{one_loaded}
 use Rattle.search_run.proofs.OneFault.{holds_without}
@@ -42,8 +41,7 @@ valid_for held series queries o v text certified alike =
 pub texts_valid : CertifiedTextsAreValid
 texts_valid held series queries o v text certified alike =
     let w = certified.writes in
-    let form = ap form_of alike.raw in
-    (
+    let form = ap form_of alike.raw in (
       w.0,
       w.2.0,
       subst (λ (f : Form). HoldsFile held series f w.0) form w.1,
