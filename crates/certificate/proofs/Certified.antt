@@ -67,7 +67,7 @@ above_last None bound above small = absurd (omega arith)
 above_last (Some p) bound above small = above
 
 -- the bound of a leaf is below 2^49
-bound_small : (a : Question) (ix : IndexParts) (l : ℕ) → IsQuestion a → IsIndex ix
+pub bound_small : (a : Question) (ix : IndexParts) (l : ℕ) → IsQuestion a → IsIndex ix
     → ix.segments ≡ a.layout.cuts.segments → l < length ix.leaves → leaf_bound (view_in a) ix l < 2 ^ 49
 bound_small a ix l question index same low =
     word_bound-lt (view_in a) (leaf_at ix.leaves l).word

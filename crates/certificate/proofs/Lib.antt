@@ -31,3 +31,6 @@ pub mod Told
 pub mod Rising
 pub mod Series
 pub mod Whole
+pub mod Certifying
+pub mod PassingBlocks
+pub mod ValidBlocks

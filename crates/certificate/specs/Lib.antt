@@ -7,6 +7,7 @@ pub mod Reading
 pub mod Refusals
 pub mod Verdict
 pub mod Printed
+pub mod Certified
 pub use Rattle.series_core.specs.Collection
 pub use Rattle.series_core.specs.Answer
 pub use Rattle.lower_bound.specs.Bound

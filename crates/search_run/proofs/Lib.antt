@@ -17,3 +17,5 @@ pub mod Windowed
 pub mod Converting
 pub mod Certifying
 pub mod Nearests
+pub mod CertifiedTexts
+pub mod Verified

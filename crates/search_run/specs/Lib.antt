@@ -17,6 +17,7 @@ pub mod Commands
 pub mod Pairs
 pub mod Ends
 pub mod Stops
+pub mod Verified
 pub use Rattle.series_core.specs.Collection
 pub use Rattle.series_core.specs.Answer
 pub use Rattle.list_totals.specs.Totals
@@ -27,3 +28,4 @@ pub use Rattle.random_walks.specs.Walks
 pub use Rattle.certificate.specs.Grammar
 pub use Rattle.certificate.specs.Verdict
 pub use Rattle.certificate.specs.Printed
+pub use Rattle.certificate.specs.Certified

@@ -15,7 +15,7 @@ mod status;
 mod tree;
 
 pub use command_words::{Command, Options, Text, WordsError, parse_words};
-pub use laws::convert_law;
+pub use laws::{certificate_law, convert_law};
 pub use random_walks::walks;
 pub use stages::{run, run_free};
 pub use status::{CertFault, Status, Which};

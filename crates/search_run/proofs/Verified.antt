@@ -1,0 +1,71 @@
+-- A text of `nearest` with certificates is valid, and `verify` finds no fault in it (`texts_valid`, `texts_faultless`).
+use Rattle.std.proofs.Common.{◌≡◌, ℕ, List, Option, Some, ⊎_elim, sym, ap, ◌∙◌, subst}
+use Rattle.std.proofs.lemmas.Option.{same_Some}
+use Rattle.outside.specs.Files.{Held}
+use Rattle.breakpoints.specs.declared.table.Table.{Table}
+use Rattle.command_words.specs.declared.options.Options.{Options}
+use Rattle.series_file.specs.declared.error.Form.{Form}
+use Rattle.series_file.specs.declared.error.Loaded.{Loaded}
+use Rattle.search_run.specs.Certificates.{IsFault, IsValid, Subject, subject_of}
+use Rattle.search_run.specs.Layouts.{layout_of}
+use Rattle.search_run.specs.Loads.{HoldsBytes, HoldsFile, form_of}
+use Rattle.search_run.specs.Nearests.{IsNearestPiece}
+use Rattle.search_run.specs.Texts.{IsTextOf}
+use Rattle.search_run.specs.Verified.{AskAlike, CertifiedTextsAreFaultless, CertifiedTextsAreValid, IsCertifiedText}
+use Rattle.search_run.proofs.CertifiedTexts.{text_holds}
+use Rattle.search_run.proofs.Held.{one_loaded}
+use Rattle.search_run.proofs.OneFault.{holds_without}
+
+-- what is checked is the same
+same_subject : (x y : Loaded) (o v : Options) → AskAlike o v → subject_of x y o ≡ subject_of x y v
+same_subject x y o v alike =
+    ap (λ (n : ℕ). record { series = x; queries = y; k = n; layout = layout_of x.rows.points o.segments o.table }) alike.k
+    ∙ ap (λ (s : Option ℕ). record { series = x; queries = y; k = v.k; layout = layout_of x.rows.points s o.table })
+    alike.segments
+    ∙ ap (λ (t : Table). record { series = x; queries = y; k = v.k; layout = layout_of x.rows.points v.segments t })
+    alike.table
+
+-- the text is valid, for what its own files hold
+valid_for : (held : Option Held) (series queries : List ℕ) (o v : Options) (text : List ℕ)
+    → (certified : IsCertifiedText held series queries o text) → AskAlike o v
+    → IsValid (subject_of certified.writes.0 certified.writes.2.0 v) text
+valid_for held series queries o v text certified alike =
+    let w = certified.writes in
+    let x = w.0 in
+    let y = w.2.0 in
+    let last = w.2.2 in
+    subst (λ (s : Subject). IsValid s text) (same_subject x y o v alike)
+    (text_holds (form_of o.raw) x y o text certified.limits w.1.formed w.2.1.formed last.0 last.1.0
+    (subst (λ flag. IsTextOf (IsNearestPiece flag o x) y.rows.series text) certified.certificate last.1.1) certified.short)
+
+pub texts_valid : CertifiedTextsAreValid
+texts_valid held series queries o v text certified alike =
+    let w = certified.writes in
+    let form = ap form_of alike.raw in (
+      w.0,
+      w.2.0,
+      subst (λ (f : Form). HoldsFile held series f w.0) form w.1,
+      subst (λ (f : Form). HoldsFile held queries f w.2.0) form w.2.1,
+      valid_for held series queries o v text certified alike,
+    )
+
+pub texts_faultless : CertifiedTextsAreFaultless
+texts_faultless h series queries name o v text certified alike named fault has =
+    ⊎_elim
+    (λ (found : HoldsBytes (Some h) name (IsFault (subject_of has.0 has.2.0 v) fault)).
+    let same : found.0 ≡ text = same_Some found.0 text (sym found.1 ∙ named) in
+    holds_without (subject_of has.0 has.2.0 v) text fault valid
+    (subst (IsFault (subject_of has.0 has.2.0 v) fault) same found.2))
+    (λ none. absurd none.1)
+    has.2.2.1.1
+  where
+    ours : (x : Loaded) × (y : Loaded) × HoldsFile (Some h) series (form_of v.raw) x
+        × HoldsFile (Some h) queries (form_of v.raw) y × IsValid (subject_of x y v) text
+    ours = texts_valid (Some h) series queries o v text certified alike
+
+    valid : IsValid (subject_of has.0 has.2.0 v) text
+    valid =
+        let first = one_loaded (Some h) series (form_of v.raw) ours.0 has.0 ours.2.told has.1.told in
+        let second = one_loaded (Some h) queries (form_of v.raw) ours.1 has.2.0 ours.3.told has.2.1.told in
+        subst (λ (y : Loaded). IsValid (subject_of has.0 y v) text) second
+        (subst (λ (x : Loaded). IsValid (subject_of x ours.1 v) text) first ours.4)

@@ -1,0 +1,39 @@
+-- What `nearest` writes with certificates, and `verify` of it under the same words.
+use Rattle.std.specs.Prelude.{◌≡◌, ℕ, ◌≤◌, true, List, length, Option, Some}
+use Rattle.outside.specs.Files.{Held}
+use Rattle.command_words.specs.Limits.{OptionsKeepLimits}
+use Rattle.command_words.specs.declared.command.Command.TheVariants.{Verify}
+use Rattle.command_words.specs.declared.options.Options.{Options}
+use Rattle.series_file.specs.declared.error.Loaded.{Loaded}
+use Rattle.search_run.specs.Certificates.{IsValid, most_bytes, subject_of}
+use Rattle.search_run.specs.Commands.{nearest_plan}
+use Rattle.search_run.specs.Ends.{IsFaultless}
+use Rattle.search_run.specs.Loads.{HoldsFile, form_of}
+use Rattle.search_run.specs.Plans.{Writes}
+
+-- both ask the same: so many answers, the same words of series, files of one form
+pub record AskAlike (o v : Options) : Type 0 where
+  pub k : o.k ≡ v.k
+  pub segments : o.segments ≡ v.segments
+  pub table : o.table ≡ v.table
+  pub raw : o.raw ≡ v.raw
+
+-- this is a text of `nearest` with certificates, of at most so many bytes as a certificate may have
+pub record IsCertifiedText (held : Option Held) (series queries : List ℕ) (o : Options) (text : List ℕ) : Type 0 where
+  pub limits : OptionsKeepLimits o
+  pub certificate : o.certificate ≡ true
+  pub writes : Writes held (nearest_plan series queries o) text
+  pub short : length text ≤ most_bytes
+
+-- such a text is a certificate that holds for the two files
+abbrev pub CertifiedTextsAreValid : Type 0
+CertifiedTextsAreValid = (held : Option Held) (series queries : List ℕ) (o v : Options) (text : List ℕ)
+    → IsCertifiedText held series queries o text → AskAlike o v
+    → (x : Loaded) × (y : Loaded) × HoldsFile held series (form_of v.raw) x × HoldsFile held queries (form_of v.raw) y
+    × IsValid (subject_of x y v) text
+
+-- and where it is held by a name, `verify` of that name finds no fault
+abbrev pub CertifiedTextsAreFaultless : Type 0
+CertifiedTextsAreFaultless = (h : Held) (series queries name : List ℕ) (o v : Options) (text : List ℕ)
+    → IsCertifiedText (Some h) series queries o text → AskAlike o v → h name ≡ Some text
+    → IsFaultless (Some h) (Verify series queries name v)
