@@ -1,8 +1,6 @@
--- Numbers of segments with zeros behind them hold at each segment its number (`at_segment`); and the mean of values of 16 bits
--- has 16 bits (`mean_fits`).
-use Rattle.std.proofs.Common.{◌≡◌, ℕ, ◌-◌, ◌*◌, ◌/◌, ◌<◌, ◌≤◌, List, ap, ◌∙◌, arith, get_or, map, replicate, length}
+-- Numbers of segments with zeros behind them hold at each segment its number (`at_segment`).
+use Rattle.std.proofs.Common.{◌≡◌, ℕ, ◌-◌, ◌<◌, List, ap, ◌∙◌, arith, get_or, map, replicate, length}
 use Rattle.std.specs.List.{range_with_len}
-use Rattle.std.proofs.Math.Nat.{div-lt_iff_lt-mul}
 use Rattle.std.proofs.lemmas.List.{get_or_append_left}
 use Rattle.std.proofs.lemmas.List.FromFn.{length-map-range_with_len, get_or-map-range_with_len}
 use Rattle.segment_sums.specs.Division.{Division}
@@ -17,7 +15,3 @@ at_segment d f xs j are used =
     ap (λ l. get_or l j 0) are
     ∙ get_or_append_left (map f (range_with_len 0 d.segments)) (replicate (16 - d.segments) 0) 0 j (omega (arith, long))
     ∙ get_or-map-range_with_len f 0 d.segments j j 0 used (omega arith)
-
--- a quotient is below 65536 where what is divided is at most 65535 times the divisor
-pub mean_fits : (s l : ℕ) → 1 ≤ l → s ≤ 65535 * l → s / l < 65536
-mean_fits s l some low = (div-lt_iff_lt-mul some).1 (omega (arith, some, low))

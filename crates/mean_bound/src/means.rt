@@ -1,6 +1,6 @@
 //! The means of a series' segments, as they are stored. Values are raised by 32768, so that no mean is below 0; a mean is
 //! rounded down, and never up, since what is told of a series is that its sum is at least the mean times the length.
-ghost use Rattle.std.specs.Prelude.{◌≡◌, ◌*◌, ◌≤◌, pos, neg_ℤ, ◌+ℤ◌, ◌≤ℤ◌, length, unsigned_abs};
+ghost use Rattle.std.specs.Prelude.{◌≡◌, ◌*◌, ◌/◌, ◌≤◌, pos, neg_ℤ, ◌+ℤ◌, ◌≤ℤ◌, length, unsigned_abs};
 ghost use Rattle.mean_bound.specs.Means.{of_segments, raised_sum, row_means, NoRaisedSumAbove};
 
 use segment_sums::Cuts;
@@ -32,10 +32,19 @@ impl Means {
         let mut raised = [0; 16];
         for j in 0..cuts.segments() {
             let (from, to) = cuts.cut(j);
-            raised[j as usize] = (sums[j as usize] / (to - from)) as u16;
+            raised[j as usize] = mean_of(sums[j as usize], to - from);
         }
         Means { raised }
     }
+}
+
+/// The mean of so many values of a raised sum, rounded down.
+fn mean_of(sum: u32, length: u32) -> u16
+    requires some { 1 ≤ length }
+    requires limit { sum ≤ 65535 * length }
+    ensures { result ≡ sum / length }
+{
+    (sum / length) as u16
 }
 
 /// The sums of a row's values, each raised by 32768, over each segment; the entries from the number of segments on are 0.

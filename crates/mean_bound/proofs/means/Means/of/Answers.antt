@@ -1,22 +1,20 @@
 -- One more mean stands behind those so far, in place of a zero.
-use Rattle.std.proofs.Common.{◌≡◌, ◌∙◌, ◌-◌, ◌*◌, ◌/◌, ◌<◌, ◌≤◌, arith, ap, get_or}
+use Rattle.std.proofs.Common.{◌≡◌, ◌∙◌, ◌-◌, ◌/◌, ◌<◌, arith, ap}
 use Rattle.segment_sums.specs.Division.{cut_place, segment_length}
 use Rattle.segment_sums.proofs.Filled.{fill_next}
 use Rattle.mean_bound.specs.Means.{raised_sum, segment_mean}
-use Rattle.mean_bound.proofs.OfSegments.{at_segment, mean_fits}
+use Rattle.mean_bound.proofs.OfSegments.{at_segment}
 use Rattle.mean_bound.proofs.means.Means.of.Goals as goal
 
-pub overflow_cast-raised-in-loop-j : goal.overflow_cast-raised-in-loop-j
-overflow_cast-raised-in-loop-j c =
+pub mean_of-requires-clause-limit : goal.mean_of-requires-clause-limit
+mean_of-requires-clause-limit c =
     let cuts = c.args.cuts.now in
     let j = c.loop-j.j in
     let used : j < cuts.segments = omega (arith, c.segments-j-end.ensures.value) in
     let sum = at_segment cuts (raised_sum cuts c.args.row.now) c.raised_sums-sums.result j c.raised_sums-sums.ensures.sums
     used in
     let limit = c.raised_sums-sums.ensures.limit j used in
-    let small : get_or c.raised_sums-sums.result j 0 ≤ 65535 * (c.cut-from.result.1 - c.cut-from.result.0)
-    = omega (arith, sum, limit, c.cut-from.ensures.from, c.cut-from.ensures.to) in
-    record { fits = mean_fits _ _ (omega (arith, c.cut-from.ensures.not_empty)) small }
+    omega (arith, sum, limit, c.cut-from.ensures.from, c.cut-from.ensures.to)
 
 pub loop-j-preserved : goal.loop-j-preserved
 loop-j-preserved c =
@@ -30,4 +28,4 @@ loop-j-preserved c =
     ∙ ap (λ b. b - cut_place cuts j) c.cut-from.ensures.to in
     fill_next (segment_mean cuts row) 0 16 j c.loop-j.raised _
     (omega (arith, used, c.segments-j-end.ensures.divides.few_segments)) c.loop-j.invariant
-    (ap (λ s. s / (c.cut-from.result.1 - c.cut-from.result.0)) sum ∙ ap (λ n. raised_sum cuts row j / n) long)
+    (c.mean_of.ensures ∙ ap (λ s. s / (c.cut-from.result.1 - c.cut-from.result.0)) sum ∙ ap (λ n. raised_sum cuts row j / n) long)
