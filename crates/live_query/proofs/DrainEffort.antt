@@ -1,5 +1,5 @@
 -- Each turn in the drain part leaves less to do (`drain_less`).
-use Rattle.std.proofs.Common.{◌≡◌, ℕ, zero, suc, ◌+◌, ◌-◌, ◌*◌, ◌<◌, ◌≤◌, ◌⊎◌, List, None, Some, Option, true, false, length, set, eqb, ltb, sym, refl, ap, ◌∙◌, subst, inl, inr, ⊎_elim, arith}
+use Rattle.std.proofs.Common.{◌≡◌, ℕ, zero, suc, ◌+◌, ◌-◌, ◌*◌, ◌<◌, ◌≤◌, ◌⊎◌, true, false, length, ltb, sym, refl, ap, inl, inr, ⊎_elim, arith}
 use Rattle.std.specs.Prelude.{nat_lt, slice_set, ◌&&◌}
 use Rattle.std.proofs.lemmas.Bool.{cases_eq, cond_both, true≢false}
 use Rattle.std.proofs.lemmas.Bool.Decides.{nat_tests}
@@ -19,7 +19,7 @@ use Rattle.search_machine.specs.Ground.{Ground, scan}
 use Rattle.search_machine.specs.Workers.{Worker, after_pop, after_reply, fills, improves, in_phase, is_new, round_queue, scanned_by}
 use Rattle.search_machine.specs.Calls.{call_in}
 use Rattle.live_query.specs.DrainHands.{DrainKept, DrainDid, IsIdle, PopsRun}
-use Rattle.live_query.specs.Efforts.{drain_left, open_left, round_left, run_left}
+use Rattle.live_query.specs.Efforts.{open_left, round_left, run_left}
 use Rattle.live_query.proofs.DrainTies.{visit_here, visit_other}
 
 -- a sum where one number's part changed

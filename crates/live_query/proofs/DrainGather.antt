@@ -1,59 +1,34 @@
 -- What the searchers are before the drain part (`all_draining`), and what each was before it (`went`).
-use Rattle.std.proofs.Common.{◌≡◌, ◌≢◌, ℕ, zero, suc, ◌+◌, ◌%◌, ◌<◌, ◌≤◌, ◌⊎◌, List, [], ◌∷◌, None, Some, Option, Bool, All, true, false, length, map, get_or, eqb, refl, sym, ap, ◌∙◌, subst, inl, inr, ⊎_elim, arith}
-use Rattle.std.specs.Prelude.{IfSome, Any, is_some, not, nat_lt, slice_get, slice_index_or, ◌&&◌}
-use Rattle.std.proofs.lemmas.Bool.{and_from, cases_lt, cond-true, eq-eqb, true≢false}
+use Rattle.std.proofs.Common.{◌≡◌, ◌≢◌, ℕ, zero, suc, ◌<◌, ◌≤◌, List, [], ◌∷◌, None, Some, Option, All, true, false, length, map, refl, sym, ap, ◌∙◌, subst, arith}
+use Rattle.std.specs.Prelude.{is_some, slice_get, slice_index_or}
+use Rattle.std.proofs.lemmas.Bool.{true≢false}
 use Rattle.std.proofs.lemmas.List.{length-map}
-use Rattle.std.proofs.lemmas.Option.{none-some, same_Some, slice_get-get_or, slice_get_within, get_or_from_slice_get}
-use Rattle.list_totals.specs.Totals.{one_if_same, total, times}
+use Rattle.std.proofs.lemmas.Option.{none-some, slice_get_within}
+use Rattle.list_totals.specs.Totals.{total}
 use Rattle.list_totals.specs.Standing.{In}
-use Rattle.list_totals.proofs.Standing.{in_at, in_contains, in_total, total_in}
-use Rattle.list_totals.proofs.Totals.{total_map}
 use Rattle.best_word.specs.Passes.{Best}
-use Rattle.series_core.specs.declared.queue_words.Entry.{Entry}
-use Rattle.lower_bound.specs.Bound.{View}
-use Rattle.leaf_queues.specs.PlainQueue.{PlainQueue}
-use Rattle.sealed_runs.specs.Closed.{AreLines, IsLine, Line, least_limit, line_at, no_line}
-use Rattle.sealed_runs.specs.Entries.{Run, entry_at, no_entry, run_at}
-use Rattle.sealed_runs.proofs.Members.{filter_contains, map_contains}
-use Rattle.std.proofs.lemmas.List.Elements.{All-contains}
+use Rattle.sealed_runs.specs.Entries.{Run, run_at}
 use Rattle.sealed_runs.specs.Sealing.{fresh_visits}
-use Rattle.sealed_runs.specs.Visits.{IsPass, IsVisit, Visit, column, fresh_visit, handed, is_refused as is_refused_place, leaves, no_visit, visit_at}
+use Rattle.sealed_runs.specs.Visits.{Visit, fresh_visit, visit_at}
 use Rattle.subtree_build.specs.Index.{IndexParts}
-use Rattle.subtree_build.specs.Outline.{leaf_numbers}
 use Rattle.search_machine.specs.declared.phase.Phase.TheVariants.{Done}
-use Rattle.search_machine.specs.declared.outcome.QueueLine.{QueueLine}
-use Rattle.search_machine.specs.Basics.{Between, Ordered, entered}
-use Rattle.search_machine.specs.Closes.{AllStand, CameByPop, CameByPut, ClaimedOnce, Closes, ClosesStraight, QueueCloses, claimed_by, final, placed_by, placed_of, popped_by, popped_of, puts_by}
-use Rattle.search_machine.specs.Ground.{Fits, Ground, entry_of, last, queue_of, start_limit}
-use Rattle.search_machine.specs.Machine.{capacity_of}
-use Rattle.search_machine.specs.Outcome.{kept_of, line_of}
-use Rattle.search_machine.specs.OwnRecord.{Below, OwnRecord, PopMade, PutMade, RecordedWorker, WasClosed, WasPut, is_refused}
-use Rattle.search_machine.specs.Sound.{takes, waits}
-use Rattle.search_machine.specs.Stands.{OwnDrains, OwnPhase, StandsFor}
-use Rattle.search_machine.specs.Workers.{Worker, fills, round_queue}
-use Rattle.search_machine.proofs.AnyWorkers.{stands_any}
-use Rattle.search_machine.proofs.CallCounts.{placed_is}
-use Rattle.search_machine.proofs.Closing.{closed_legal}
-use Rattle.search_machine.proofs.ClosedStraight.{closed_straight}
-use Rattle.search_machine.proofs.Counts.{same_counts}
-use Rattle.search_machine.proofs.OwnLate.{below_real}
-use Rattle.search_machine.proofs.Places.{get_map, get_some, total_at, total_some}
-use Rattle.search_machine.proofs.PutsOnce.{placed_put, puts_once}
-use Rattle.query_core.specs.Questions.{CanBeSearched, Question, last_of, leaf_bound, search_over, view_in}
-use Rattle.query_core.specs.Teams.{AreOver, EndsIn}
-use Rattle.query_core.specs.Working.{IsOf, Shows, Working}
+use Rattle.search_machine.specs.Closes.{popped_of}
+use Rattle.search_machine.specs.Ground.{Fits, Ground}
+use Rattle.search_machine.specs.OwnRecord.{RecordedWorker}
+use Rattle.search_machine.specs.Stands.{StandsFor}
+use Rattle.search_machine.specs.Workers.{fills}
+use Rattle.search_machine.proofs.Places.{get_map, get_some}
+use Rattle.query_core.specs.Questions.{CanBeSearched, Question, last_of, search_over}
+use Rattle.query_core.specs.Teams.{AreOver}
+use Rattle.query_core.specs.Working.{Working}
 use Rattle.query_core.specs.Turning.{search_of}
-use Rattle.query_core.proofs.OfIndex.{last_is, search_fits}
-use Rattle.live_query.specs.DrainHands.{DrainKept, DrainTied, drain_over, given_of}
-use Rattle.live_query.specs.FillHands.{FillKept, FillTied, InRange}
-use Rattle.live_query.specs.Knowing.{DrainServes, DrainsBy, DrainsOn, IsLater}
-use Rattle.live_query.specs.Marked.{IsMarked, IsMarkedEntry, IsRunOf, line_of_run}
-use Rattle.live_query.specs.Parts.{AllFilled, Draining, EndsRight, HasFilled, Resting, draining, marks_of}
+use Rattle.query_core.proofs.OfIndex.{search_fits}
+use Rattle.live_query.specs.DrainHands.{DrainTied, given_of}
+use Rattle.live_query.specs.Knowing.{DrainServes, DrainsBy, DrainsOn}
+use Rattle.live_query.specs.Parts.{AllFilled, Draining, HasFilled, Resting, draining}
 use Rattle.live_query.specs.Resting.{Kept}
 use Rattle.live_query.proofs.FillGather.{search_at}
-use Rattle.live_query.proofs.Marks.{entry_same}
-use Rattle.live_query.proofs.Places.{CameFrom, Chosen, all_at, all_from, all_map, by_place, choose, map_at, maps_same, totals_same}
-use Rattle.live_query.proofs.RunQueues.{ascending_ordered, entered_in, in_filter, is_left, least_from, least_some, left_of, left_or_taken, once_entered, ordered_filter, round_covers}
+use Rattle.live_query.proofs.Places.{all_from, all_map, by_place}
 
 -- a fresh visit of a run
 fresh_at : (runs : List Run) (j : ℕ) → j < length runs → visit_at (fresh_visits runs) j ≡ fresh_visit (run_at runs j).claims

@@ -1,8 +1,6 @@
 -- A turn in the drain part: whatever the record was, there is a later one (`drain_on`), and less is left to do (`drain_less`).
-use Rattle.std.proofs.Common.{◌≡◌, ◌≢◌, ◌<◌, ℕ, None, Some, false, length, set, sym, refl, ap, ◌∙◌, subst, inl, inr, ⊎_elim, arith}
+use Rattle.std.proofs.Common.{◌≡◌, ◌≢◌, ◌<◌, ℕ, None, false, length, sym, refl, ap, ◌∙◌, subst, inl, inr, arith}
 use Rattle.series_core.specs.declared.queue_words.PutReply.TheVariants.{Filled}
-use Rattle.series_core.specs.declared.queue_words.PopReply.{PopReply}
-use Rattle.series_core.specs.declared.queue_words.PopReply.TheVariants.{Leaf, Closed}
 use Rattle.sealed_runs.specs.Visits.{visit_at}
 use Rattle.search_machine.specs.declared.calls.Call.{Call}
 use Rattle.search_machine.specs.declared.calls.Call.TheVariants.{Claim, Read, Offer, Put, Pop}
@@ -10,15 +8,15 @@ use Rattle.search_machine.specs.declared.calls.Reply.{Reply}
 use Rattle.search_machine.specs.declared.calls.Reply.TheVariants.{Claimed, Seen, Offered, PutTold, PopTold}
 use Rattle.search_machine.specs.declared.phase.Phase.TheVariants.{Done}
 use Rattle.search_machine.specs.Ground.{Fits, Ground}
-use Rattle.search_machine.specs.Workers.{Worker, after_reply, fills}
-use Rattle.search_machine.specs.OwnRecord.{OwnRecord, RecordedWorker, nothing_yet}
+use Rattle.search_machine.specs.Workers.{fills}
+use Rattle.search_machine.specs.OwnRecord.{RecordedWorker, nothing_yet}
 use Rattle.search_machine.specs.Replies.{after}
 use Rattle.search_machine.specs.Stands.{StandsFor}
 use Rattle.search_machine.proofs.EveryReply.{reply_stands}
 use Rattle.search_machine.proofs.Draining.{drains_on}
 use Rattle.query_core.specs.Questions.{last_of}
 use Rattle.query_core.specs.Turning.{Turns, search_of}
-use Rattle.query_core.specs.Working.{IsOf, Shows, Working}
+use Rattle.query_core.specs.Working.{IsOf, Working}
 use Rattle.live_query.specs.DrainHands.{DrainKept, DrainDid}
 use Rattle.live_query.specs.Efforts.{drain_left, round_left}
 use Rattle.live_query.specs.Knowing.{DrainServes, DrainsBy, DrainsOn, IsLater}

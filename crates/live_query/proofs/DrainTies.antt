@@ -1,18 +1,15 @@
 -- What a call and its reply did to the hand in the drain part, the longer record says too (`drain_ties`).
-use Rattle.std.proofs.Common.{◌≡◌, ℕ, zero, suc, ◌+◌, ◌<◌, ◌≤◌, List, [], ◌∷◌, ◌++◌, ◌⊎◌, None, Some, Option, true, false, cond, length, set, get_or, map, is_some, sym, refl, ap, ◌∙◌, subst, inl, inr, ⊎_elim, eqb, arith}
-use Rattle.std.specs.Prelude.{slice_set, nat_eq}
+use Rattle.std.proofs.Common.{◌≡◌, ℕ, zero, suc, ◌<◌, ◌≤◌, List, [], ◌∷◌, ◌⊎◌, None, Some, true, false, length, set, is_some, sym, refl, ap, ◌∙◌, subst, inl, inr, ⊎_elim, eqb, arith}
 use Rattle.std.proofs.lemmas.Option.{none-some, same_Some}
 use Rattle.std.proofs.lemmas.Bool.{cases_eq, cond-true, cond-false, eq-eqb, ne_eqb, true≢false}
 use Rattle.list_totals.specs.Totals.{one_if_same, total}
 use Rattle.list_totals.specs.Standing.{In}
 use Rattle.list_totals.proofs.Totals.{total_push}
 use Rattle.series_core.specs.declared.queue_words.Entry.{Entry}
-use Rattle.series_core.specs.declared.queue_words.PutReply.TheVariants.{Placed, Shut, Filled}
 use Rattle.series_core.specs.declared.queue_words.PopReply.{PopReply}
 use Rattle.series_core.specs.declared.queue_words.PopReply.TheVariants.{Leaf, Closed}
-use Rattle.sealed_runs.specs.Entries.{Run, run_at}
-use Rattle.sealed_runs.specs.Visits.{Visit, no_visit, visit_at, leaves}
-use Rattle.sealed_runs.specs.Popped.{Gives, Shuts}
+use Rattle.sealed_runs.specs.Entries.{run_at}
+use Rattle.sealed_runs.specs.Visits.{Visit, visit_at, leaves}
 use Rattle.search_machine.specs.declared.calls.Reply.{Reply}
 use Rattle.search_machine.specs.declared.calls.Reply.TheVariants.{Claimed, Seen, Offered, PutTold, PopTold}
 use Rattle.search_machine.specs.declared.phase.Phase.{Phase}

@@ -1,23 +1,22 @@
 -- Each turn in the fill part leaves less to do.
-use Rattle.std.proofs.Common.{◌≡◌, ℕ, zero, suc, ◌+◌, ◌*◌, ◌<◌, ◌≤◌, List, [], ◌∷◌, None, Some, Option, true, false, length, drop, ltb, eqb, sym, refl, ap, ◌∙◌, subst, arith}
-use Rattle.std.specs.Prelude.{slice_get, not, cond, ◌&&◌, nat_le}
+use Rattle.std.proofs.Common.{◌≡◌, ℕ, zero, suc, ◌+◌, ◌*◌, ◌<◌, ◌≤◌, List, [], ◌∷◌, None, Some, Option, true, length, drop, ltb, eqb, sym, refl, ap, ◌∙◌, subst, arith}
+use Rattle.std.specs.Prelude.{slice_get, not, ◌&&◌, nat_le}
 use Rattle.std.proofs.lemmas.Bool.{cond_both, true≢false}
 use Rattle.list_totals.specs.Totals.{total}
-use Rattle.series_core.specs.declared.pair.Pair.{Pair}
-use Rattle.series_core.specs.declared.queue_words.PutReply.TheVariants.{Placed, Shut, Filled}
+use Rattle.series_core.specs.declared.queue_words.PutReply.TheVariants.{Placed, Filled}
 use Rattle.search_machine.specs.declared.calls.Reply.{Reply}
-use Rattle.search_machine.specs.declared.calls.Reply.TheVariants.{Claimed, Seen, Offered, PutTold, PopTold}
+use Rattle.search_machine.specs.declared.calls.Reply.TheVariants.{Claimed, Seen, Offered, PutTold}
 use Rattle.search_machine.specs.declared.phase.Phase.{Phase}
 use Rattle.search_machine.specs.declared.phase.Phase.TheVariants.{Claim, Look, Give, Late, Aim, Pop, Offer, Done}
 use Rattle.search_machine.specs.declared.phase.Onward.TheVariants.{Look as ToLook, Aim as ToAim}
 use Rattle.search_machine.specs.Ground.{Ground, scan}
-use Rattle.search_machine.specs.Workers.{Worker, after_reply, fills, leaves_below, after_claim, after_late, after_look, after_scan, improves, in_phase, is_new, scanned_by, skip, stopped, without}
+use Rattle.search_machine.specs.Workers.{Worker, after_reply, fills, after_claim, after_late, improves, in_phase, is_new, scanned_by, skip, stopped, without}
 use Rattle.search_machine.specs.Calls.{call_in}
 use Rattle.query_core.specs.Turning.{Turns, search_of}
 use Rattle.query_core.specs.Working.{IsOf, Working}
 use Rattle.search_machine.proofs.Opening.{remove}
 use Rattle.search_machine.proofs.Places.{get_some, total_drop}
-use Rattle.live_query.specs.FillHands.{FillKept, FillDid, Ends}
+use Rattle.live_query.specs.FillHands.{FillKept, FillDid}
 use Rattle.live_query.specs.Efforts.{phase_left, own_left, root_left, roots_left, fill_left}
 use Rattle.live_query.specs.Knowing.{FillServes, FillKnows}
 use Rattle.live_query.proofs.FillKnowing.{same_search}

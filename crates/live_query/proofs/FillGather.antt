@@ -1,35 +1,34 @@
 -- From searchers that have filled and the closed claims to the records of their calls (`all_filled`); and what searchers know
 -- as they open (`opens_serving`, `opens_knowing`).
-use Rattle.std.proofs.Common.{◌≡◌, ◌≢◌, ℕ, zero, suc, ◌+◌, ◌<◌, ◌≤◌, List, [], None, Some, All, true, false, length, map, replicate, refl, sym, ap, ◌∙◌, subst, arith}
+use Rattle.std.proofs.Common.{◌≡◌, ◌≢◌, ℕ, zero, suc, ◌<◌, List, Some, All, true, false, length, map, replicate, refl, sym, ap, ◌∙◌, subst, arith}
 use Rattle.std.specs.Prelude.{slice_get, slice_index_or}
 use Rattle.std.proofs.lemmas.Bool.{true≢false}
 use Rattle.std.proofs.lemmas.List.{length-map, length-replicate}
-use Rattle.std.proofs.lemmas.Option.{none-some, same_Some, slice_get_within}
-use Rattle.list_totals.specs.Totals.{total, times, once_below}
+use Rattle.std.proofs.lemmas.Option.{none-some, same_Some}
+use Rattle.list_totals.specs.Totals.{total, times}
 use Rattle.list_totals.proofs.Totals.{once_below_most, once_below_yes, total_map}
-use Rattle.list_totals.specs.Standing.{In}
-use Rattle.claim_word.specs.Passes.{Claim as Counter, Pass, EachDrawnOnce, fresh_pass}
+use Rattle.claim_word.specs.Passes.{Claim as Counter, Pass, EachDrawnOnce}
 use Rattle.best_word.specs.Passes.{Best}
 use Rattle.subtree_build.specs.Index.{IndexParts}
-use Rattle.search_machine.specs.declared.phase.Phase.TheVariants.{Claim, Done}
+use Rattle.search_machine.specs.declared.phase.Phase.TheVariants.{Done}
 use Rattle.search_machine.specs.Ground.{Fits, Ground}
-use Rattle.search_machine.specs.Workers.{Worker, fills}
-use Rattle.search_machine.specs.OwnRecord.{OwnRecord, RecordedWorker, nothing_yet}
-use Rattle.search_machine.specs.Stands.{Stands, StandsFor}
+use Rattle.search_machine.specs.Workers.{fills}
+use Rattle.search_machine.specs.OwnRecord.{RecordedWorker, nothing_yet}
+use Rattle.search_machine.specs.Stands.{StandsFor}
 use Rattle.search_machine.specs.Closes.{claimed_by}
 use Rattle.search_machine.proofs.EveryReply.{own_idle, own_leader}
 use Rattle.search_machine.proofs.Places.{get_map, get_replicate, get_some}
 use Rattle.query_core.specs.Questions.{CanBeSearched, Question, last_of, search_over}
 use Rattle.query_core.specs.Teams.{AreHired}
 use Rattle.query_core.specs.Turning.{search_of}
-use Rattle.query_core.specs.Working.{IsOf, Shows, Working, opens_as}
+use Rattle.query_core.specs.Working.{IsOf, Working, opens_as}
 use Rattle.query_core.proofs.OfIndex.{search_fits}
-use Rattle.live_query.specs.FillHands.{FillKept, FillTied}
+use Rattle.live_query.specs.FillHands.{FillTied}
 use Rattle.live_query.specs.Knowing.{FillKnows, FillServes, FillsOn}
 use Rattle.live_query.specs.Resting.{Kept, fresh_kept}
 use Rattle.live_query.specs.Parts.{AllFilled, AreOpen, Filling, HasFilled, IsOpen, Resting, filling, resting}
 use Rattle.live_query.proofs.FillRunning.{is_end, not_end}
-use Rattle.live_query.proofs.Places.{CameFrom, Chosen, all_at, all_from, all_map, by_place, choose, map_at, totals_same}
+use Rattle.live_query.proofs.Places.{Chosen, all_at, all_from, all_map, by_place, choose, map_at, totals_same}
 
 -- the search of a worker at its place is that over its question and index
 pub search_at : (a : Question) (ix : IndexParts) (m i : ℕ) (w : Working) → IsOf a ix m i w → search_of w 1 ≡ search_over a ix 1 m

@@ -1,5 +1,5 @@
 -- A turn in the fill part keeps what a worker and its hand know.
-use Rattle.std.proofs.Common.{◌≡◌, ◌≢◌, ℕ, None, Some, true, length, sym, refl, ap, ◌∙◌, subst, arith}
+use Rattle.std.proofs.Common.{◌≡◌, ◌≢◌, ℕ, None, Some, true, length, sym, refl, ap, ◌∙◌, subst}
 use Rattle.series_core.specs.declared.queue_words.PutReply.TheVariants.{Placed, Filled}
 use Rattle.series_core.specs.declared.queue_words.PopReply.TheVariants.{Closed}
 use Rattle.search_machine.specs.declared.calls.Call.{Call}
@@ -14,7 +14,7 @@ use Rattle.search_machine.specs.Stands.{StandsFor}
 use Rattle.search_machine.specs.Workers.{fills}
 use Rattle.query_core.specs.Questions.{last_of, search_over}
 use Rattle.query_core.specs.Turning.{Turns, search_of}
-use Rattle.query_core.specs.Working.{IsOf, Shows, Working}
+use Rattle.query_core.specs.Working.{IsOf, Working}
 use Rattle.search_machine.proofs.EveryReply.{reply_stands}
 use Rattle.live_query.specs.FillHands.{FillKept, FillDid}
 use Rattle.live_query.specs.Knowing.{FillServes, FillKnows, FillsOn}

@@ -1,16 +1,15 @@
 -- What a call and its reply did to the hand in the fill part, the longer record says too.
-use Rattle.std.proofs.Common.{◌≡◌, ℕ, zero, suc, ◌+◌, ◌%◌, ◌<◌, ◌≤◌, List, [], ◌∷◌, ◌++◌, ◌⊎◌, None, Some, true, false, length, set, sym, refl, ap, ◌∙◌, subst, inl, inr, ⊎_elim, arith}
+use Rattle.std.proofs.Common.{◌≡◌, ℕ, zero, suc, ◌<◌, ◌≤◌, List, [], ◌∷◌, None, Some, true, length, set, sym, refl, ap, ◌∙◌, subst, inl, inr, ⊎_elim, arith}
 use Rattle.std.specs.Prelude.{slice_get, slice_set}
 use Rattle.std.proofs.Math.Nat.{mod-lt}
 use Rattle.std.proofs.lemmas.Option.{none-some}
 use Rattle.std.proofs.lemmas.Bool.{cases_eq, true≢false}
-use Rattle.list_totals.specs.Totals.{one_if_same, total, times}
+use Rattle.list_totals.specs.Totals.{times}
 use Rattle.list_totals.proofs.Totals.{times_push}
 use Rattle.claim_word.specs.Passes.{drew}
-use Rattle.series_core.specs.declared.queue_words.PutReply.TheVariants.{Placed, Shut, Filled}
-use Rattle.search_machine.specs.declared.calls.Call.{Call}
+use Rattle.series_core.specs.declared.queue_words.PutReply.TheVariants.{Placed, Filled}
 use Rattle.search_machine.specs.declared.calls.Reply.{Reply}
-use Rattle.search_machine.specs.declared.calls.Reply.TheVariants.{Claimed, Seen, Offered, PutTold, PopTold}
+use Rattle.search_machine.specs.declared.calls.Reply.TheVariants.{Claimed, Seen, Offered, PutTold}
 use Rattle.search_machine.specs.declared.phase.Phase.{Phase}
 use Rattle.search_machine.specs.declared.phase.Phase.TheVariants.{Claim, Look, Give, Late, Aim, Pop, Offer, Done}
 use Rattle.search_machine.specs.declared.phase.Onward.TheVariants.{Look as ToLook, Aim as ToAim}
@@ -18,7 +17,7 @@ use Rattle.list_totals.specs.Standing.{In}
 use Rattle.search_machine.specs.Ground.{Fits, Ground, entry_of, queue_of, worst}
 use Rattle.search_machine.specs.Workers.{Worker, fills}
 use Rattle.search_machine.specs.Sound.{in_hand}
-use Rattle.search_machine.specs.OwnRecord.{OwnRecord, OfferMade, PutMade, WasPut, claims_of, is_refused, with_claim, with_read, with_offer, with_put}
+use Rattle.search_machine.specs.OwnRecord.{OwnRecord, OfferMade, PutMade, WasPut, is_refused, with_claim, with_read, with_offer, with_put}
 use Rattle.search_machine.specs.Calls.{call_in}
 use Rattle.search_machine.specs.Replies.{own_after}
 use Rattle.search_machine.specs.Stands.{Stands}

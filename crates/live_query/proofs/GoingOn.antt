@@ -1,11 +1,10 @@
 -- Turns one after another: the worker keeps its place and the hand its objects, and in the drain part, whatever the record
 -- was, there is a later one.
-use Rattle.std.proofs.Common.{◌≡◌, true, sym, refl, ◌∙◌}
-use Rattle.search_machine.specs.OwnRecord.{RecordedWorker}
+use Rattle.std.proofs.Common.{refl, ◌∙◌}
 use Rattle.query_core.specs.Working.{IsOf, Working}
 use Rattle.live_query.specs.FillHands.{FillKept}
 use Rattle.live_query.specs.DrainHands.{DrainKept}
-use Rattle.live_query.specs.Knowing.{FillsOn, DrainsBy, DrainsOn, IsLater}
+use Rattle.live_query.specs.Knowing.{FillsOn, DrainsOn}
 
 -- a worker is where it is
 same_place : (w : Working) → IsOf w.question w.index w.queues w.number w

@@ -1,11 +1,11 @@
 -- The leaves that some searcher put: how their entries grow leaf by leaf (`entries_more`, `entries_skip`), and which of them
 -- a run holds (`run_of_marked`).
-use Rattle.std.proofs.Common.{◌≡◌, ◌≢◌, ℕ, zero, suc, ◌+◌, ◌%◌, ◌<◌, ◌≤◌, ◌⊎◌, List, [], ◌∷◌, ◌++◌, Some, Bool, true, false, length, map, refl, sym, ap, ◌∙◌, subst, inl, inr, ⊎_elim, arith}
+use Rattle.std.proofs.Common.{◌≡◌, ◌≢◌, ℕ, ◌+◌, ◌<◌, ◌≤◌, List, [], ◌∷◌, ◌++◌, Some, Bool, true, length, sym, ap, ◌∙◌, subst, inl, ⊎_elim, arith}
 use Rattle.std.specs.Prelude.{slice_get}
 use Rattle.std.proofs.lemmas.Bool.{cases_eq}
 use Rattle.std.proofs.lemmas.Bool.Decides.{nat_tests}
 use Rattle.std.proofs.lemmas.Option.{slice_get_within}
-use Rattle.list_totals.specs.Totals.{total, one_if_same, once_below}
+use Rattle.list_totals.specs.Totals.{one_if_same, once_below}
 use Rattle.list_totals.specs.Standing.{In}
 use Rattle.list_totals.proofs.Standing.{in_append, in_behind, in_front}
 use Rattle.list_totals.proofs.Totals.{total_push}

@@ -1,17 +1,16 @@
 -- What a sealed run leaves: the entries that were not taken. Each leaf stands among the entries of a run once at most
 -- (`once_entered`), and is either left or taken (`left_or_taken`).
-use Rattle.std.proofs.Common.{◌≡◌, ℕ, zero, suc, ◌+◌, ◌-◌, ◌*◌, ◌/◌, ◌%◌, ◌<◌, ◌≤◌, ◌⊎◌, List, [], ◌∷◌, None, Some, Option, Bool, true, false, cond, All, length, ltb, refl, sym, ap, ◌∙◌, subst, inl, inr, ⊎_elim, arith}
-use Rattle.std.specs.Prelude.{AllPairs, is_some, not, nat_lt, slice_get, min}
+use Rattle.std.proofs.Common.{◌≡◌, ℕ, zero, suc, ◌+◌, ◌-◌, ◌*◌, ◌/◌, ◌%◌, ◌<◌, ◌≤◌, ◌⊎◌, List, [], ◌∷◌, None, Some, Option, Bool, true, false, All, refl, sym, ap, ◌∙◌, subst, inl, inr, ⊎_elim, arith}
+use Rattle.std.specs.Prelude.{is_some, not, nat_lt, slice_get, min}
 use Rattle.std.specs.List.{filter}
 use Rattle.std.proofs.Math.Nat.{mod-lt, mod-add-div'}
 use Rattle.std.proofs.lemmas.Nat.{mod-mul-add}
-use Rattle.std.proofs.lemmas.Bool.{cases_lt, cond_both, cond-true, cond-false, true≢false}
+use Rattle.std.proofs.lemmas.Bool.{cases_lt, cond_both, true≢false}
 use Rattle.std.proofs.lemmas.Bool.Decides.{nat_tests}
-use Rattle.std.proofs.lemmas.List.Elements.{All-head, All-tail}
 use Rattle.std.proofs.lemmas.Option.{none-some, same_Some}
-use Rattle.list_totals.specs.Totals.{one_if_same, total}
+use Rattle.list_totals.specs.Totals.{one_if_same}
 use Rattle.list_totals.specs.Standing.{In}
-use Rattle.list_totals.proofs.Standing.{in_all, in_total, total_in}
+use Rattle.list_totals.proofs.Standing.{in_all, in_total}
 use Rattle.series_core.specs.declared.queue_words.Entry.{Entry}
 use Rattle.series_core.specs.EntryOrder.{Before, IsAscending, entry_before}
 use Rattle.sealed_runs.specs.Closed.{least_limit, lesser}

@@ -1,36 +1,33 @@
 -- What the searchers and the closed runs say together: the search has a legal and straight outcome (`ends_right`).
-use Rattle.std.proofs.Common.{◌≡◌, ◌≢◌, ℕ, zero, suc, ◌+◌, ◌%◌, ◌<◌, ◌≤◌, ◌⊎◌, List, [], ◌∷◌, None, Some, Option, Bool, All, true, false, length, map, get_or, eqb, refl, sym, ap, ◌∙◌, subst, inl, inr, ⊎_elim, arith}
-use Rattle.std.specs.Prelude.{IfSome, Any, is_some, not, nat_lt, slice_get, slice_index_or, ◌&&◌}
+use Rattle.std.proofs.Common.{◌≡◌, ◌≢◌, ℕ, ◌+◌, ◌<◌, ◌≤◌, ◌⊎◌, List, None, Some, All, true, false, length, map, eqb, refl, sym, ap, ◌∙◌, subst, inl, inr, ⊎_elim, arith}
+use Rattle.std.specs.Prelude.{IfSome, is_some, not, nat_lt, slice_get, ◌&&◌}
 use Rattle.std.proofs.lemmas.Bool.{and_from, cases_lt, cond-true, eq-eqb, true≢false}
 use Rattle.std.proofs.lemmas.List.{length-map}
-use Rattle.std.proofs.lemmas.Option.{none-some, same_Some, slice_get-get_or, slice_get_within, get_or_from_slice_get}
-use Rattle.list_totals.specs.Totals.{one_if_same, total, times}
+use Rattle.std.proofs.lemmas.Option.{same_Some, slice_get-get_or, slice_get_within, get_or_from_slice_get}
+use Rattle.list_totals.specs.Totals.{one_if_same, total}
 use Rattle.list_totals.specs.Standing.{In}
 use Rattle.list_totals.proofs.Standing.{in_at, in_contains, in_total, total_in}
 use Rattle.list_totals.proofs.Totals.{total_map}
 use Rattle.best_word.specs.Passes.{Best}
 use Rattle.series_core.specs.declared.queue_words.Entry.{Entry}
-use Rattle.lower_bound.specs.Bound.{View}
 use Rattle.leaf_queues.specs.PlainQueue.{PlainQueue}
-use Rattle.sealed_runs.specs.Closed.{AreLines, IsLine, Line, least_limit, line_at, no_line}
+use Rattle.sealed_runs.specs.Closed.{AreLines, IsLine, Line, line_at, no_line}
 use Rattle.sealed_runs.specs.Entries.{Run, entry_at, no_entry, run_at}
 use Rattle.sealed_runs.proofs.Members.{filter_contains, map_contains}
 use Rattle.std.proofs.lemmas.List.Elements.{All-contains}
-use Rattle.sealed_runs.specs.Sealing.{fresh_visits}
-use Rattle.sealed_runs.specs.Visits.{IsPass, IsVisit, Visit, column, fresh_visit, handed, is_refused as is_refused_place, leaves, no_visit, visit_at}
+use Rattle.sealed_runs.specs.Visits.{IsPass, IsVisit, Visit, column, handed, is_refused as is_refused_place, leaves, visit_at}
 use Rattle.subtree_build.specs.Index.{IndexParts}
 use Rattle.subtree_build.specs.Outline.{leaf_numbers}
 use Rattle.search_machine.specs.declared.phase.Phase.TheVariants.{Done}
 use Rattle.search_machine.specs.declared.outcome.QueueLine.{QueueLine}
 use Rattle.search_machine.specs.Basics.{Between, Ordered, entered}
-use Rattle.search_machine.specs.Closes.{AllStand, CameByPop, CameByPut, ClaimedOnce, Closes, ClosesStraight, QueueCloses, claimed_by, final, placed_by, placed_of, popped_by, popped_of, puts_by}
-use Rattle.search_machine.specs.Ground.{Fits, Ground, entry_of, last, queue_of, start_limit}
+use Rattle.search_machine.specs.Closes.{AllStand, CameByPop, CameByPut, ClaimedOnce, Closes, ClosesStraight, QueueCloses, claimed_by, final, placed_by, placed_of, popped_by}
+use Rattle.search_machine.specs.Ground.{Fits, Ground, entry_of, queue_of, start_limit}
 use Rattle.search_machine.specs.Machine.{capacity_of}
-use Rattle.search_machine.specs.Outcome.{kept_of, line_of}
+use Rattle.search_machine.specs.Outcome.{line_of}
 use Rattle.search_machine.specs.OwnRecord.{Below, OwnRecord, PopMade, PutMade, RecordedWorker, WasClosed, WasPut, is_refused}
 use Rattle.search_machine.specs.Sound.{takes, waits}
 use Rattle.search_machine.specs.Stands.{OwnDrains, OwnPhase, StandsFor}
-use Rattle.search_machine.specs.Workers.{Worker, fills, round_queue}
 use Rattle.search_machine.proofs.AnyWorkers.{stands_any}
 use Rattle.search_machine.proofs.CallCounts.{placed_is}
 use Rattle.search_machine.proofs.Closing.{closed_legal}
@@ -39,21 +36,18 @@ use Rattle.search_machine.proofs.Counts.{same_counts}
 use Rattle.search_machine.proofs.OwnLate.{below_real}
 use Rattle.search_machine.proofs.Places.{get_map, get_some, total_at, total_some}
 use Rattle.search_machine.proofs.PutsOnce.{placed_put, puts_once}
-use Rattle.query_core.specs.Questions.{CanBeSearched, Question, last_of, leaf_bound, search_over, view_in}
-use Rattle.query_core.specs.Teams.{AreOver, EndsIn}
+use Rattle.query_core.specs.Questions.{CanBeSearched, Question, search_over, view_in}
 use Rattle.query_core.specs.Working.{IsOf, Shows, Working}
-use Rattle.query_core.specs.Turning.{search_of}
 use Rattle.query_core.proofs.OfIndex.{last_is, search_fits}
-use Rattle.live_query.specs.DrainHands.{DrainKept, DrainTied, drain_over, given_of}
-use Rattle.live_query.specs.FillHands.{FillKept, FillTied, InRange}
-use Rattle.live_query.specs.Knowing.{DrainServes, DrainsBy, DrainsOn, IsLater}
-use Rattle.live_query.specs.Marked.{IsMarked, IsMarkedEntry, IsRunOf, line_of_run}
-use Rattle.live_query.specs.Parts.{AllDrainOn, AllFilled, Draining, EndsRight, HasFilled, Resting, draining, marks_of}
+use Rattle.live_query.specs.DrainHands.{given_of}
+use Rattle.live_query.specs.Knowing.{IsLater}
+use Rattle.live_query.specs.Marked.{IsMarked, IsRunOf, line_of_run}
+use Rattle.live_query.specs.Parts.{AllDrainOn, AllFilled, Draining, EndsRight, Resting, draining, marks_of}
 use Rattle.live_query.specs.Resting.{Kept}
 use Rattle.live_query.proofs.DrainGather.{Went, known_at, none_closed, went}
 use Rattle.live_query.proofs.FillGather.{search_at}
 use Rattle.live_query.proofs.Marks.{entry_same}
-use Rattle.live_query.proofs.Places.{CameFrom, Chosen, all_at, all_from, all_map, by_place, choose, map_at, maps_same, totals_same}
+use Rattle.live_query.proofs.Places.{Chosen, all_at, all_from, choose, map_at, maps_same, totals_same}
 use Rattle.live_query.proofs.RunQueues.{ascending_ordered, entered_in, in_filter, is_left, least_from, least_some, left_of, left_or_taken, once_entered, ordered_filter, round_covers}
 
 module _ (a : Question) (ix : IndexParts) (m : ℕ) (best : Best) (searches : CanBeSearched a ix) (some : 0 < m)

@@ -4,9 +4,9 @@ use Rattle.list_totals.specs.Totals.{total, one_if_same}
 use Rattle.list_totals.specs.Standing.{In}
 use Rattle.best_word.specs.Passes.{Best}
 use Rattle.series_core.specs.declared.queue_words.Entry.{Entry}
-use Rattle.series_core.specs.declared.queue_words.PutReply.TheVariants.{Placed, Shut, Filled}
+use Rattle.series_core.specs.declared.queue_words.PutReply.TheVariants.{Filled}
 use Rattle.series_core.specs.declared.queue_words.PopReply.{PopReply}
-use Rattle.series_core.specs.declared.queue_words.PopReply.TheVariants.{Leaf, Closed}
+use Rattle.series_core.specs.declared.queue_words.PopReply.TheVariants.{Closed}
 use Rattle.sealed_runs.specs.Entries.{Run, run_at}
 use Rattle.sealed_runs.specs.Visits.{Visit, visit_at, leaves}
 use Rattle.sealed_runs.specs.Popped.{IfLeaf, IfClosed, Gives, Shuts}

@@ -3,8 +3,8 @@
 use Rattle.std.specs.Prelude.{ℕ, ◌+◌, ◌-◌, ◌*◌, List, Option, None, Some, length, drop}
 use Rattle.list_totals.specs.Totals.{total}
 use Rattle.list_totals.specs.Below.{sum_below}
-use Rattle.sealed_runs.specs.Entries.{Run, run_at}
-use Rattle.sealed_runs.specs.Visits.{Visit, visit_at}
+use Rattle.sealed_runs.specs.Entries.{run_at}
+use Rattle.sealed_runs.specs.Visits.{visit_at}
 use Rattle.search_machine.specs.declared.phase.Phase.{Phase}
 use Rattle.search_machine.specs.declared.phase.Phase.TheVariants.{Claim, Look, Give, Late, Aim, Pop, Offer, Done}
 use Rattle.search_machine.specs.declared.phase.Onward.TheVariants.{Look as ToLook, Aim as ToAim}

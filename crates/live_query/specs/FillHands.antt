@@ -4,8 +4,8 @@ use Rattle.list_totals.specs.Totals.{total, times}
 use Rattle.list_totals.specs.Standing.{In}
 use Rattle.claim_word.specs.Passes.{Claim as Counter, Pass, drew, fresh_pass}
 use Rattle.best_word.specs.Passes.{Best}
-use Rattle.series_core.specs.declared.queue_words.PutReply.TheVariants.{Placed, Shut, Filled}
-use Rattle.series_core.specs.declared.queue_words.PopReply.TheVariants.{Leaf, Closed}
+use Rattle.series_core.specs.declared.queue_words.PutReply.TheVariants.{Placed, Filled}
+use Rattle.series_core.specs.declared.queue_words.PopReply.TheVariants.{Closed}
 use Rattle.search_machine.specs.declared.calls.Call.{Call}
 use Rattle.search_machine.specs.declared.calls.Call.TheVariants.{Claim, Read, Offer, Put, Pop}
 use Rattle.search_machine.specs.declared.calls.Reply.{Reply}

@@ -1,5 +1,5 @@
 -- What a worker and its hand know together, and when the hand is of the worker's search.
-use Rattle.std.specs.Prelude.{◌≡◌, ◌≢◌, ℕ, length}
+use Rattle.std.specs.Prelude.{◌≡◌, ◌≢◌, length}
 use Rattle.search_machine.specs.declared.phase.Phase.TheVariants.{Done}
 use Rattle.search_machine.specs.Ground.{Fits}
 use Rattle.search_machine.specs.OwnRecord.{RecordedWorker}

@@ -1,10 +1,9 @@
 -- The next worker, and its pass.
-use Rattle.std.proofs.Common.{◌≡◌, ℕ, ◌+◌, ◌≤◌, List, [], ◌∷◌, ◌++◌, All, length, vec_len, refl, sym, ap, ◌∙◌, subst, append_assoc, length-append, arith}
+use Rattle.std.proofs.Common.{◌≡◌, List, [], ◌∷◌, ◌++◌, All, refl, sym, ap, ◌∙◌, subst, append_assoc, length-append, arith}
 use Rattle.std.specs.Vec.Iter.{into_iter_items}
 use Rattle.std.proofs.lemmas.List.Elements.{All-push}
 use Rattle.sealed_runs.specs.Entries.{Run}
-use Rattle.sealed_runs.specs.Visits.{IsPass, Visit}
-use Rattle.query_core.specs.Working.{Working}
+use Rattle.sealed_runs.specs.Visits.{IsPass}
 use Rattle.live_query.specs.Parts.{Draining}
 use Rattle.live_query.proofs.Places.{all_middle, map_more}
 use Rattle.live_query.proofs.drain_part.dismiss.Goals as goal

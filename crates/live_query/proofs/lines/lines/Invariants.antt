@@ -1,5 +1,5 @@
 -- The lines so far.
-use Rattle.std.proofs.Common.{◌≡◌, ◌≤◌, length, map, take, vec_capacity, vec_len}
+use Rattle.std.proofs.Common.{◌≡◌, ◌≤◌, map, take, vec_capacity, vec_len}
 use Rattle.live_query.specs.Marked.{line_of_run}
 use Rattle.live_query.proofs.lines.lines.Given as goal
 

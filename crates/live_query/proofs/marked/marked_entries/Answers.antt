@@ -7,7 +7,7 @@ use Rattle.subtree_build.proofs.LeafWords.{leaf_has_segments}
 use Rattle.query_core.specs.Questions.{view_in}
 use Rattle.live_query.specs.Marked.{AreMarked}
 use Rattle.live_query.specs.Parts.{marks_of}
-use Rattle.live_query.proofs.Marks.{entries_more, entries_skip, none_marked}
+use Rattle.live_query.proofs.Marks.{entries_more, entries_skip}
 use Rattle.live_query.proofs.marked.marked_entries.Goals as goal
 use Rattle.live_query.proofs.marked.marked_entries.Goals.{then-was_put, else-was_put}
 

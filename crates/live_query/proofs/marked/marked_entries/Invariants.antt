@@ -1,5 +1,5 @@
 -- The entries of the leaves so far.
-use Rattle.std.proofs.Common.{◌≡◌, ◌≤◌, vec_capacity, vec_len}
+use Rattle.std.proofs.Common.{◌≤◌, vec_capacity, vec_len}
 use Rattle.query_core.specs.Questions.{view_in}
 use Rattle.live_query.specs.Marked.{AreMarked}
 use Rattle.live_query.specs.Parts.{marks_of}

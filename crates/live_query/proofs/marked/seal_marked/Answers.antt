@@ -1,7 +1,5 @@
 -- The runs of the entries that were put are those of the marked leaves.
 use Rattle.std.proofs.lemmas.Result.{IfOk-weaker}
-use Rattle.query_core.specs.Questions.{view_in}
-use Rattle.live_query.specs.Parts.{marks_of}
 use Rattle.live_query.proofs.Marks.{marked_differ, run_of_marked}
 use Rattle.live_query.proofs.marked.seal_marked.Goals as goal
 

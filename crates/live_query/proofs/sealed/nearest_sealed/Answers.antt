@@ -1,5 +1,5 @@
 -- The searchers as they open, and what the outcome is by how they end.
-use Rattle.std.proofs.Common.{◌≡◌, ℕ, List, All, ap, length, map, subst, sym, ◌∙◌, arith}
+use Rattle.std.proofs.Common.{◌≡◌, ℕ, List, All, ap, length, subst, sym, ◌∙◌}
 use Rattle.std.proofs.lemmas.List.{length-map}
 use Rattle.std.proofs.lemmas.Result.{IfOk-weaker}
 use Rattle.search_machine.specs.Legal.{IsStraight, Legal}

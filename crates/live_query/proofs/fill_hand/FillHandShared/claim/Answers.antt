@@ -1,4 +1,4 @@
-use Rattle.std.proofs.Common.{◌≡◌, ◌∙◌, ap, arith}
+use Rattle.std.proofs.Common.{◌∙◌, ap, arith}
 use Rattle.claim_word.specs.Passes.{Pass}
 use Rattle.live_query.specs.FillHands.{FillKept}
 use Rattle.live_query.proofs.fill_hand.FillHandShared.claim.Goals as goal
