@@ -67,7 +67,9 @@ invariant_of-result g c =
       subst P (sym places) (are_places joined.members.items 0 joined.leaves.items (omega (arith, c.requires.whole))),
       are_ranges (tree rows layout size) joined.nodes.items joined.firsts.items c.in_ok-leaves.leaves.items
           c.requires.nodes c.requires.firsts long many,
-      ap (λ (ms : List (List ℕ)). length ms) (c.in_ok-means.ensures ∙ ap (all_means rows layout) c.as_slice-2.ensures.value) ∙ length-map joined.members.items (means_of rows layout),
+      ap (λ (ms : List (List ℕ)). length ms)
+          (c.in_ok-means.ensures ∙ ap (all_means rows layout) c.as_slice-2.ensures.value)
+          ∙ length-map joined.members.items (means_of rows layout),
     )
 
 pub returns-clause-tree : goal.returns-clause-tree
