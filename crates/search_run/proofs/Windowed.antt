@@ -90,7 +90,9 @@ stops_conclude P each qs IsRight R writing right stop stopped =
     concludes_map (IsTextOf P qs) (Begun P qs) IsRight R R writing (status_of stop) right begun (λ s r. r) (by_stop stop stopped)
   where
     begun : (text : List ℕ) → Begun P qs text → (rest : List ℕ) × IsRight (text ++ rest)
-    begun text w = let more = text_finish P each 0 qs w.0 text w.1 in (more.0, right (text ++ more.0) more.1)
+    begun text w =
+        let more = text_finish P (λ q. Unit {0}) (λ i q any. each i q) 0 qs w.0 text (λ k d below. tt) w.1 in
+        (more.0, right (text ++ more.0) more.1)
 
     by_stop : (stop : Stop) → Stops P qs writing stop
         → ConcludesBy (IsTextOf P qs) (Begun P qs) R writing (status_of stop)
