@@ -1,0 +1,5 @@
+pub mod Others
+pub mod Farness
+pub mod Joining
+pub mod Weighing
+pub mod Together

@@ -1,0 +1,64 @@
+-- One worker more is merged; at the end the passes are those of all workers, and their lists the k smallest.
+use Rattle.std.proofs.Common.{◌≡◌, ◌<◌, List, [], ◌∷◌, ◌++◌, All, true, length, map, sym, ap, ◌∙◌, subst, arith, append_assoc, length-append}
+use Rattle.std.specs.Vec.Iter.{into_iter_items}
+use Rattle.std.proofs.lemmas.List.{append-nil, map_push, nil_from_length}
+use Rattle.std.proofs.lemmas.List.Elements.{All-push, All-map}
+use Rattle.claim_word.specs.Passes.{Pass, EachDrawnOnce}
+use Rattle.series_core.specs.Pairs.{smallest}
+use Rattle.discord_query.specs.Done.{IsDone}
+use Rattle.discord_query.specs.declared.searcher.Searcher.{Searcher}
+use Rattle.discord_query.proofs.Together.{merged_more, all_top}
+use Rattle.discord_query.proofs.team.dismiss.Goals as goal
+
+pub loop-worker-preserved : goal.loop-worker-preserved
+loop-worker-preserved g c =
+    let was = c.loop-worker.invariant in
+    let done = c.loop-worker.yielded in
+    let w = c.in-Some.worker in
+    let k = c.args.search.now.k in
+    record {
+      whole = append_assoc done (w ∷ []) (into_iter_items c.next.new.self)
+          ∙ (ap (λ l. done ++ l) (sym c.in-Some.ensures.steps.0) ∙ was.whole);
+      passes = c.push_reserved.ensures.items ∙ (ap (λ l. l ++ w.pass ∷ []) was.passes
+          ∙ sym (map_push (λ (v : Searcher). v.pass) done w));
+      ended = All-push (λ (v : Searcher). v.ended ≡ true) done w was.ended c.if-not-ended.false;
+      room = c.merge.ensures.k ∙ was.room;
+      pairs = c.merge.ensures.pairs ∙ ((λ i. smallest (was.room i) (w.list.pairs ++ was.pairs i))
+          ∙ sym (merged_more k [] done w));
+      len = omega (arith, c.push_reserved.ensures.len, was.len, length-append done (w ∷ []));
+      space = omega (arith, c.push_reserved.ensures.capacity, was.space);
+    }
+
+pub close-requires-clause-own : goal.close-requires-clause-own
+close-requires-clause-own g c =
+    let own : Pass → Type 0 = λ p. p.claims ≡ c.args.claims in
+    let left = c.loop-worker.worker-iterator in
+    let none : into_iter_items left ≡ []
+    = nil_from_length (into_iter_items left) (omega (arith, c.in-None.ensures.steps.0, left.rest.ok.0)) in
+    let whole : c.loop-worker.yielded ≡ c.args.team.items
+    = sym (append-nil c.loop-worker.yielded) ∙ (ap (λ l. c.loop-worker.yielded ++ l) (sym none)
+    ∙ c.loop-worker.invariant.whole) in
+    let P : List Pass → Type 0 = λ ps. All own ps in
+    subst P (sym c.loop-worker.invariant.passes)
+    (All-map own (λ (w : Searcher). w.pass) c.loop-worker.yielded
+    (subst (λ ws. All (λ (w : Searcher). w.pass.claims ≡ c.args.claims) ws) (sym whole) c.requires.own))
+
+pub returns : goal.returns
+returns g c =
+    let all = g.R.Rows.collection c.args.search.now.rows.now in
+    let k = c.args.search.now.k in
+    let was = c.loop-worker.invariant in
+    let ws = c.loop-worker.yielded in
+    let left = c.loop-worker.worker-iterator in
+    let none : into_iter_items left ≡ []
+    = nil_from_length (into_iter_items left) (omega (arith, c.in-None.ensures.steps.0, left.rest.ok.0)) in
+    let whole : c.loop-worker.yielded ≡ c.args.team.items
+    = sym (append-nil c.loop-worker.yielded) ∙ (ap (λ l. c.loop-worker.yielded ++ l) (sym none)
+    ∙ c.loop-worker.invariant.whole) in
+    let Done : Searcher → Type 0 = λ w. w.ended ≡ true → IsDone all k w.pass w.list in
+    let done : All Done ws = subst (λ l. All Done l) (sym whole) c.requires.done in
+    let some : 0 < length ws = omega (arith, ap length whole, c.requires.some, c.args.team.ok.0) in
+    let each : EachDrawnOnce (length all.series) (map (λ (w : Searcher). w.pass) ws)
+    = subst (λ l. EachDrawnOnce (length all.series) l) was.passes
+    (subst (λ n. EachDrawnOnce n c.loop-worker.passes.items) c.requires.count c.close.ensures) in
+    was.pairs ∙ all_top all k ws some (λ n d low. done n d low (was.ended n d low)) each

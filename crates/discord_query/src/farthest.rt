@@ -1,0 +1,77 @@
+//! The k discords: a team of workers finds their numbers, and each of these is then told with its nearest other.
+ghost use Rattle.std.specs.Prelude.{◌≡◌, ◌≤◌, IfOk};
+ghost use Rattle.std.specs.List.{flat_map};
+ghost use Rattle.subtree_build.specs.Fits.{Fits};
+ghost use Rattle.discord_query.specs.Discords.{discords, discords_of};
+ghost use Rattle.discord_query.specs.Searches.{IsReady, AreSeries};
+
+use crate::discords::{Discord, DiscordList};
+use crate::homes::homes_of;
+use crate::search::Search;
+use crate::team::{dismiss, draw_together, hire};
+use best_word::BestWord;
+use claim_word::Claims;
+use isax_word::Layout;
+use outside::{Gate, NoMemory};
+use series_core::{NONE, Pair, Rows};
+use std::alloc::Global;
+use std::thread::Threads;
+use subtree_build::Index;
+
+/// The k series whose nearest other is farthest, the farthest first, of two as far the one with the smaller number: whatever
+/// the number of workers, from 1 to 64, and whichever series each of them draws. `gate.pass(worker, turn)` comes before each
+/// draw of a series, turns counted from 0. It waits for nobody, and one worker starts no thread.
+pub fn discord<T: Threads + Sync, R: Rows + Sync, G: Gate + Sync>(
+    rt: &T,
+    alloc: Global,
+    rows: &R,
+    index: &Index,
+    layout: &Layout,
+    k: u32,
+    workers: u32,
+    gate: &G,
+) -> Result<DiscordList, NoMemory>
+    requires fits { Fits (R.collection rows.now) layout.now index.now }
+    requires length { (R.collection rows.now).points ≡ layout.now.cuts.row_length }
+    requires k { (1 ≤ k) × (k ≤ 1024) }
+    requires workers { (1 ≤ workers) × (workers ≤ 64) }
+    ensures { IfOk result (λ ds. ds ≡ discords (R.collection rows.now) k) }
+{
+    let homes = homes_of(alloc, index, rows.count())?;
+    let search = Search {
+        rows,
+        index,
+        layout,
+        homes: homes.as_slice(),
+        k,
+    };
+    let (best, words) = BestWord::begin(alloc, &search, NONE, workers)?;
+    let (claims, passes) = Claims::begin(alloc, u64::from(rows.count()), workers)?;
+    let mut team = hire(alloc, &search, &claims, &best, passes, words)?;
+    draw_together(rt, alloc, &search, &claims, &best, gate, &mut team);
+    let farthest = dismiss(alloc, &search, claims, team)?;
+    named(alloc, &search, farthest.pairs())
+}
+
+/// Each of these series with its nearest other.
+fn named<R: Rows>(
+    alloc: Global,
+    search: &Search<'_, R>,
+    farthest: &[Pair],
+) -> Result<DiscordList, NoMemory>
+    requires ready { IsReady R.collection search.now }
+    requires inside { AreSeries (R.collection search.now.rows.now) farthest.now }
+    ensures { IfOk result (λ ds. ds ≡ flat_map (λ p. discords_of (R.collection search.now.rows.now) p.number) farthest.now) }
+{
+    let mut items = Vec::with_capacity(alloc, farthest.len())?;
+    for pair in farthest {
+        if let Some(other) = search.other(alloc, pair.number)? {
+            items.push(Discord {
+                number: pair.number,
+                distance: other.distance,
+                neighbour: other.number,
+            })?;
+        }
+    }
+    Ok(DiscordList { items })
+}

@@ -1,0 +1,16 @@
+//! The discords of a collection: the series whose nearest other is farthest, found by workers that draw series side by side.
+//! A worker gives a series up as soon as another is nearer to it than what k series are known to exceed.
+#![tactic(auto)]
+
+mod discords;
+mod farthest;
+mod homes;
+mod search;
+mod searcher;
+mod team;
+
+pub use discords::{Discord, DiscordList};
+pub use farthest::discord;
+
+#[cfg(test)]
+mod tests;

@@ -1,0 +1,88 @@
+//! The nearest other of one series: whether some other is nearer than a limit allows, and which is the nearest.
+ghost use Rattle.std.specs.Prelude.{◌≡◌, ◌<◌, IfOk, All, length, true, take};
+ghost use Rattle.std.specs.List.{filter};
+ghost use Rattle.std.specs.Option.{option_to_list};
+ghost use Rattle.discord_query.specs.Discords.{farness_of, is_other, other, least_farness};
+ghost use Rattle.discord_query.specs.Searches.{IsReady, IsNearOther};
+
+use best_word::Floor;
+use isax_word::{Layout, Member};
+use outside::NoMemory;
+use query_core::{Task, one_worker_answer};
+use series_core::{NONE, Pair, Rows};
+use simd_distance::distance_within;
+use std::alloc::Global;
+use subtree_build::Index;
+
+/// What all workers search: rows, their index, the leaf of each series, and how many discords are wanted.
+#[derive(Drop)]
+pub(crate) struct Search<'a, R> {
+    pub rows: &'a R,
+    pub index: &'a Index,
+    pub layout: &'a Layout,
+    pub homes: &'a [u32],
+    pub k: u32,
+}
+
+/// `NONE` less the distance of the k-th discord, or `NONE` where there are fewer: no limit falls below it.
+impl<'a, R: Rows> Floor for Search<'a, R> {
+    ghost floor = { λ s. least_farness (R.collection s.rows.now) s.k };
+}
+
+/// The first of the pairs that is not of this series.
+fn first_but(pairs: &[Pair], number: u32) -> Option<Pair>
+    ensures { option_to_list result ≡ take 1 (filter (is_other number) pairs.now) }
+{
+    for pair in pairs {
+        if pair.number != number {
+            return Some(*pair);
+        }
+    }
+    None
+}
+
+impl<'a, R: Rows> Search<'a, R> {
+    /// The nearest other of a series: of two as near, the one with the smaller number. None where there is no other.
+    pub fn other(&self, alloc: Global, number: u32) -> Result<Option<Pair>, NoMemory>
+        requires ready { IsReady R.collection self.now }
+        requires number { number < length (R.collection self.now.rows.now).series }
+        ensures { IfOk result (λ o. option_to_list o ≡ other (R.collection self.now.rows.now) number) }
+    {
+        let task = Task::new(self.rows, self.rows.row(number), 2, self.layout);
+        let nearest = one_worker_answer(alloc, &task, self.index, 1)?;
+        Ok(first_but(nearest.items.as_slice(), number))
+    }
+
+    /// Whether a series may be given up: some other in its leaf is nearer to it than `NONE` less the limit.
+    pub fn is_given_up(&self, number: u32, limit: u64) -> bool
+        requires ready { IsReady R.collection self.now }
+        requires number { number < length (R.collection self.now.rows.now).series }
+        ensures { result ≡ true → All (λ p. limit < p.distance) (farness_of (R.collection self.now.rows.now) number) }
+    {
+        let home = match self.homes.get(number as usize) {
+            Some(home) if limit < NONE && *home < self.index.leaf_count() => *home,
+            _ => return false,
+        };
+        let nearer = NONE - limit - 1;
+        for member in self.index.leaf_members(home) {
+            if self.is_near_other(number, member, nearer) {
+                return true;
+            }
+        }
+        false
+    }
+
+    /// Whether a member is of another series, within a radius of this one.
+    fn is_near_other(&self, number: u32, member: &Member, radius: u64) -> bool
+        requires ready { IsReady R.collection self.now }
+        requires number { number < length (R.collection self.now.rows.now).series }
+        requires member { member.now.number < length (R.collection self.now.rows.now).series }
+        ensures { result ≡ true → IsNearOther (R.collection self.now.rows.now) number member.now.number radius }
+    {
+        if member.number == number {
+            return false;
+        }
+        let row = self.rows.row(number);
+        distance_within(self.rows.row(member.number), row, radius).is_some()
+    }
+}
