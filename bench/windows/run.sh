@@ -1,5 +1,5 @@
 #!/usr/bin/env bash
-# Times the search for windows of one long walk, and plain C scans beside it; and prints how much memory the search took.
+# Times the search for windows of one long walk, and plain C scans beside it.
 here="$(cd "$(dirname "${BASH_SOURCE[0]}")" && pwd)"
 "$here/../against_scans.sh" "$here" \
     "outside list_totals series_core claim_word worker_team best_word breakpoints segment_sums isax_word lower_bound
