@@ -93,7 +93,7 @@ greater_gap l a b c d one two = by_cases (cases_lt a b)
         under (min (max a b) c) (omega arith) (subst (λ n. l * n ≤ d) is one)
 
 -- the least length is at most that of each segment
-least_is_least : (d : Division) (j : ℕ) → IsDivision d → least_length d ≤ segment_length d j
+pub least_is_least : (d : Division) (j : ℕ) → IsDivision d → least_length d ≤ segment_length d j
 least_is_least d j is =
     let first = div-mul-le_self (j * d.row_length) d.segments in
     let one = div-mul-le_self d.row_length d.segments in

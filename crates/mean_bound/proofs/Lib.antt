@@ -4,3 +4,6 @@ pub mod Lanes
 pub mod Cuts
 pub mod OfSegments
 pub mod BelowDistances
+pub mod Boxes
+pub mod Fronts
+pub mod Parts

@@ -36,10 +36,14 @@ mean_view_of d query = record {
 abbrev pub IsMeanView : View → Type 0
 IsMeanView v = v.least_length ≤ 65536
 
+-- how far what reaches from `leasts` to `greatests` lies below the lows or above the highs, and at most 16383
+abbrev pub gaps_between : List ℕ → List ℕ → List ℕ → List ℕ → List ℕ
+gaps_between lows highs leasts greatests =
+    map (λ n. min n 16383) (zip2 max (zip2 (λ l m. l - m) lows greatests) (zip2 (λ m h. m - h) leasts highs))
+
 -- how far means lie below the least or above the greatest, and at most 16383
 abbrev pub gaps : List ℕ → List ℕ → List ℕ → List ℕ
-gaps lows highs means =
-    map (λ n. min n 16383) (zip2 max (zip2 (λ l m. l - m) lows means) (zip2 (λ m h. m - h) means highs))
+gaps lows highs means = gaps_between lows highs means means
 
 -- the square of a number
 abbrev pub square : ℕ → ℕ

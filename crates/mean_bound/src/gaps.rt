@@ -1,33 +1,35 @@
 //! Gaps of sixteen means in lanes of 16 bits. A gap is cut at 16383, so that the squares of all add up in 32 bits.
 ghost use Rattle.std.specs.Prelude.{◌≡◌, ◌-◌, ◌≤◌, ◌<◌, ◌^◌, length, map, min, max};
 ghost use Rattle.std.specs.Simd.Lanes.{zip2, sum_l, Each1};
-ghost use Rattle.mean_bound.specs.MeanBound.{gaps, square, squared_gaps};
+ghost use Rattle.mean_bound.specs.MeanBound.{gaps_between, square};
 
 use std::simd::prelude::*;
 
 /// The most that a gap counts.
 const MOST: u16 = 16383;
 
-/// The sum of the squares of the gaps.
-pub(crate) fn squared_gaps(lows: u16x16, highs: u16x16, means: u16x16) -> u32
+/// The sum of the squares of the gaps of what reaches from the least to the greatest.
+pub(crate) fn squared_gaps(lows: u16x16, highs: u16x16, leasts: u16x16, greatests: u16x16) -> u32
     requires lows { length lows ≡ 16 }
     requires highs { length highs ≡ 16 }
-    requires means { length means ≡ 16 }
-    ensures { result ≡ squared_gaps lows highs means }
+    requires leasts { length leasts ≡ 16 }
+    requires greatests { length greatests ≡ 16 }
+    ensures value { result ≡ sum_l (map square (gaps_between lows highs leasts greatests)) }
 {
-    sum_of(squares(gaps(lows, highs, means)))
+    sum_of(squares(gaps(lows, highs, leasts, greatests)))
 }
 
-/// How far each mean lies below the least or above the greatest, and at most 16383.
-fn gaps(lows: u16x16, highs: u16x16, means: u16x16) -> u16x16
+/// How far each lies below the lows or above the highs, and at most 16383.
+fn gaps(lows: u16x16, highs: u16x16, leasts: u16x16, greatests: u16x16) -> u16x16
     requires lows { length lows ≡ 16 }
     requires highs { length highs ≡ 16 }
-    requires means { length means ≡ 16 }
-    ensures value { result ≡ gaps lows highs means }
+    requires leasts { length leasts ≡ 16 }
+    requires greatests { length greatests ≡ 16 }
+    ensures value { result ≡ gaps_between lows highs leasts greatests }
     ensures small { Each1 (λ n. n ≤ 16383) result }
 {
-    let below = excess(lows, means);
-    let above = excess(means, highs);
+    let below = excess(lows, greatests);
+    let above = excess(leasts, highs);
     cut(greater(below, above))
 }
 
@@ -40,8 +42,17 @@ fn excess(a: u16x16, b: u16x16) -> u16x16
     a.saturating_sub(b)
 }
 
+/// The lesser of each two numbers.
+pub(crate) fn lesser(a: u16x16, b: u16x16) -> u16x16
+    requires a { length a ≡ 16 }
+    requires b { length b ≡ 16 }
+    ensures { result ≡ zip2 min a b }
+{
+    a.simd_min(b)
+}
+
 /// The greater of each two numbers.
-fn greater(a: u16x16, b: u16x16) -> u16x16
+pub(crate) fn greater(a: u16x16, b: u16x16) -> u16x16
     requires a { length a ≡ 16 }
     requires b { length b ≡ 16 }
     ensures { result ≡ zip2 max a b }

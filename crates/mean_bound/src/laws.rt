@@ -1,9 +1,14 @@
-//! The law of bounds by means that a search rests on.
-ghost use Rattle.std.specs.Prelude.{◌≡◌, ◌≤◌, length};
+//! The laws of bounds by means that searches rest on.
+ghost use Rattle.std.specs.Prelude.{◌≡◌, ◌≤◌, ◌<◌, [], length, slice_index_or};
 ghost use Rattle.series_core.specs.Distance.{squared_distance};
 ghost use Rattle.mean_bound.specs.MeanBound.{mean_bound, mean_view_of};
+ghost use Rattle.mean_bound.specs.Boxes.{box_bound, box_of};
+ghost use Rattle.mean_bound.specs.Finer.{finer_bound, finer_means, finer_view};
 ghost use Rattle.mean_bound.specs.Means.{row_means};
 
+use crate::finer::FinerCuts;
+use crate::means::Means;
+use crate::view::MeanView;
 use segment_sums::Cuts;
 use series_core::values_fit;
 
@@ -15,6 +20,24 @@ pub fn mean_bound_is_below_distance(cuts: &Cuts, query: &[i16], series: &[i16])
         ≤ squared_distance series.now query.now }
 {
     let _segments = cuts.segments();
+    values_fit(query);
+    values_fit(series);
+}
+
+/// The law that the bound of a box of means is at most that of each of them.
+pub fn box_bound_is_no_greater(view: &MeanView, means: &[Means], i: usize)
+    requires { i < length means.now }
+    ensures { box_bound view.now (box_of means.now) ≤ mean_bound view.now (slice_index_or means.now i []) }
+{}
+
+/// The law that the bound of a series by its finer means is at most its distance.
+pub fn finer_bound_is_below_distance(cuts: &FinerCuts, query: &[i16], series: &[i16])
+    requires query_length { length query.now ≡ cuts.now }
+    requires series_length { length series.now ≡ cuts.now }
+    ensures { finer_bound (finer_view cuts.now query.now) (finer_means cuts.now series.now)
+        ≤ squared_distance series.now query.now }
+{
+    let _parts = cuts.parts();
     values_fit(query);
     values_fit(series);
 }

@@ -2,12 +2,18 @@
 //! can be to a query as far as its means tell. A bound is never above the distance.
 #![tactic(auto)]
 
+mod finer;
 mod gaps;
 mod laws;
+mod mean_box;
 mod means;
 mod view;
 
-pub use laws::mean_bound_is_below_distance;
+pub use finer::{FinerCuts, FinerView};
+pub use laws::{
+    box_bound_is_no_greater, finer_bound_is_below_distance, mean_bound_is_below_distance,
+};
+pub use mean_box::MeanBox;
 pub use means::Means;
 pub use view::MeanView;
 

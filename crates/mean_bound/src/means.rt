@@ -1,6 +1,6 @@
 //! The means of a series' segments, as they are stored. Values are raised by 32768, so that no mean is below 0; a mean is
 //! rounded down, and never up, since what is told of a series is that its sum is at least the mean times the length.
-ghost use Rattle.std.specs.Prelude.{◌≡◌, ◌*◌, ◌/◌, ◌≤◌, pos, neg_ℤ, ◌+ℤ◌, ◌≤ℤ◌, length, unsigned_abs};
+ghost use Rattle.std.specs.Prelude.{◌≡◌, ◌*◌, ◌/◌, ◌≤◌, pos, neg_ℤ, ◌+ℤ◌, ◌≤ℤ◌, length, replicate, unsigned_abs};
 ghost use Rattle.mean_bound.specs.Means.{of_segments, raised_sum, row_means, NoRaisedSumAbove};
 
 use segment_sums::Cuts;
@@ -23,6 +23,13 @@ impl Model for Means {
 }
 
 impl Means {
+    /// Sixteen means of 0.
+    pub fn zeros() -> Means
+        ensures { result ≡ replicate 16 0 }
+    {
+        Means { raised: [0; 16] }
+    }
+
     /// The means of a row, whose length is that of the cuts.
     pub fn of(cuts: &Cuts, row: &[i16]) -> Means
         requires { length row.now ≡ cuts.now.row_length }

@@ -1,6 +1,7 @@
 //! Worked bounds by means, and bounds of scattered rows against a plain computation of the sums that a mean stands for.
-use crate::{MeanView, Means};
+use crate::{FinerCuts, FinerView, MeanBox, MeanView, Means};
 use segment_sums::Cuts;
+use std::alloc::Global;
 use std::process::Abort;
 use std::test::Fail;
 
@@ -86,9 +87,9 @@ fn plain_bound(series: &[i16], query: &[i16], w: usize) -> u64 {
 }
 
 /// Values scattered over so many bits.
-fn scattered(seed: u64, bits: u32) -> [i16; 100] {
+fn scattered(seed: u64, bits: u32) -> [i16; 300] {
     let mut state = seed;
-    let mut values = [0; 100];
+    let mut values = [0; 300];
     for value in &mut values {
         state = state
             .wrapping_mul(6364136223846793005)
@@ -110,6 +111,83 @@ fn bounds_are_those_of_the_sums(rt: HostRuntime) -> Result<(), Fail> {
                 bound(&rt, &series[..n], &query[..n], w),
                 plain_bound(&series[..n], &query[..n], w as usize),
                 "{w} segments of {n} values from {seed}"
+            );
+        }
+    }
+    Ok(())
+}
+
+#[test]
+fn a_box_bounds_what_lies_in_it(rt: HostRuntime) -> Result<(), Fail> {
+    let rows: [(&[&[i16]], &[i16], u64); 6] = [
+        (&[&[5, 5]], &[9, 9], 32),
+        (&[&[5, 5], &[3, 8]], &[9, 9], 17),
+        (&[&[5, 5], &[3, 8]], &[4, 6], 0),
+        (&[&[5, 5], &[3, 8]], &[0, 0], 34),
+        (&[&[5, 5], &[3, 8], &[-1, 20]], &[9, 30], 116),
+        (&[], &[9, 9], 4294443024),
+    ];
+    for (series, query, expected) in rows {
+        let cuts = Cuts::new(2, 2);
+        assert_eq!(rt; query.len(), 2, "two values a query");
+        let mut means = Vec::new(rt.alloc());
+        for values in series {
+            assert_eq!(rt; values.len(), 2, "two values a series");
+            means.push(Means::of(&cuts, values))?;
+        }
+        let around = MeanBox::around(&means);
+        assert_eq!(rt;
+            MeanView::new(&cuts, query).bound_box(&around),
+            expected,
+            "{series:?} for {query:?}"
+        );
+    }
+    Ok(())
+}
+
+/// The bound by the finer means of two series of one length.
+fn finer_bound(rt: &impl Abort, alloc: Global, series: &[i16], query: &[i16]) -> Result<u64, Fail> {
+    let n = series.len();
+    assert!(rt; n == query.len() && 1 <= n && n <= 65536, "{n} values");
+    let cuts = FinerCuts::new(n as u32);
+    let mut means = Vec::new(alloc);
+    for p in 0..cuts.parts() {
+        means.push(cuts.means(series, p))?;
+    }
+    let view = FinerView::new(&cuts, query);
+    assert!(rt;
+        means.len() == view.parts() as usize,
+        "means of all parts of {n} values"
+    );
+    Ok(view.bound(&means))
+}
+
+#[test]
+fn finer_bounds_are_those_of_the_parts(rt: HostRuntime) -> Result<(), Fail> {
+    // the ends of the parts
+    let rows: [(usize, &[usize]); 6] = [
+        (1, &[]),
+        (127, &[]),
+        (128, &[64, 128]),
+        (191, &[95, 191]),
+        (200, &[66, 133, 200]),
+        (299, &[74, 149, 224, 299]),
+    ];
+    for (n, ends) in rows {
+        for seed in 1..=5u64 {
+            let series = scattered(seed, 2 + (seed % 15) as u32);
+            let query = scattered(seed + 100, 16);
+            let mut expected = 0u64;
+            let mut from = 0;
+            for end in ends {
+                let bound = plain_bound(&series[from..*end], &query[from..*end], 16);
+                expected = expected.wrapping_add(bound);
+                from = *end;
+            }
+            assert_eq!(rt;
+                finer_bound(&rt, rt.alloc(), &series[..n], &query[..n])?,
+                expected,
+                "{n} values from {seed}"
             );
         }
     }

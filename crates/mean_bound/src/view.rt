@@ -1,9 +1,11 @@
 //! A query as bounds by means see it: for each segment the means between which a series' mean tells nothing, and the least
 //! length of a segment. A gap of one counts at least that length.
 ghost use Rattle.std.specs.Prelude.{◌≡◌, ◌+◌, ◌-◌, ◌*◌, ◌/◌, ◌<◌, ◌≤◌, ◌^◌, length};
+ghost use Rattle.mean_bound.specs.Boxes.{box_bound};
 ghost use Rattle.mean_bound.specs.MeanBound.{mean_view_of, mean_bound};
 
 use crate::gaps::squared_gaps;
+use crate::mean_box::MeanBox;
 use crate::means::{Means, raised_sums};
 use segment_sums::Cuts;
 use std::marker::Model;
@@ -31,6 +33,15 @@ impl Model for MeanView {
 }
 
 impl MeanView {
+    // A view for which no series has a gap.
+    pub(crate) fn nothing() -> MeanView {
+        MeanView {
+            least_length: 0,
+            lows: [0; 16],
+            highs: [0; 16],
+        }
+    }
+
     /// The view of a query, whose length is that of the cuts.
     pub fn new(cuts: &Cuts, query: &[i16]) -> MeanView
         requires { length query.now ≡ cuts.now.row_length }
@@ -60,7 +71,19 @@ impl MeanView {
         let lows = u16x16::from_array(self.lows);
         let highs = u16x16::from_array(self.highs);
         let means = u16x16::from_array(means.raised);
-        u64::from(self.least_length) * u64::from(squared_gaps(lows, highs, means))
+        u64::from(self.least_length) * u64::from(squared_gaps(lows, highs, means, means))
+    }
+
+    /// The lower bound of all series whose means lie in a box.
+    pub fn bound_box(&self, around: &MeanBox) -> u64
+        ensures value { result ≡ box_bound self.now around.now }
+        ensures small { result < 2 ^ 48 }
+    {
+        let lows = u16x16::from_array(self.lows);
+        let highs = u16x16::from_array(self.highs);
+        let leasts = u16x16::from_array(around.lows);
+        let greatests = u16x16::from_array(around.highs);
+        u64::from(self.least_length) * u64::from(squared_gaps(lows, highs, leasts, greatests))
     }
 }
 

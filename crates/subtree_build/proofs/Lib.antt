@@ -28,3 +28,4 @@ pub mod Spliced
 pub mod Placing
 pub mod Rooting
 pub mod Assembling
+pub mod Flattened

@@ -1,14 +1,13 @@
 -- Means in the order of all members: cut by the places of leaves they are those of the leaves (`means_are_own`), what holds of
--- the members of all leaves holds of all members (`all_cut`), and one more stands behind (`means_push`); the means of a leaf
--- of an index that fits are those of its members (`means_of_leaf`), one by one (`means_of_one`).
-use Rattle.std.proofs.Common.{◌≡◌, ℕ, ◌+◌, ◌-◌, ◌<◌, List, [], ◌∷◌, ◌++◌, length, take, drop, map, get_or, refl, sym, ap, ◌∙◌, subst, arith, All}
-use Rattle.std.proofs.lemmas.List.{take-append-drop, take-map, drop-map, map-append, take_more, length-drop, get_or-map}
+-- the members of all leaves holds of all members (`all_cut`), and one more stands behind (`map_push`); the means of a leaf
+-- of an index that fits are those of its members (`means_of_leaf`), one by one (`means_of_one`); and so for finer means.
+use Rattle.std.proofs.Common.{◌≡◌, ℕ, ◌+◌, ◌-◌, ◌*◌, ◌/◌, ◌%◌, ◌<◌, List, [], ◌∷◌, ◌++◌, length, take, drop, map, get_or, refl, sym, ap, ◌∙◌, subst, arith, All}
+use Rattle.std.proofs.lemmas.List.{take-append-drop, take-map, drop-map, map-append, take_more, take_all, take-append-le, length-drop, length-map, get_or-map, ext_get_or}
+use Rattle.std.proofs.lemmas.List.FromFn.{length-map-range_with_len, get_or-map-range_with_len}
+use Rattle.std.proofs.Math.Nat.{mod-lt}
 use Rattle.std.proofs.lemmas.List.Elements.{All-nil, All-append, All-head, All-tail}
-use Rattle.std.specs.Prelude.{ℤ, Some, slice_get}
-use Rattle.std.proofs.lemmas.Option.{get_or_from_slice_get}
 use Rattle.series_core.specs.Collection.{Collection}
-use Rattle.segment_sums.specs.Division.{Division}
-use Rattle.mean_bound.specs.Means.{row_means}
+use Rattle.mean_bound.specs.Finer.{part_count, part_means}
 use Rattle.isax_word.specs.declared.layout.Layout.{Layout}
 use Rattle.isax_word.specs.declared.member.Member.{Member}
 use Rattle.subtree_build.specs.declared.leaf.GrownLeaf.{GrownLeaf}
@@ -18,8 +17,10 @@ use Rattle.subtree_build.specs.Division.{leaf_with}
 use Rattle.subtree_build.specs.Grown.{cut_leaves, members_in}
 use Rattle.subtree_build.specs.Fits.{Fits}
 use Rattle.subtree_build.specs.Index.{IndexParts, leaf_at, no_leaf}
-use Rattle.subtree_build.specs.Means.{means_of, all_means, leaf_means, means_at}
-use Rattle.subtree_build.specs.Places.{leaves_seen, means_seen}
+use Rattle.subtree_build.specs.Means.{means_of, all_means, leaf_means, means_at, finer_of, all_finer, leaf_finer, finer_at}
+use Rattle.subtree_build.specs.Places.{leaves_seen, means_seen, finer_seen}
+use Rattle.subtree_build.specs.Members.{series_at}
+use Rattle.subtree_build.proofs.Flattened.{length_pieces, drop_pieces, take_pieces, in_pieces, first_piece, drop_at, above_none}
 
 -- the means of all members, cut by places, are those of the leaves at the places
 pub means_are_own : (c : Collection) (layout : Layout) (members : List Member) (means : List (List ℕ))
@@ -51,18 +52,15 @@ all_cut P (l ∷ leaves) members whole all =
     subst (All P) (take-append-drop l.count members)
     (All-append P (take l.count members) (drop l.count members) (All-head Q first rest all) behind)
 
--- the means of one member more stand behind the others
-pub means_push : (c : Collection) (layout : Layout) (members : List Member) (i : ℕ) (m : Member) (means : List (List ℕ))
-    (more : List ℕ) → i < length members → m ≡ get_or members i m
-    → means ≡ all_means c layout (take i members) → more ≡ means_of c layout m
-    → means ++ more ∷ [] ≡ all_means c layout (take (i + 1) members)
-means_push c layout members i m means more inside item are is =
-    let f = means_of c layout in
-    ap (λ (ms : List (List ℕ)). ms ++ more ∷ []) are
-    ∙ ap (λ (x : List ℕ). all_means c layout (take i members) ++ x ∷ []) is
-    ∙ sym (map-append f (take i members) (m ∷ []))
-    ∙ ap (λ (x : Member). all_means c layout (take i members ++ x ∷ [])) item
-    ∙ ap (all_means c layout) (sym (take_more members i m inside))
+-- the value of one item more stands behind the others
+pub map_push : {X Y : Type 0} (f : X → Y) (xs : List X) (i : ℕ) (x : X) (ys : List Y) (y : Y) → i < length xs
+    → x ≡ get_or xs i x → ys ≡ map f (take i xs) → y ≡ f x → ys ++ y ∷ [] ≡ map f (take (i + 1) xs)
+map_push f xs i x ys y inside item are is =
+    ap (λ zs. zs ++ y ∷ []) are
+    ∙ ap (λ z. map f (take i xs) ++ z ∷ []) is
+    ∙ sym (map-append f (take i xs) (x ∷ []))
+    ∙ ap (λ z. map f (take i xs ++ z ∷ [])) item
+    ∙ ap (map f) (sym (take_more xs i x inside))
 
 -- the means of a leaf are those of its members' series
 pub means_of_leaf : (c : Collection) (layout : Layout) (ix : IndexParts) (l : ℕ) → Fits c layout ix
@@ -81,24 +79,84 @@ means_of_one c layout members means i m own d are inside item is =
     ∙ get_or-map (means_of c layout) members i m d inside
     ∙ ap (means_of c layout) (sym item)
 
--- the means of one row more stand behind the others
-pub rows_push : (cuts : Division) (rows : List (List ℤ)) (i : ℕ) (row : List ℤ) (means : List (List ℕ)) (more : List ℕ)
-    → i < length rows → slice_get rows i ≡ Some row → means ≡ map (row_means cuts) (take i rows)
-    → more ≡ row_means cuts row → means ++ more ∷ [] ≡ map (row_means cuts) (take (i + 1) rows)
-rows_push cuts rows i row means more inside lent are is =
-    let f = row_means cuts in
-    let item : row ≡ get_or rows i row = sym (get_or_from_slice_get rows i row row lent) in
-    ap (λ (ms : List (List ℕ)). ms ++ more ∷ []) are
-    ∙ ap (λ (x : List ℕ). map f (take i rows) ++ x ∷ []) is
-    ∙ sym (map-append f (take i rows) (row ∷ []))
-    ∙ ap (λ (x : List ℤ). map f (take i rows ++ x ∷ [])) item
-    ∙ ap (map f) (sym (take_more rows i row inside))
+-- a list that was written over as a whole
+pub written_over : {X : Type 0} (new old : List X) (n : ℕ) → n ≡ length old → length new ≡ length old
+    → take n (new ++ drop (length new) old) ≡ new
+written_over new old n whole long =
+    take-append-le n new (drop (length new) old) (omega (arith, whole, long))
+    ∙ take_all n new (omega (arith, whole, long))
 
--- the means of a member stand at its number in the table of all rows
-pub mean_in_table : (c : Collection) (layout : Layout) (m : Member) (table : List (List ℕ)) (own : List ℕ)
-    → m.number < length c.series → table ≡ map (row_means layout.cuts) c.series → own ≡ get_or table m.number own
-    → own ≡ means_of c layout m
-mean_in_table c layout m table own low are is =
-    is
-    ∙ ap (λ (ms : List (List ℕ)). get_or ms m.number own) are
-    ∙ get_or-map (row_means layout.cuts) c.series m.number [] own low
+-- a member that stands past the end
+abbrev pub no_member : Member
+no_member = record { number = 0; full = [] }
+
+-- a list that has at each place the means of the member there is that of all
+pub means_each : (c : Collection) (layout : Layout) (members : List Member) (means : List (List ℕ))
+    → length means ≡ length members
+    → ((i : ℕ) → i < length means → get_or means i [] ≡ means_of c layout (get_or members i no_member))
+    → means ≡ all_means c layout members
+means_each c layout members means long each =
+    ext_get_or [] means (all_means c layout members) (long ∙ sym (length-map members (means_of c layout)))
+    (λ i inside. each i inside
+    ∙ sym (get_or-map (means_of c layout) members i no_member [] (omega (arith, long, inside))))
+
+-- a member has a `Means` for each part
+finer_long : (c : Collection) (m : Member) → length (finer_of c m) ≡ part_count c.points
+finer_long c m = length-map-range_with_len (part_means c.points (series_at c m.number)) 0 (part_count c.points)
+
+-- so all of them together have so many
+pub length_finer : (c : Collection) (members : List Member)
+    → length (all_finer c members) ≡ length members * part_count c.points
+length_finer c members = length_pieces (finer_of c) (part_count c.points) (finer_long c) members
+
+-- a list that has at each place the means of the part there is that of all finer means
+pub finer_each : (c : Collection) (members : List Member) (finer : List (List ℕ))
+    → length finer ≡ length members * part_count c.points
+    → ((i : ℕ) → i < length finer → get_or finer i []
+    ≡ part_means c.points (series_at c (get_or members (i / part_count c.points) no_member).number) (i % part_count c.points))
+    → finer ≡ all_finer c members
+finer_each c members finer long each =
+    ext_get_or [] finer (all_finer c members) (long ∙ sym (length_finer c members)) one
+  where
+    one : (i : ℕ) → i < length finer → get_or finer i [] ≡ get_or (all_finer c members) i []
+    one i inside =
+        let n = part_count c.points in
+        let low : i < length members * n = omega (arith, inside, long) in
+        let some : 0 < n = above_none (length members) n i low in
+        let m = get_or members (i / n) no_member in
+        each i inside
+        ∙ sym (get_or-map-range_with_len (part_means c.points (series_at c m.number)) 0 n (i % n) (i % n) []
+        (mod-lt i some) (omega arith))
+        ∙ sym (in_pieces (finer_of c) n (finer_long c) members i no_member [] low)
+
+-- the finer means of all members, cut by places, are those of the leaves at the places
+pub finer_are_own : (c : Collection) (members : List Member) (finer : List (List ℕ)) (places : List LeafPlace)
+    → finer ≡ all_finer c members
+    → finer_seen (part_count c.points) finer places ≡ map (leaf_finer c) (leaves_seen members places)
+finer_are_own c members finer [] are = refl
+finer_are_own c members finer (p ∷ places) are =
+    let n = part_count c.points in
+    let count = p.end - p.first in
+    let here : take (count * n) (drop (p.first * n) finer) ≡ all_finer c (take count (drop p.first members))
+    = ap (λ (ms : List (List ℕ)). take (count * n) (drop (p.first * n) ms)) are
+    ∙ ap (take (count * n)) (drop_pieces (finer_of c) n (finer_long c) p.first members)
+    ∙ take_pieces (finer_of c) n (finer_long c) count (drop p.first members) in
+    let rest = finer_are_own c members finer places are in
+    λ i. here i ∷ rest i
+
+-- the finer means of a leaf of an index that fits are those of its members' series
+pub finer_of_leaf : (c : Collection) (layout : Layout) (ix : IndexParts) (l : ℕ) → Fits c layout ix
+    → l < length ix.leaves → finer_at ix.finer l ≡ all_finer c (leaf_at ix.leaves l).members
+finer_of_leaf c layout ix l fits real =
+    ap (λ (ms : List (List (List ℕ))). finer_at ms l) fits.own_finer
+    ∙ get_or-map (leaf_finer c) ix.leaves l no_leaf [] real
+
+-- and those of each of them stand behind those of the members before it
+pub finer_of_one : (c : Collection) (members : List Member) (i : ℕ) (m : Member) → i < length members
+    → m ≡ get_or members i m
+    → take (part_count c.points) (drop (i * part_count c.points) (all_finer c members)) ≡ finer_of c m
+finer_of_one c members i m inside item =
+    let n = part_count c.points in
+    ap (take n) (drop_pieces (finer_of c) n (finer_long c) i members)
+    ∙ ap (λ (ms : List Member). take n (all_finer c ms)) (drop_at members i m inside item)
+    ∙ first_piece (finer_of c) n (finer_long c) m (drop (i + 1) members)

@@ -70,9 +70,9 @@ seen_is_cut members first (l ∷ leaves) =
 -- each place lies among the members
 pub are_places : (members : List Member) (first : ℕ) (leaves : List GrownLeaf)
     → first + members_in leaves ≤ length members → ArePlaces members (places_from first leaves)
-are_places members first [] inside = All-nil (IsPlace members)
+are_places members first [] inside = All-nil (IsPlace (length members))
 are_places members first (l ∷ leaves) inside =
-    All-cons (IsPlace members) (record { word = l.word; first = first; end = first + l.count })
+    All-cons (IsPlace (length members)) (record { word = l.word; first = first; end = first + l.count })
     (places_from (first + l.count) leaves)
     (record { order = omega arith; inside = omega (arith, inside) })
     (are_places members (first + l.count) leaves (omega (arith, inside)))
@@ -167,7 +167,7 @@ few_members c layout size leaves members is kept are whole =
 
 -- an index with these root numbers, nodes and leaves at their places is the tree
 pub tree_is_seen : (c : Collection) (layout : Layout) (size segments : ℕ) (roots : List ℕ) (joined : Joined)
-    (places : List LeafPlace) (means : List (List (List ℕ))) → segments ≡ layout.cuts.segments → roots ≡ roots_of c layout
+    (places : List LeafPlace) (means finer : List (List (List ℕ))) → segments ≡ layout.cuts.segments → roots ≡ roots_of c layout
     → map outline joined.nodes.items ≡ all_numbered 0 (tree c layout size)
     → cut_leaves joined.leaves.items joined.members.items ≡ tree_leaves c layout size
     → places ≡ places_from 0 joined.leaves.items
@@ -177,8 +177,9 @@ pub tree_is_seen : (c : Collection) (layout : Layout) (size segments : ℕ) (roo
       nodes = joined.nodes.items;
       leaves = leaves_seen joined.members.items places;
       means = means;
+      finer = finer;
     })
-tree_is_seen c layout size segments roots joined places means same roots_are nodes_are leaves_are at = record {
+tree_is_seen c layout size segments roots joined places means finer same roots_are nodes_are leaves_are at = record {
   segments = same;
   roots = roots_are;
   nodes = nodes_are;

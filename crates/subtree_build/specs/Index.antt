@@ -10,13 +10,14 @@ use Rattle.subtree_build.specs.Tree.{Tree, absent, leaf, split, is_absent}
 use Rattle.subtree_build.specs.Outline.{outline, leaf_numbers}
 
 -- an index: how many segments its words have, the root numbers and nodes of its root children, its leaves, and for each leaf
--- the means of its members
+-- the means and the finer means of its members
 pub record IndexParts : Type 0 where
   pub segments : ℕ
   pub roots : List ℕ
   pub nodes : List Node
   pub leaves : List TreeLeaf
   pub means : List (List (List ℕ))
+  pub finer : List (List (List ℕ))
 
 -- the leaf that stands past the end
 abbrev pub no_leaf : TreeLeaf

@@ -1,9 +1,11 @@
--- The means of members: those of their series' segments, member by member and leaf by leaf.
+-- The means and the finer means of members: those of their series' segments, member by member and leaf by leaf.
 use Rattle.std.specs.Prelude.{ℕ, List, [], map, slice_index_or}
+use Rattle.std.specs.List.{flat_map}
 use Rattle.series_core.specs.Collection.{Collection}
 use Rattle.isax_word.specs.declared.layout.Layout.{Layout}
 use Rattle.isax_word.specs.declared.member.Member.{Member}
 use Rattle.mean_bound.specs.Means.{row_means}
+use Rattle.mean_bound.specs.Finer.{finer_means}
 use Rattle.subtree_build.specs.declared.leaf.TreeLeaf.{TreeLeaf}
 use Rattle.subtree_build.specs.Members.{series_at}
 
@@ -22,3 +24,19 @@ leaf_means c layout x = all_means c layout x.members
 -- the means that stand for leaf l
 abbrev pub means_at : List (List (List ℕ)) → ℕ → List (List ℕ)
 means_at means l = slice_index_or means l []
+
+-- the finer means of a member's series, part by part
+abbrev pub finer_of : Collection → Member → List (List ℕ)
+finer_of c m = finer_means c.points (series_at c m.number)
+
+-- the finer means of members, one after another
+abbrev pub all_finer : Collection → List Member → List (List ℕ)
+all_finer c members = flat_map (finer_of c) members
+
+-- the finer means of a leaf's members
+abbrev pub leaf_finer : Collection → TreeLeaf → List (List ℕ)
+leaf_finer c x = all_finer c x.members
+
+-- the finer means that stand for leaf l
+abbrev pub finer_at : List (List (List ℕ)) → ℕ → List (List ℕ)
+finer_at finer l = slice_index_or finer l []

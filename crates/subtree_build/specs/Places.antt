@@ -1,10 +1,12 @@
 -- Where an index keeps things: the members of each leaf in the row of all members, and the leaves below each root child.
-use Rattle.std.specs.Prelude.{◌≡◌, ℕ, ◌+◌, ◌-◌, ◌≤◌, List, [], ◌∷◌, Some, length, map, take, drop, slice_get, slice_index}
+use Rattle.std.specs.Prelude.{◌≡◌, ℕ, ◌+◌, ◌-◌, ◌*◌, ◌≤◌, List, [], ◌∷◌, Some, length, map, take, drop, slice_get, slice_index}
 use Rattle.std.specs.List.{All, range_with_len}
+use Rattle.mean_bound.specs.Boxes.{Box, box_of}
 use Rattle.isax_word.specs.declared.member.Member.{Member}
 use Rattle.subtree_build.specs.declared.leaf.GrownLeaf.{GrownLeaf}
 use Rattle.subtree_build.specs.declared.leaf.LeafPlace.{LeafPlace}
 use Rattle.subtree_build.specs.declared.leaf.TreeLeaf.{TreeLeaf}
+use Rattle.subtree_build.specs.declared.tables.Tables.{Tables}
 use Rattle.subtree_build.specs.declared.node.Node.{Node}
 use Rattle.subtree_build.specs.Division.{leaf_with}
 use Rattle.subtree_build.specs.Outline.{leaf_numbers}
@@ -28,14 +30,30 @@ leaves_seen members places = map (leaf_seen members) places
 abbrev pub means_seen : List (List ℕ) → List LeafPlace → List (List (List ℕ))
 means_seen means places = map (λ p. take (p.end - p.first) (drop p.first means)) places
 
--- a place lies among these members
-pub record IsPlace (members : List Member) (p : LeafPlace) : Type 0 where
+-- the boxes of the means of the members at places
+abbrev pub boxes_seen : List (List ℕ) → List LeafPlace → List Box
+boxes_seen means places = map (λ p. box_of (take (p.end - p.first) (drop p.first means))) places
+
+-- the finer means of the members at places, with so many parts a member
+abbrev pub finer_seen : ℕ → List (List ℕ) → List LeafPlace → List (List (List ℕ))
+finer_seen parts finer places =
+    map (λ p. take ((p.end - p.first) * parts) (drop (p.first * parts) finer)) places
+
+-- a place lies among so many members
+pub record IsPlace (count : ℕ) (p : LeafPlace) : Type 0 where
   pub order : p.first ≤ p.end
-  pub inside : p.end ≤ length members
+  pub inside : p.end ≤ count
 
 -- all of these places do
 abbrev pub ArePlaces : List Member → List LeafPlace → Type 0
-ArePlaces members places = All (IsPlace members) places
+ArePlaces members places = All (IsPlace (length members)) places
+
+-- the tables beside the members: the means of each, so many finer ones, and the box of each place's means
+pub record AreTables (members : List Member) (places : List LeafPlace) (t : Tables) : Type 0 where
+  pub means_each : length t.means.items ≡ length members
+  pub few_parts : t.parts ≤ 4
+  pub finer_each : length t.finer.items ≡ length members * t.parts
+  pub boxes_are : t.boxes.items ≡ boxes_seen t.means.items places
 
 -- the leaves below a node are those from the first up to but not including the end, which are some of these leaves
 pub record IsRange (count first end : ℕ) (node : Node) : Type 0 where

@@ -1,27 +1,29 @@
 //! The index: root children by root number, the nodes and the range of leaves below each, the leaves in order, and in that
-//! order the members of all leaves in one row and their means in another.
-ghost use Rattle.std.specs.Prelude.{◌≡◌, ◌<◌, ◌^◌, IfOk, length, map, Some, slice_get, slice_index};
+//! order the members of all leaves in one row, and beside it their means, the finer ones, and the box of each leaf's means.
+ghost use Rattle.std.specs.Prelude.{◌≡◌, ◌<◌, ◌≤◌, ◌^◌, IfOk, length, map, Some, slice_get, slice_index};
+ghost use Rattle.mean_bound.specs.Boxes.{box_of};
 ghost use Rattle.subtree_build.specs.Division.{roots_of, tree, tree_leaves};
 ghost use Rattle.subtree_build.specs.Fits.{Fits, IsTreeOf};
 ghost use Rattle.subtree_build.specs.Grown.{cut_leaves, members_in};
 ghost use Rattle.subtree_build.specs.Index.{IsIndex, leaf_at, root_word_at};
-ghost use Rattle.subtree_build.specs.Means.{means_at};
+ghost use Rattle.subtree_build.specs.Means.{finer_at, means_at};
 ghost use Rattle.subtree_build.specs.Outline.{outline};
 ghost use Rattle.subtree_build.specs.Places.{tree_firsts, IsRange};
 ghost use Rattle.subtree_build.specs.Start.{node_at};
 ghost use Rattle.subtree_build.specs.Tree.{all_numbered};
 
 use crate::leaf::LeafPlace;
-use crate::means::means_of_all;
 use crate::node::Node;
 use crate::part::{Joined, placed};
 use crate::settings::Settings;
+use crate::tables::{Tables, tables_of};
 use isax_word::Word;
-use mean_bound::Means;
+use mean_bound::{MeanBox, Means};
 use outside::NoMemory;
 use series_core::Rows;
 use std::alloc::Global;
 use std::marker::Model;
+use std::thread::Threads;
 use summary_phase::Member;
 
 /// An iSAX tree over a collection, seen as its segments, root numbers, root children's nodes, leaves and means.
@@ -33,7 +35,7 @@ pub struct Index {
     firsts: Vec<u32>,
     leaves: Vec<LeafPlace>,
     members: Vec<Member>,
-    means: Vec<Means>,
+    tables: Tables,
 }
 
 impl Model for Index {
@@ -41,7 +43,7 @@ impl Model for Index {
     ghost use Rattle.std.specs.Coded.{codes};
     ghost use Rattle.subtree_build.specs.contracts.node.Node as node;
     ghost use Rattle.subtree_build.specs.Index.{IndexParts, IsIndex};
-    ghost use Rattle.subtree_build.specs.Places.{leaves_seen, means_seen, ArePlaces, AreRanges};
+    ghost use Rattle.subtree_build.specs.Places.{leaves_seen, means_seen, finer_seen, ArePlaces, AreRanges, AreTables};
 
     ghost Value = { IndexParts };
 
@@ -52,7 +54,8 @@ impl Model for Index {
       roots = x.roots.items;
       nodes = x.nodes.items;
       leaves = leaves_seen x.members.items x.leaves.items;
-      means = means_seen x.means.items x.leaves.items;
+      means = means_seen x.tables.means.items x.leaves.items;
+      finer = finer_seen x.tables.parts x.tables.finer.items x.leaves.items;
     } };
 
     ghost invariant = { λ x. IsIndex (record {
@@ -60,23 +63,27 @@ impl Model for Index {
       roots = x.roots.items;
       nodes = x.nodes.items;
       leaves = leaves_seen x.members.items x.leaves.items;
-      means = means_seen x.means.items x.leaves.items;
+      means = means_seen x.tables.means.items x.leaves.items;
+      finer = finer_seen x.tables.parts x.tables.finer.items x.leaves.items;
     }) × ArePlaces x.members.items x.leaves.items
         × AreRanges x.nodes.items x.firsts.items x.leaves.items
-        × (length x.means.items ≡ length x.members.items) };
+        × AreTables x.members.items x.leaves.items x.tables };
 }
 
 impl Index {
     /// The index of these root numbers and of the nodes, leaves and members of all parts, which are those of the tree of
     /// the rows.
-    pub(crate) fn of_tree<R: Rows>(
+    pub(crate) fn of_tree<H: Threads + Sync, R: Rows + Sync>(
+        rt: &H,
         alloc: Global,
         rows: &R,
         settings: &Settings,
+        workers: u32,
         roots: Vec<u32>,
         joined: Joined,
     ) -> Result<Index, NoMemory>
         requires length { settings.now.layout.cuts.row_length ≡ (R.collection rows.now).points }
+        requires some { 1 ≤ workers }
         requires roots { roots.items ≡ roots_of (R.collection rows.now) settings.now.layout }
         requires nodes { let trees = tree (R.collection rows.now) settings.now.layout settings.now.leaf_size in
             map outline joined.nodes.items ≡ all_numbered 0 trees }
@@ -97,7 +104,15 @@ impl Index {
         } = joined;
         let segments = settings.layout.cuts.segments();
         let leaves = placed(alloc, leaves.as_slice())?;
-        let means = means_of_all(alloc, rows, &settings.layout, members.as_slice())?;
+        let tables = tables_of(
+            rt,
+            alloc,
+            rows,
+            &settings.layout,
+            members.as_slice(),
+            leaves.as_slice(),
+            workers,
+        )?;
         Ok(Index {
             segments,
             roots,
@@ -105,7 +120,7 @@ impl Index {
             firsts,
             leaves,
             members,
-            means,
+            tables,
         })
     }
 
@@ -184,7 +199,25 @@ impl Index {
         ensures { result.now ≡ means_at self.now.means l }
     {
         let place = &self.leaves[l as usize];
-        &self.means[place.first as usize..place.end as usize]
+        &self.tables.means[place.first as usize..place.end as usize]
+    }
+
+    /// The finer means of the members of leaf number `l`, in the order of the members: one `Means` for each part of a series.
+    pub fn leaf_finer(&self, l: u32) -> &[Means]
+        requires { l < length self.now.leaves }
+        ensures { result.now ≡ finer_at self.now.finer l }
+    {
+        let place = &self.leaves[l as usize];
+        let parts = self.tables.parts as usize;
+        &self.tables.finer[place.first as usize * parts..place.end as usize * parts]
+    }
+
+    /// The box of the means of the members of leaf number `l`.
+    pub fn leaf_box(&self, l: u32) -> &MeanBox
+        requires { l < length self.now.leaves }
+        ensures { result.now ≡ box_of (means_at self.now.means l) }
+    {
+        &self.tables.boxes[l as usize]
     }
 
     /// How many segments the words have, from 1 to 16.

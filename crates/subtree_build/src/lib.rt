@@ -15,6 +15,7 @@ mod split;
 mod start;
 mod subtree;
 mod summaries;
+mod tables;
 
 pub use index::Index;
 pub use laws::{leaf_bound_is_below_distances, leaf_bound_is_no_less};

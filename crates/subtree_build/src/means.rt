@@ -1,45 +1,143 @@
-//! The means of members, in the order of the members. Those of all rows are made in the order of the rows, which are then read
-//! one behind the other, and are put in order afterwards.
-ghost use Rattle.std.specs.Prelude.{◌≡◌, ◌<◌, All, IfOk, length, map};
-ghost use Rattle.mean_bound.specs.Means.{row_means};
-ghost use Rattle.subtree_build.specs.Means.{all_means};
+//! The means of members and their finer means, in the order of the members. Workers make them side by side, each for a
+//! stretch of members, so that a row is read once for either.
+ghost use Rattle.std.specs.Prelude.{◌≡◌, ℕ, ◌*◌, ◌/◌, ◌%◌, ◌^◌, ◌<◌, ◌≤◌, All, IfOk, length, slice_index_or};
+ghost use Rattle.mean_bound.specs.Finer.{part_count, part_means};
+ghost use Rattle.subtree_build.specs.Means.{all_finer, all_means, means_of};
+ghost use Rattle.subtree_build.specs.Members.{series_at};
 
 use isax_word::Layout;
-use mean_bound::Means;
+use mean_bound::{FinerCuts, Means};
 use outside::NoMemory;
-use segment_sums::Cuts;
 use series_core::Rows;
 use std::alloc::Global;
+use std::thread;
+use std::thread::Threads;
 use summary_phase::Member;
 
-/// The means of all rows.
-fn means_of_rows<R: Rows>(alloc: Global, rows: &R, cuts: &Cuts) -> Result<Vec<Means>, NoMemory>
-    requires { cuts.now.row_length ≡ (R.collection rows.now).points }
-    ensures { IfOk result (λ means. means.items ≡ map (row_means cuts.now) (R.collection rows.now).series) }
-{
-    let count = rows.count();
-    let mut means = Vec::with_capacity(alloc, count as usize)?;
-    for i in 0..count {
-        means.push_reserved(Means::of(cuts, rows.row(i)));
-    }
-    Ok(means)
-}
-
 /// The means of members, each of which is a series of the rows.
-pub(crate) fn means_of_all<R: Rows>(
+pub(crate) fn means_of_all<H: Threads + Sync, R: Rows + Sync>(
+    rt: &H,
     alloc: Global,
     rows: &R,
     layout: &Layout,
     members: &[Member],
+    workers: u32,
 ) -> Result<Vec<Means>, NoMemory>
     requires length { layout.now.cuts.row_length ≡ (R.collection rows.now).points }
     requires series { All (λ m. m.number < length (R.collection rows.now).series) members.now }
+    requires some { 1 ≤ workers }
     ensures { IfOk result (λ means. means.items ≡ all_means (R.collection rows.now) layout.now members.now) }
 {
-    let table = means_of_rows(alloc, rows, &layout.cuts)?;
-    let mut means = Vec::with_capacity(alloc, members.len())?;
-    for member in members {
-        means.push_reserved(table[member.number as usize]);
-    }
+    let mut means = vec![in alloc; Means::zeros(); members.len()]?;
+    fill_means(rt, rows, layout, members, workers, means.as_mut_slice());
     Ok(means)
+}
+
+/// Puts the means of each member at its place.
+fn fill_means<H: Threads + Sync, R: Rows + Sync>(
+    rt: &H,
+    rows: &R,
+    layout: &Layout,
+    members: &[Member],
+    workers: u32,
+    means: &mut [Means],
+)
+    requires length { layout.now.cuts.row_length ≡ (R.collection rows.now).points }
+    requires series { All (λ m. m.number < length (R.collection rows.now).series) members.now }
+    requires some { 1 ≤ workers }
+    requires places { length means.old ≡ length members.now }
+    ensures len { length means.new ≡ length means.old }
+    ensures each { (i : ℕ) (d : Means) (e : Member) → i < length means.old → slice_index_or means.new i d
+        ≡ means_of (R.collection rows.now) layout.now (slice_index_or members.now i e) }
+{
+    thread::for_each_mut(
+        rt,
+        means,
+        workers as usize,
+        &|i, place| *place = means_at(rows, layout, members, i),
+    );
+}
+
+/// The means of member `i`.
+fn means_at<R: Rows>(rows: &R, layout: &Layout, members: &[Member], i: usize) -> Means
+    requires length { layout.now.cuts.row_length ≡ (R.collection rows.now).points }
+    requires series { All (λ m. m.number < length (R.collection rows.now).series) members.now }
+    requires inside { i < length members.now }
+    ensures { (d : Member) → result ≡ means_of (R.collection rows.now) layout.now (slice_index_or members.now i d) }
+{
+    // for the fact that the rows are a collection
+    let _count = rows.count();
+    Means::of(&layout.cuts, rows.row(members[i].number))
+}
+
+/// The finer means of members, each of which is a series of the rows: one `Means` for each part of it.
+pub(crate) fn finer_of_all<H: Threads + Sync, R: Rows + Sync>(
+    rt: &H,
+    alloc: Global,
+    rows: &R,
+    cuts: &FinerCuts,
+    members: &[Member],
+    workers: u32,
+) -> Result<Vec<Means>, NoMemory>
+    requires length { cuts.now ≡ (R.collection rows.now).points }
+    requires series { All (λ m. m.number < length (R.collection rows.now).series) members.now }
+    requires few { length members.now < 2 ^ 32 }
+    requires some { 1 ≤ workers }
+    ensures { IfOk result (λ finer. finer.items ≡ all_finer (R.collection rows.now) members.now) }
+{
+    let mut finer = vec![in alloc; Means::zeros(); members.len() * cuts.parts() as usize]?;
+    fill_finer(rt, rows, cuts, members, workers, finer.as_mut_slice());
+    Ok(finer)
+}
+
+/// Puts the means of each part of each member at their place.
+fn fill_finer<H: Threads + Sync, R: Rows + Sync>(
+    rt: &H,
+    rows: &R,
+    cuts: &FinerCuts,
+    members: &[Member],
+    workers: u32,
+    finer: &mut [Means],
+)
+    requires length { cuts.now ≡ (R.collection rows.now).points }
+    requires series { All (λ m. m.number < length (R.collection rows.now).series) members.now }
+    requires some { 1 ≤ workers }
+    requires places { length finer.old ≡ length members.now * part_count cuts.now }
+    ensures len { length finer.new ≡ length finer.old }
+    ensures each { (i : ℕ) (d : Means) (e : Member) → i < length finer.old → slice_index_or finer.new i d
+        ≡ part_means cuts.now (series_at (R.collection rows.now) (slice_index_or members.now (i / part_count cuts.now) e).number)
+        (i % part_count cuts.now) }
+{
+    thread::for_each_mut(
+        rt,
+        finer,
+        workers as usize,
+        &|i, place| *place = finer_at(rows, cuts, members, i),
+    );
+}
+
+/// The means at place `i`: those of the part whose number is `i` by the number of parts, of the member before it.
+fn finer_at<R: Rows>(rows: &R, cuts: &FinerCuts, members: &[Member], i: usize) -> Means
+    requires length { cuts.now ≡ (R.collection rows.now).points }
+    requires series { All (λ m. m.number < length (R.collection rows.now).series) members.now }
+    requires inside { i < length members.now * part_count cuts.now }
+    ensures { (d : Member) → result ≡ part_means cuts.now
+        (series_at (R.collection rows.now) (slice_index_or members.now (i / part_count cuts.now) d).number)
+        (i % part_count cuts.now) }
+{
+    let parts = cuts.parts() as usize;
+    let part = (i % parts) as u32;
+    means_of_part(rows, cuts, &members[i / parts], part)
+}
+
+/// The means of one part of a member.
+fn means_of_part<R: Rows>(rows: &R, cuts: &FinerCuts, member: &Member, part: u32) -> Means
+    requires length { cuts.now ≡ (R.collection rows.now).points }
+    requires series { member.now.number < length (R.collection rows.now).series }
+    requires part { part < part_count cuts.now }
+    ensures { result ≡ part_means cuts.now (series_at (R.collection rows.now) member.now.number) part }
+{
+    // for the fact that the rows are a collection
+    let _count = rows.count();
+    cuts.means(rows.row(member.number), part)
 }

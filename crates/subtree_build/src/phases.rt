@@ -37,7 +37,7 @@ pub fn build<H: Threads + Sync, R: Rows + Sync, G: Gate + Sync>(
     let RootLists { roots, lists } = found;
     drop(lists);
     let joined = join_parts(alloc, parts, rows.count())?;
-    Index::of_tree(alloc, rows, settings, roots, joined)
+    Index::of_tree(rt, alloc, rows, settings, workers, roots, joined)
 }
 
 /// The first phase: the members of each root number that some series has, and how many turns each worker took.

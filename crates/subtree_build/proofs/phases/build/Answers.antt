@@ -31,28 +31,36 @@ join_parts-requires-clause-few g c =
 
 pub of_tree-requires-clause-nodes : goal.of_tree-requires-clause-nodes
 of_tree-requires-clause-nodes g c =
+    let nodes =
     c.in_ok-joined.ensures.nodes
     ∙ nodes_are c.args.settings.now (g.R.Rows.collection c.args.rows.now) c.in_ok-found.found
     c.in_ok-parts.parts.items c.in_ok-found.ensures.roots c.in_ok-parts.ensures.places
-    c.in_ok-parts.ensures.built
+    c.in_ok-parts.ensures.built in
+    search (rules, nodes)
 
 pub of_tree-requires-clause-firsts : goal.of_tree-requires-clause-firsts
 of_tree-requires-clause-firsts g c =
+    let firsts =
     c.in_ok-joined.ensures.firsts
     ∙ firsts_are c.args.settings.now (g.R.Rows.collection c.args.rows.now) c.in_ok-found.found
     c.in_ok-parts.parts.items c.in_ok-found.ensures.roots c.in_ok-parts.ensures.places
-    c.in_ok-parts.ensures.built
+    c.in_ok-parts.ensures.built in
+    search (rules, firsts)
 
 pub of_tree-requires-clause-leaves : goal.of_tree-requires-clause-leaves
 of_tree-requires-clause-leaves g c =
     let parts = c.in_ok-parts.parts.items in
+    let leaves =
     ap (λ ls. cut_leaves ls c.in_ok-joined.joined.members.items) c.in_ok-joined.ensures.leaves
     ∙ ap (cut_leaves (part_leaves parts)) c.in_ok-joined.ensures.members
     ∙ leaves_all c.args.settings.now (g.R.Rows.collection c.args.rows.now) c.in_ok-found.found parts
-    c.in_ok-found.ensures.roots c.in_ok-parts.ensures.places c.in_ok-parts.ensures.built
+    c.in_ok-found.ensures.roots c.in_ok-parts.ensures.places c.in_ok-parts.ensures.built in
+    search (rules, leaves)
 
 pub of_tree-requires-clause-whole : goal.of_tree-requires-clause-whole
 of_tree-requires-clause-whole g c =
+    let whole =
     ap members_in c.in_ok-joined.ensures.leaves
     ∙ whole_all c.args.settings.now c.in_ok-found.found c.in_ok-parts.parts.items c.in_ok-parts.ensures.built
-    ∙ ap (λ (ms : List Member). length ms) (sym c.in_ok-joined.ensures.members)
+    ∙ ap (λ (ms : List Member). length ms) (sym c.in_ok-joined.ensures.members) in
+    search (rules, whole)

@@ -1,6 +1,5 @@
 -- What is the tree of a collection keeps the facts of every index, and fits; and each thing lies at its place.
-use Rattle.std.proofs.Common.{◌≡◌, ℕ, ◌^◌, ◌<◌, List, ◌∙◌, sym, ap, length, subst, arith, All}
-use Rattle.isax_word.specs.declared.member.Member.{Member}
+use Rattle.std.proofs.Common.{rules, ◌≡◌, ℕ, ◌^◌, ◌*◌, ◌<◌, List, ◌∙◌, sym, ap, length, subst, arith, All}
 use Rattle.subtree_build.specs.declared.leaf.GrownLeaf.{GrownLeaf}
 use Rattle.subtree_build.specs.declared.leaf.LeafPlace.{LeafPlace}
 use Rattle.subtree_build.specs.Grown.{members_in}
@@ -9,10 +8,17 @@ use Rattle.subtree_build.specs.declared.leaf.TreeLeaf.{TreeLeaf}
 use Rattle.subtree_build.specs.Division.{tree, tree_leaves}
 use Rattle.subtree_build.specs.Outline.{outline}
 use Rattle.subtree_build.specs.Tree.{Tree}
-use Rattle.subtree_build.specs.Means.{means_of, all_means}
-use Rattle.subtree_build.specs.Places.{places_from, means_seen, ArePlaces}
+use Rattle.series_core.specs.Collection.{Collection}
+use Rattle.isax_word.specs.declared.layout.Layout.{Layout}
+use Rattle.mean_bound.specs.Finer.{part_count}
+use Rattle.mean_bound.proofs.Parts.{part_few}
+use Rattle.subtree_build.specs.declared.part.Joined.{Joined}
+use Rattle.subtree_build.specs.declared.tables.Tables.{Tables}
+use Rattle.subtree_build.specs.Grown.{cut_leaves}
+use Rattle.subtree_build.specs.Means.{means_of, all_means, all_finer}
+use Rattle.subtree_build.specs.Places.{places_from, means_seen, finer_seen, boxes_seen, ArePlaces, AreTables}
 use Rattle.subtree_build.proofs.Fitting.{tree_fits, real_in_tree}
-use Rattle.subtree_build.proofs.Meaning.{all_cut, means_are_own}
+use Rattle.subtree_build.proofs.Meaning.{all_cut, means_are_own, finer_are_own, length_finer}
 use Rattle.subtree_build.proofs.OfCollection.{IsReal}
 use Rattle.subtree_build.proofs.Growing.{length-cut}
 use Rattle.subtree_build.proofs.Indexing.{length-all_numbered, tree_is_index}
@@ -29,17 +35,56 @@ placed-requires g c =
     (few_members rows layout c.args.settings.now.leaf_size joined.leaves.items joined.members.items
     c.segments-segments.ensures.divides c.count-count.ensures.sound c.requires.leaves c.requires.whole)
 
--- each member is a series of the rows
-pub means_of_all-requires-clause-series : goal.means_of_all-requires-clause-series
-means_of_all-requires-clause-series g c =
+-- each member of the tree is a series of the rows
+members_real : (rows : Collection) (layout : Layout) (size : ℕ) (joined : Joined)
+    → cut_leaves joined.leaves.items joined.members.items ≡ tree_leaves rows layout size
+    → members_in joined.leaves.items ≡ length joined.members.items → All (IsReal rows) joined.members.items
+members_real rows layout size joined leaves whole =
+    let P : List TreeLeaf → Type 0 = λ ls. All (λ (x : TreeLeaf). All (IsReal rows) x.members) ls in
+    all_cut (IsReal rows) joined.leaves.items joined.members.items whole
+    (subst P (sym leaves) (real_in_tree rows layout size))
+
+pub tables_of-requires-clause-series : goal.tables_of-requires-clause-series
+tables_of-requires-clause-series g c =
     let rows = g.R.Rows.collection c.args.rows.now in
     let layout = c.args.settings.now.layout in
-    let joined = c.args.joined in
-    let P : List TreeLeaf → Type 0 = λ ls. All (λ (x : TreeLeaf). All (IsReal rows) x.members) ls in
-    let Q : List Member → Type 0 = λ ms. All (IsReal rows) ms in
-    subst Q (sym c.as_slice-2.ensures.value)
-    (all_cut (IsReal rows) joined.leaves.items joined.members.items c.requires.whole
-    (subst P (sym c.requires.leaves) (real_in_tree rows layout c.args.settings.now.leaf_size)))
+    let real = members_real rows layout c.args.settings.now.leaf_size c.args.joined c.requires.leaves c.requires.whole in
+    search (rules, real)
+
+pub tables_of-requires-clause-few : goal.tables_of-requires-clause-few
+tables_of-requires-clause-few g c =
+    let rows = g.R.Rows.collection c.args.rows.now in
+    let few = few_members rows c.args.settings.now.layout c.args.settings.now.leaf_size c.args.joined.leaves.items
+    c.args.joined.members.items c.segments-segments.ensures.divides c.count-count.ensures.sound c.requires.leaves
+    c.requires.whole in
+    let whole = c.requires.whole in
+    search (rules, few, whole)
+
+-- the places of the leaves lie among the members
+places_lie : (joined : Joined) (places : List LeafPlace) → members_in joined.leaves.items ≡ length joined.members.items
+    → places ≡ places_from 0 joined.leaves.items → ArePlaces joined.members.items places
+places_lie joined places whole are =
+    let P : List LeafPlace → Type 0 = λ ps. ArePlaces joined.members.items ps in
+    subst P (sym are) (are_places joined.members.items 0 joined.leaves.items (omega (arith, whole)))
+
+pub tables_of-requires-clause-places : goal.tables_of-requires-clause-places
+tables_of-requires-clause-places g c =
+    let lie = places_lie c.args.joined c.in_ok-leaves.leaves.items c.requires.whole
+    (c.in_ok-leaves.ensures ∙ ap (places_from 0) c.as_slice.ensures.value) in
+    search (rules, lie)
+
+-- the tables are those of the members and places
+tables_are : (rows : Collection) (layout : Layout) (joined : Joined) (places : List LeafPlace) (t : Tables)
+    → t.means.items ≡ all_means rows layout joined.members.items → t.parts ≡ part_count rows.points
+    → t.finer.items ≡ all_finer rows joined.members.items → t.boxes.items ≡ boxes_seen t.means.items places
+    → AreTables joined.members.items places t
+tables_are rows layout joined places t means parts finer boxes = record {
+  means_each = ap (λ (ms : List (List ℕ)). length ms) means ∙ length-map joined.members.items (means_of rows layout);
+  few_parts = omega (arith, parts, part_few rows.points);
+  finer_each = ap (λ (ms : List (List ℕ)). length ms) finer ∙ length_finer rows joined.members.items
+      ∙ ap (λ n. length joined.members.items * n) (sym parts);
+  boxes_are = boxes;
+}
 
 pub invariant_of-result : goal.invariant_of-result
 invariant_of-result g c =
@@ -50,9 +95,9 @@ invariant_of-result g c =
     let places : c.in_ok-leaves.leaves.items ≡ places_from 0 joined.leaves.items
     = c.in_ok-leaves.ensures ∙ ap (places_from 0) c.as_slice.ensures.value in
     let seen = tree_is_seen rows layout size c.segments-segments.result c.args.roots.items joined c.in_ok-leaves.leaves.items
-    (means_seen c.in_ok-means.means.items c.in_ok-leaves.leaves.items)
+    (means_seen c.in_ok-tables.tables.means.items c.in_ok-leaves.leaves.items)
+    (finer_seen c.in_ok-tables.tables.parts c.in_ok-tables.tables.finer.items c.in_ok-leaves.leaves.items)
     c.segments-segments.ensures.value c.requires.roots c.requires.nodes c.requires.leaves places in
-    let P : List LeafPlace → Type 0 = λ ps. ArePlaces joined.members.items ps in
     let long : length c.in_ok-leaves.leaves.items ≡ length (tree_leaves rows layout size) = omega (
       arith,
       ap (λ (ps : List LeafPlace). length ps) places,
@@ -64,19 +109,22 @@ invariant_of-result g c =
     = sym (length-map joined.nodes.items outline) ∙ ap (λ (ts : List (Tree ℕ)). length ts) c.requires.nodes
     ∙ length-all_numbered 0 (tree rows layout size) in (
       tree_is_index rows layout size _ c.segments-segments.ensures.divides c.count-count.ensures.sound seen,
-      subst P (sym places) (are_places joined.members.items 0 joined.leaves.items (omega (arith, c.requires.whole))),
+      places_lie joined c.in_ok-leaves.leaves.items c.requires.whole places,
       are_ranges (tree rows layout size) joined.nodes.items joined.firsts.items c.in_ok-leaves.leaves.items
           c.requires.nodes c.requires.firsts long many,
-      ap (λ (ms : List (List ℕ)). length ms)
-          (c.in_ok-means.ensures ∙ ap (all_means rows layout) c.as_slice-2.ensures.value)
-          ∙ length-map joined.members.items (means_of rows layout),
+      tables_are rows layout joined c.in_ok-leaves.leaves.items c.in_ok-tables.tables
+          (c.in_ok-tables.ensures.means ∙ ap (all_means rows layout) c.as_slice-2.ensures.value)
+          c.in_ok-tables.ensures.parts
+          (c.in_ok-tables.ensures.finer ∙ ap (all_finer rows) c.as_slice-2.ensures.value)
+          (c.in_ok-tables.ensures.boxes
+          ∙ ap (boxes_seen c.in_ok-tables.tables.means.items) c.as_slice-3.ensures.value),
     )
 
 pub returns-clause-tree : goal.returns-clause-tree
 returns-clause-tree g c =
     let joined = c.args.joined in
     tree_is_seen (g.R.Rows.collection c.args.rows.now) c.args.settings.now.layout c.args.settings.now.leaf_size
-    c.segments-segments.result c.args.roots.items joined c.in_ok-leaves.leaves.items _ c.segments-segments.ensures.value
+    c.segments-segments.result c.args.roots.items joined c.in_ok-leaves.leaves.items _ _ c.segments-segments.ensures.value
     c.requires.roots c.requires.nodes c.requires.leaves
     (c.in_ok-leaves.ensures ∙ ap (places_from 0) c.as_slice.ensures.value)
 
@@ -88,8 +136,12 @@ returns-clause-fits g c =
     let joined = c.args.joined in
     tree_fits rows layout size _ c.segments-segments.ensures.divides
     (tree_is_seen rows layout size c.segments-segments.result c.args.roots.items joined c.in_ok-leaves.leaves.items
-    (means_seen c.in_ok-means.means.items c.in_ok-leaves.leaves.items) c.segments-segments.ensures.value
+    (means_seen c.in_ok-tables.tables.means.items c.in_ok-leaves.leaves.items)
+    (finer_seen c.in_ok-tables.tables.parts c.in_ok-tables.tables.finer.items c.in_ok-leaves.leaves.items) c.segments-segments.ensures.value
     c.requires.roots c.requires.nodes c.requires.leaves
     (c.in_ok-leaves.ensures ∙ ap (places_from 0) c.as_slice.ensures.value))
-    (means_are_own rows layout joined.members.items c.in_ok-means.means.items c.in_ok-leaves.leaves.items
-    (c.in_ok-means.ensures ∙ ap (all_means rows layout) c.as_slice-2.ensures.value))
+    (means_are_own rows layout joined.members.items c.in_ok-tables.tables.means.items c.in_ok-leaves.leaves.items
+    (c.in_ok-tables.ensures.means ∙ ap (all_means rows layout) c.as_slice-2.ensures.value))
+    (ap (λ n. finer_seen n c.in_ok-tables.tables.finer.items c.in_ok-leaves.leaves.items) c.in_ok-tables.ensures.parts
+    ∙ finer_are_own rows joined.members.items c.in_ok-tables.tables.finer.items c.in_ok-leaves.leaves.items
+    (c.in_ok-tables.ensures.finer ∙ ap (all_finer rows) c.as_slice-2.ensures.value))

@@ -1,0 +1,89 @@
+-- A box of means holds each of them (`box_holds`), so its bound is at most the bound of each (`box_below`).
+use Rattle.std.proofs.Common.{ℕ, zero, suc, ◌-◌, ◌<◌, ◌≤◌, arith, List, [], ◌∷◌, length, map, slice_index_or}
+use Rattle.std.specs.Prelude.{min, max}
+use Rattle.std.specs.Simd.Lanes.{zip2, sum_l}
+use Rattle.std.proofs.lemmas.Nat.{mul-le}
+use Rattle.mean_bound.specs.MeanBound.{View, square, gaps_between, mean_bound}
+use Rattle.mean_bound.specs.Boxes.{box_of, box_bound}
+
+-- the first list is no longer than the second, and each of its numbers is at most the one of the second
+abbrev pub Under : List ℕ → List ℕ → Type 0
+Under [] ys = Unit {0}
+Under (x ∷ xs) [] = ⊥
+Under (x ∷ xs) (y ∷ ys) = (x ≤ y) × Under xs ys
+
+-- the first list is no longer than the second, and each of its numbers is at least the one of the second
+abbrev pub Over : List ℕ → List ℕ → Type 0
+Over [] ys = Unit {0}
+Over (x ∷ xs) [] = ⊥
+Over (x ∷ xs) (y ∷ ys) = (y ≤ x) × Over xs ys
+
+-- what lies between has no smaller gap
+gap_grows : (l h least m greatest : ℕ) → least ≤ m → m ≤ greatest
+    → square (min (max (l - greatest) (least - h)) 16383) ≤ square (min (max (l - m) (m - h)) 16383)
+gap_grows l h least m greatest low high =
+    let less : min (max (l - greatest) (least - h)) 16383 ≤ min (max (l - m) (m - h)) 16383 = omega (arith, low, high) in
+    mul-le (min (max (l - greatest) (least - h)) 16383) (min (max (l - greatest) (least - h)) 16383)
+    (min (max (l - m) (m - h)) 16383) (min (max (l - m) (m - h)) 16383) less less
+
+-- and so for all of them
+squares_grow : (lows highs leasts ms greatests : List ℕ) → Under leasts ms → Over greatests ms
+    → sum_l (map square (gaps_between lows highs leasts greatests))
+    ≤ sum_l (map square (gaps_between lows highs ms ms))
+squares_grow [] highs leasts ms greatests low high = omega arith
+squares_grow (l ∷ lows) highs leasts ms [] low high = omega arith
+squares_grow (l ∷ lows) highs [] ms (b ∷ greatests) low high = omega arith
+squares_grow (l ∷ lows) [] (a ∷ leasts) ms (b ∷ greatests) low high = omega arith
+squares_grow (l ∷ lows) (h ∷ highs) (a ∷ leasts) [] (b ∷ greatests) low high = absurd low
+squares_grow (l ∷ lows) (h ∷ highs) (a ∷ leasts) (m ∷ ms) (b ∷ greatests) low high =
+    let here = gap_grows l h a m b low.0 high.0 in
+    let behind = squares_grow lows highs leasts ms greatests low.1 high.1 in
+    omega (arith, here, behind)
+
+-- the lesser of each two numbers lie under both
+lesser_under : (xs ys : List ℕ) → Under (zip2 min xs ys) ys
+lesser_under [] ys = tt
+lesser_under (x ∷ xs) [] = tt
+lesser_under (x ∷ xs) (y ∷ ys) = (omega arith, lesser_under xs ys)
+
+-- the greater of each two lie over both
+greater_over : (xs ys : List ℕ) → Over (zip2 max xs ys) ys
+greater_over [] ys = tt
+greater_over (x ∷ xs) [] = tt
+greater_over (x ∷ xs) (y ∷ ys) = (omega arith, greater_over xs ys)
+
+-- what lies under numbers stays there where it gets less
+stays_under : (xs ys zs : List ℕ) → Under xs zs → Under (zip2 min xs ys) zs
+stays_under [] ys zs under = tt
+stays_under (x ∷ xs) [] zs under = tt
+stays_under (x ∷ xs) (y ∷ ys) [] under = absurd under
+stays_under (x ∷ xs) (y ∷ ys) (z ∷ zs) under = (omega (arith, under.0), stays_under xs ys zs under.1)
+
+-- what lies over numbers stays there where it gets more
+stays_over : (xs ys zs : List ℕ) → Over xs zs → Over (zip2 max xs ys) zs
+stays_over [] ys zs over = tt
+stays_over (x ∷ xs) [] zs over = tt
+stays_over (x ∷ xs) (y ∷ ys) [] over = absurd over
+stays_over (x ∷ xs) (y ∷ ys) (z ∷ zs) over = (omega (arith, over.0), stays_over xs ys zs over.1)
+
+-- the box of means holds each of them
+pub box_holds : (all : List (List ℕ)) (i : ℕ) → i < length all
+    → Under (box_of all).lows (slice_index_or all i []) × Over (box_of all).highs (slice_index_or all i [])
+box_holds [] i inside = absurd (omega (arith, inside))
+box_holds (ms ∷ rest) zero inside =
+    (lesser_under (box_of rest).lows ms, greater_over (box_of rest).highs ms)
+box_holds (ms ∷ rest) (suc i) inside =
+    let held = box_holds rest i (omega (arith, inside)) in (
+      stays_under (box_of rest).lows ms (slice_index_or rest i []) held.0,
+      stays_over (box_of rest).highs ms (slice_index_or rest i []) held.1,
+    )
+
+-- the bound of a box of means is at most that of each of them
+pub box_below : (v : View) (all : List (List ℕ)) (i : ℕ) → i < length all
+    → box_bound v (box_of all) ≤ mean_bound v (slice_index_or all i [])
+box_below v all i inside =
+    let ms = slice_index_or all i [] in
+    let held = box_holds all i inside in
+    mul-le v.least_length (sum_l (map square (gaps_between v.lows v.highs (box_of all).lows (box_of all).highs)))
+    v.least_length (sum_l (map square (gaps_between v.lows v.highs ms ms)))
+    (omega arith) (squares_grow v.lows v.highs (box_of all).lows ms (box_of all).highs held.0 held.1)

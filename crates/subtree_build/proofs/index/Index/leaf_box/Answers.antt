@@ -1,0 +1,29 @@
+-- The box at the number of the leaf.
+use Rattle.std.proofs.Common.{◌∙◌, ◌-◌, ◌<◌, ℕ, List, [], length, take, drop, get_or, ap, sym, arith}
+use Rattle.std.proofs.lemmas.List.{get_or-map, length-map}
+use Rattle.mean_bound.specs.Boxes.{Box, box_of}
+use Rattle.subtree_build.specs.declared.leaf.LeafPlace.{LeafPlace}
+use Rattle.subtree_build.specs.Index.{IndexParts}
+use Rattle.subtree_build.specs.Means.{means_at}
+use Rattle.subtree_build.specs.Places.{leaf_seen, AreTables}
+use Rattle.subtree_build.proofs.index.Index.leaf_box.Goals as goal
+
+pub returns : goal.returns
+returns c =
+    let x = c.self.inside in
+    let l = c.args.l in
+    let means = x.tables.means.items in
+    let part : LeafPlace → List (List ℕ) = λ p. take (p.end - p.first) (drop p.first means) in
+    let low : l < length x.leaves.items = omega (
+      arith,
+      c.requires,
+      length-map x.leaves.items (leaf_seen x.members.items),
+      ap (λ (ix : IndexParts). length ix.leaves) c.self.view_is,
+    ) in
+    let tables : AreTables x.members.items x.leaves.items x.tables = c.self.invariant.3 in
+    let none : LeafPlace = record { word = []; first = 0; end = 0 } in
+    c.index.ensures
+    ∙ ap (λ (bs : List Box). get_or bs l c.index.result.now) tables.boxes_are
+    ∙ get_or-map (λ (q : LeafPlace). box_of (part q)) x.leaves.items l none c.index.result.now low
+    ∙ ap box_of (sym (get_or-map part x.leaves.items l none [] low))
+    ∙ ap (λ (ix : IndexParts). box_of (means_at ix.means l)) c.self.view_is

@@ -1,0 +1,69 @@
+//! The tables beside the members of an index: their means, their finer means, and the box of each leaf's means.
+ghost use Rattle.std.specs.Prelude.{◌≡◌, ◌<◌, ◌≤◌, ◌^◌, All, IfOk, length};
+ghost use Rattle.mean_bound.specs.Finer.{part_count};
+ghost use Rattle.subtree_build.specs.Means.{all_finer, all_means};
+ghost use Rattle.subtree_build.specs.Places.{boxes_seen, IsPlace};
+
+use crate::leaf::LeafPlace;
+use crate::means::{finer_of_all, means_of_all};
+use isax_word::Layout;
+use mean_bound::{FinerCuts, MeanBox, Means};
+use outside::NoMemory;
+use series_core::Rows;
+use std::alloc::Global;
+use std::thread::Threads;
+use summary_phase::Member;
+
+/// The means of all members, in their order; as many finer means a member as a series has parts; and the box of each leaf.
+#[derive(Drop)]
+pub(crate) struct Tables {
+    pub(crate) means: Vec<Means>,
+    pub(crate) parts: u32,
+    pub(crate) finer: Vec<Means>,
+    pub(crate) boxes: Vec<MeanBox>,
+}
+
+/// The tables of members, each of which is a series of the rows, and of the places of leaves among them.
+pub(crate) fn tables_of<H: Threads + Sync, R: Rows + Sync>(
+    rt: &H,
+    alloc: Global,
+    rows: &R,
+    layout: &Layout,
+    members: &[Member],
+    places: &[LeafPlace],
+    workers: u32,
+) -> Result<Tables, NoMemory>
+    requires length { layout.now.cuts.row_length ≡ (R.collection rows.now).points }
+    requires series { All (λ m. m.number < length (R.collection rows.now).series) members.now }
+    requires few { length members.now < 2 ^ 32 }
+    requires places { All (IsPlace (length members.now)) places.now }
+    requires some { 1 ≤ workers }
+    ensures means { IfOk result (λ t. t.means.items ≡ all_means (R.collection rows.now) layout.now members.now) }
+    ensures parts { IfOk result (λ t. t.parts ≡ part_count (R.collection rows.now).points) }
+    ensures finer { IfOk result (λ t. t.finer.items ≡ all_finer (R.collection rows.now) members.now) }
+    ensures boxes { IfOk result (λ t. t.boxes.items ≡ boxes_seen t.means.items places.now) }
+{
+    let cuts = FinerCuts::new(layout.cuts.length());
+    let means = means_of_all(rt, alloc, rows, layout, members, workers)?;
+    let finer = finer_of_all(rt, alloc, rows, &cuts, members, workers)?;
+    let boxes = boxes_of(alloc, means.as_slice(), places)?;
+    Ok(Tables {
+        means,
+        parts: cuts.parts(),
+        finer,
+        boxes,
+    })
+}
+
+/// The boxes of the means at places.
+fn boxes_of(alloc: Global, means: &[Means], places: &[LeafPlace]) -> Result<Vec<MeanBox>, NoMemory>
+    requires { All (IsPlace (length means.now)) places.now }
+    ensures { IfOk result (λ boxes. boxes.items ≡ boxes_seen means.now places.now) }
+{
+    let mut boxes = Vec::with_capacity(alloc, places.len())?;
+    for place in places {
+        let of_leaf = &means[place.first as usize..place.end as usize];
+        boxes.push(MeanBox::around(of_leaf))?;
+    }
+    Ok(boxes)
+}
