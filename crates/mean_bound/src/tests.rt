@@ -180,6 +180,7 @@ fn finer_bounds_are_those_of_the_parts(rt: HostRuntime) -> Result<(), Fail> {
             let mut expected = 0u64;
             let mut from = 0;
             for end in ends {
+                assert!(rt; from <= *end && *end <= 300, "a part up to {end}");
                 let bound = plain_bound(&series[from..*end], &query[from..*end], 16);
                 expected = expected.wrapping_add(bound);
                 from = *end;

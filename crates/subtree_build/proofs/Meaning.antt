@@ -2,7 +2,7 @@
 -- the members of all leaves holds of all members (`all_cut`), and one more stands behind (`map_push`); the means of a leaf
 -- of an index that fits are those of its members (`means_of_leaf`), one by one (`means_of_one`); and so for finer means.
 use Rattle.std.proofs.Common.{◌≡◌, ℕ, ◌+◌, ◌-◌, ◌*◌, ◌/◌, ◌%◌, ◌<◌, List, [], ◌∷◌, ◌++◌, length, take, drop, map, get_or, refl, sym, ap, ◌∙◌, subst, arith, All}
-use Rattle.std.proofs.lemmas.List.{take-append-drop, take-map, drop-map, map-append, take_more, take_all, take-append-le, length-drop, length-map, get_or-map, ext_get_or}
+use Rattle.std.proofs.lemmas.List.{take-append-drop, take-map, drop-map, map-append, take_more, take_all, take-append-le, length-drop, get_or-map, ext_get_or}
 use Rattle.std.proofs.lemmas.List.FromFn.{length-map-range_with_len, get_or-map-range_with_len}
 use Rattle.std.proofs.Math.Nat.{mod-lt}
 use Rattle.std.proofs.lemmas.List.Elements.{All-nil, All-append, All-head, All-tail}
@@ -79,26 +79,20 @@ means_of_one c layout members means i m own d are inside item is =
     ∙ get_or-map (means_of c layout) members i m d inside
     ∙ ap (means_of c layout) (sym item)
 
--- a list that was written over as a whole
-pub written_over : {X : Type 0} (new old : List X) (n : ℕ) → n ≡ length old → length new ≡ length old
-    → take n (new ++ drop (length new) old) ≡ new
-written_over new old n whole long =
+-- a list that was written over place by place with another one of its length is that one
+pub written_over : {X : Type 0} (d : X) (new old wanted : List X) (n : ℕ) → n ≡ length old → length new ≡ length old
+    → length old ≡ length wanted → ((i : ℕ) → i < length old → get_or new i d ≡ get_or wanted i d)
+    → take n (new ++ drop (length new) old) ≡ wanted
+written_over d new old wanted n whole long same each =
     take-append-le n new (drop (length new) old) (omega (arith, whole, long))
     ∙ take_all n new (omega (arith, whole, long))
+    ∙ ext_get_or d new wanted (long ∙ same) (λ i inside. each i (omega (arith, inside, long)))
 
--- a member that stands past the end
-abbrev pub no_member : Member
-no_member = record { number = 0; full = [] }
-
--- a list that has at each place the means of the member there is that of all
-pub means_each : (c : Collection) (layout : Layout) (members : List Member) (means : List (List ℕ))
-    → length means ≡ length members
-    → ((i : ℕ) → i < length means → get_or means i [] ≡ means_of c layout (get_or members i no_member))
-    → means ≡ all_means c layout members
-means_each c layout members means long each =
-    ext_get_or [] means (all_means c layout members) (long ∙ sym (length-map members (means_of c layout)))
-    (λ i inside. each i inside
-    ∙ sym (get_or-map (means_of c layout) members i no_member [] (omega (arith, long, inside))))
+-- the means at a place are those of the member there
+pub means_there : (c : Collection) (layout : Layout) (members : List Member) (i : ℕ) (m : Member) → i < length members
+    → m ≡ get_or members i m → means_of c layout m ≡ get_or (all_means c layout members) i []
+means_there c layout members i m inside item =
+    ap (means_of c layout) item ∙ sym (get_or-map (means_of c layout) members i m [] inside)
 
 -- a member has a `Means` for each part
 finer_long : (c : Collection) (m : Member) → length (finer_of c m) ≡ part_count c.points
@@ -109,25 +103,17 @@ pub length_finer : (c : Collection) (members : List Member)
     → length (all_finer c members) ≡ length members * part_count c.points
 length_finer c members = length_pieces (finer_of c) (part_count c.points) (finer_long c) members
 
--- a list that has at each place the means of the part there is that of all finer means
-pub finer_each : (c : Collection) (members : List Member) (finer : List (List ℕ))
-    → length finer ≡ length members * part_count c.points
-    → ((i : ℕ) → i < length finer → get_or finer i []
-    ≡ part_means c.points (series_at c (get_or members (i / part_count c.points) no_member).number) (i % part_count c.points))
-    → finer ≡ all_finer c members
-finer_each c members finer long each =
-    ext_get_or [] finer (all_finer c members) (long ∙ sym (length_finer c members)) one
-  where
-    one : (i : ℕ) → i < length finer → get_or finer i [] ≡ get_or (all_finer c members) i []
-    one i inside =
-        let n = part_count c.points in
-        let low : i < length members * n = omega (arith, inside, long) in
-        let some : 0 < n = above_none (length members) n i low in
-        let m = get_or members (i / n) no_member in
-        each i inside
-        ∙ sym (get_or-map-range_with_len (part_means c.points (series_at c m.number)) 0 n (i % n) (i % n) []
-        (mod-lt i some) (omega arith))
-        ∙ sym (in_pieces (finer_of c) n (finer_long c) members i no_member [] low)
+-- the finer means at a place are those of a part of a member
+pub finer_there : (c : Collection) (members : List Member) (i : ℕ) (m : Member)
+    → i < length members * part_count c.points → m ≡ get_or members (i / part_count c.points) m
+    → part_means c.points (series_at c m.number) (i % part_count c.points) ≡ get_or (all_finer c members) i []
+finer_there c members i m low item =
+    let n = part_count c.points in
+    let some : 0 < n = above_none (length members) n i low in
+    ap (λ (x : Member). part_means c.points (series_at c x.number) (i % n)) item
+    ∙ sym (get_or-map-range_with_len (part_means c.points (series_at c (get_or members (i / n) m).number)) 0 n (i % n)
+    (i % n) [] (mod-lt i some) (omega arith))
+    ∙ sym (in_pieces (finer_of c) n (finer_long c) members i m [] low)
 
 -- the finer means of all members, cut by places, are those of the leaves at the places
 pub finer_are_own : (c : Collection) (members : List Member) (finer : List (List ℕ)) (places : List LeafPlace)

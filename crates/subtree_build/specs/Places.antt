@@ -1,7 +1,11 @@
 -- Where an index keeps things: the members of each leaf in the row of all members, and the leaves below each root child.
 use Rattle.std.specs.Prelude.{◌≡◌, ℕ, ◌+◌, ◌-◌, ◌*◌, ◌≤◌, List, [], ◌∷◌, Some, length, map, take, drop, slice_get, slice_index}
 use Rattle.std.specs.List.{All, range_with_len}
+use Rattle.series_core.specs.Collection.{Collection}
 use Rattle.mean_bound.specs.Boxes.{Box, box_of}
+use Rattle.mean_bound.specs.Finer.{part_count}
+use Rattle.isax_word.specs.declared.layout.Layout.{Layout}
+use Rattle.subtree_build.specs.Means.{all_finer, all_means}
 use Rattle.isax_word.specs.declared.member.Member.{Member}
 use Rattle.subtree_build.specs.declared.leaf.GrownLeaf.{GrownLeaf}
 use Rattle.subtree_build.specs.declared.leaf.LeafPlace.{LeafPlace}
@@ -54,6 +58,14 @@ pub record AreTables (members : List Member) (places : List LeafPlace) (t : Tabl
   pub few_parts : t.parts ≤ 4
   pub finer_each : length t.finer.items ≡ length members * t.parts
   pub boxes_are : t.boxes.items ≡ boxes_seen t.means.items places
+
+-- the tables of members that are series of the collection, and of places among them
+pub record AreTablesOf (c : Collection) (layout : Layout) (members : List Member) (places : List LeafPlace) (t : Tables)
+    : Type 0 where
+  pub means : t.means.items ≡ all_means c layout members
+  pub parts : t.parts ≡ part_count c.points
+  pub finer : t.finer.items ≡ all_finer c members
+  pub boxes : t.boxes.items ≡ boxes_seen t.means.items places
 
 -- the leaves below a node are those from the first up to but not including the end, which are some of these leaves
 pub record IsRange (count first end : ℕ) (node : Node) : Type 0 where

@@ -1,8 +1,8 @@
 //! The means of members and their finer means, in the order of the members. Workers make them side by side, each for a
 //! stretch of members, so that a row is read once for either.
-ghost use Rattle.std.specs.Prelude.{◌≡◌, ℕ, ◌*◌, ◌/◌, ◌%◌, ◌^◌, ◌<◌, ◌≤◌, All, IfOk, length, slice_index_or};
+ghost use Rattle.std.specs.Prelude.{◌≡◌, ℕ, ◌*◌, ◌^◌, ◌<◌, ◌≤◌, [], All, IfOk, length, slice_index_or};
 ghost use Rattle.mean_bound.specs.Finer.{part_count, part_means};
-ghost use Rattle.subtree_build.specs.Means.{all_finer, all_means, means_of};
+ghost use Rattle.subtree_build.specs.Means.{all_finer, all_means};
 ghost use Rattle.subtree_build.specs.Members.{series_at};
 
 use isax_word::Layout;
@@ -47,8 +47,8 @@ fn fill_means<H: Threads + Sync, R: Rows + Sync>(
     requires some { 1 ≤ workers }
     requires places { length means.old ≡ length members.now }
     ensures len { length means.new ≡ length means.old }
-    ensures each { (i : ℕ) (d : Means) (e : Member) → i < length means.old → slice_index_or means.new i d
-        ≡ means_of (R.collection rows.now) layout.now (slice_index_or members.now i e) }
+    ensures each { (i : ℕ) (d : Means) → i < length means.old
+        → slice_index_or means.new i d ≡ slice_index_or (all_means (R.collection rows.now) layout.now members.now) i [] }
 {
     thread::for_each_mut(
         rt,
@@ -63,7 +63,7 @@ fn means_at<R: Rows>(rows: &R, layout: &Layout, members: &[Member], i: usize) ->
     requires length { layout.now.cuts.row_length ≡ (R.collection rows.now).points }
     requires series { All (λ m. m.number < length (R.collection rows.now).series) members.now }
     requires inside { i < length members.now }
-    ensures { (d : Member) → result ≡ means_of (R.collection rows.now) layout.now (slice_index_or members.now i d) }
+    ensures { result ≡ slice_index_or (all_means (R.collection rows.now) layout.now members.now) i [] }
 {
     // for the fact that the rows are a collection
     let _count = rows.count();
@@ -104,9 +104,8 @@ fn fill_finer<H: Threads + Sync, R: Rows + Sync>(
     requires some { 1 ≤ workers }
     requires places { length finer.old ≡ length members.now * part_count cuts.now }
     ensures len { length finer.new ≡ length finer.old }
-    ensures each { (i : ℕ) (d : Means) (e : Member) → i < length finer.old → slice_index_or finer.new i d
-        ≡ part_means cuts.now (series_at (R.collection rows.now) (slice_index_or members.now (i / part_count cuts.now) e).number)
-        (i % part_count cuts.now) }
+    ensures each { (i : ℕ) (d : Means) → i < length finer.old
+        → slice_index_or finer.new i d ≡ slice_index_or (all_finer (R.collection rows.now) members.now) i [] }
 {
     thread::for_each_mut(
         rt,
@@ -121,9 +120,7 @@ fn finer_at<R: Rows>(rows: &R, cuts: &FinerCuts, members: &[Member], i: usize) -
     requires length { cuts.now ≡ (R.collection rows.now).points }
     requires series { All (λ m. m.number < length (R.collection rows.now).series) members.now }
     requires inside { i < length members.now * part_count cuts.now }
-    ensures { (d : Member) → result ≡ part_means cuts.now
-        (series_at (R.collection rows.now) (slice_index_or members.now (i / part_count cuts.now) d).number)
-        (i % part_count cuts.now) }
+    ensures { result ≡ slice_index_or (all_finer (R.collection rows.now) members.now) i [] }
 {
     let parts = cuts.parts() as usize;
     let part = (i % parts) as u32;

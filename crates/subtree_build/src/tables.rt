@@ -1,8 +1,6 @@
 //! The tables beside the members of an index: their means, their finer means, and the box of each leaf's means.
 ghost use Rattle.std.specs.Prelude.{◌≡◌, ◌<◌, ◌≤◌, ◌^◌, All, IfOk, length};
-ghost use Rattle.mean_bound.specs.Finer.{part_count};
-ghost use Rattle.subtree_build.specs.Means.{all_finer, all_means};
-ghost use Rattle.subtree_build.specs.Places.{boxes_seen, IsPlace};
+ghost use Rattle.subtree_build.specs.Places.{boxes_seen, AreTablesOf, IsPlace};
 
 use crate::leaf::LeafPlace;
 use crate::means::{finer_of_all, means_of_all};
@@ -38,10 +36,7 @@ pub(crate) fn tables_of<H: Threads + Sync, R: Rows + Sync>(
     requires few { length members.now < 2 ^ 32 }
     requires places { All (IsPlace (length members.now)) places.now }
     requires some { 1 ≤ workers }
-    ensures means { IfOk result (λ t. t.means.items ≡ all_means (R.collection rows.now) layout.now members.now) }
-    ensures parts { IfOk result (λ t. t.parts ≡ part_count (R.collection rows.now).points) }
-    ensures finer { IfOk result (λ t. t.finer.items ≡ all_finer (R.collection rows.now) members.now) }
-    ensures boxes { IfOk result (λ t. t.boxes.items ≡ boxes_seen t.means.items places.now) }
+    ensures { IfOk result (AreTablesOf (R.collection rows.now) layout.now members.now places.now) }
 {
     let cuts = FinerCuts::new(layout.cuts.length());
     let means = means_of_all(rt, alloc, rows, layout, members, workers)?;

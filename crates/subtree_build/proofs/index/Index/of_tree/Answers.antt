@@ -1,5 +1,6 @@
 -- What is the tree of a collection keeps the facts of every index, and fits; and each thing lies at its place.
 use Rattle.std.proofs.Common.{rules, ◌≡◌, ℕ, ◌^◌, ◌*◌, ◌<◌, List, ◌∙◌, sym, ap, length, subst, arith, All}
+use Rattle.isax_word.specs.declared.member.Member.{Member}
 use Rattle.subtree_build.specs.declared.leaf.GrownLeaf.{GrownLeaf}
 use Rattle.subtree_build.specs.declared.leaf.LeafPlace.{LeafPlace}
 use Rattle.subtree_build.specs.Grown.{members_in}
@@ -10,13 +11,12 @@ use Rattle.subtree_build.specs.Outline.{outline}
 use Rattle.subtree_build.specs.Tree.{Tree}
 use Rattle.series_core.specs.Collection.{Collection}
 use Rattle.isax_word.specs.declared.layout.Layout.{Layout}
-use Rattle.mean_bound.specs.Finer.{part_count}
 use Rattle.mean_bound.proofs.Parts.{part_few}
 use Rattle.subtree_build.specs.declared.part.Joined.{Joined}
 use Rattle.subtree_build.specs.declared.tables.Tables.{Tables}
 use Rattle.subtree_build.specs.Grown.{cut_leaves}
-use Rattle.subtree_build.specs.Means.{means_of, all_means, all_finer}
-use Rattle.subtree_build.specs.Places.{places_from, means_seen, finer_seen, boxes_seen, ArePlaces, AreTables}
+use Rattle.subtree_build.specs.Means.{means_of}
+use Rattle.subtree_build.specs.Places.{places_from, means_seen, finer_seen, ArePlaces, AreTables, AreTablesOf}
 use Rattle.subtree_build.proofs.Fitting.{tree_fits, real_in_tree}
 use Rattle.subtree_build.proofs.Meaning.{all_cut, means_are_own, finer_are_own, length_finer}
 use Rattle.subtree_build.proofs.OfCollection.{IsReal}
@@ -73,18 +73,23 @@ tables_of-requires-clause-places g c =
     (c.in_ok-leaves.ensures ∙ ap (places_from 0) c.as_slice.ensures.value) in
     search (rules, lie)
 
--- the tables are those of the members and places
-tables_are : (rows : Collection) (layout : Layout) (joined : Joined) (places : List LeafPlace) (t : Tables)
-    → t.means.items ≡ all_means rows layout joined.members.items → t.parts ≡ part_count rows.points
-    → t.finer.items ≡ all_finer rows joined.members.items → t.boxes.items ≡ boxes_seen t.means.items places
-    → AreTables joined.members.items places t
-tables_are rows layout joined places t means parts finer boxes = record {
-  means_each = ap (λ (ms : List (List ℕ)). length ms) means ∙ length-map joined.members.items (means_of rows layout);
-  few_parts = omega (arith, parts, part_few rows.points);
-  finer_each = ap (λ (ms : List (List ℕ)). length ms) finer ∙ length_finer rows joined.members.items
-      ∙ ap (λ n. length joined.members.items * n) (sym parts);
-  boxes_are = boxes;
+-- the tables of the members and places are tables beside them
+tables_are : (rows : Collection) (layout : Layout) (members : List Member) (places : List LeafPlace) (t : Tables)
+    → AreTablesOf rows layout members places t → AreTables members places t
+tables_are rows layout members places t are = record {
+  means_each = ap (λ (ms : List (List ℕ)). length ms) are.means ∙ length-map members (means_of rows layout);
+  few_parts = omega (arith, are.parts, part_few rows.points);
+  finer_each = ap (λ (ms : List (List ℕ)). length ms) are.finer ∙ length_finer rows members
+      ∙ ap (λ n. length members * n) (sym are.parts);
+  boxes_are = are.boxes;
 }
+
+-- the slices that were handed on are the lists
+own_tables : (rows : Collection) (layout : Layout) (members lent : List Member) (places shown : List LeafPlace) (t : Tables)
+    → AreTablesOf rows layout lent shown t → lent ≡ members → shown ≡ places → AreTablesOf rows layout members places t
+own_tables rows layout members lent places shown t are same_members same_places =
+    subst (λ (ps : List LeafPlace). AreTablesOf rows layout members ps t) same_places
+    (subst (λ (ms : List Member). AreTablesOf rows layout ms shown t) same_members are)
 
 pub invariant_of-result : goal.invariant_of-result
 invariant_of-result g c =
@@ -112,12 +117,9 @@ invariant_of-result g c =
       places_lie joined c.in_ok-leaves.leaves.items c.requires.whole places,
       are_ranges (tree rows layout size) joined.nodes.items joined.firsts.items c.in_ok-leaves.leaves.items
           c.requires.nodes c.requires.firsts long many,
-      tables_are rows layout joined c.in_ok-leaves.leaves.items c.in_ok-tables.tables
-          (c.in_ok-tables.ensures.means ∙ ap (all_means rows layout) c.as_slice-2.ensures.value)
-          c.in_ok-tables.ensures.parts
-          (c.in_ok-tables.ensures.finer ∙ ap (all_finer rows) c.as_slice-2.ensures.value)
-          (c.in_ok-tables.ensures.boxes
-          ∙ ap (boxes_seen c.in_ok-tables.tables.means.items) c.as_slice-3.ensures.value),
+      tables_are rows layout joined.members.items c.in_ok-leaves.leaves.items c.in_ok-tables.tables
+          (own_tables rows layout joined.members.items _ c.in_ok-leaves.leaves.items _ c.in_ok-tables.tables
+          c.in_ok-tables.ensures c.as_slice-2.ensures.value c.as_slice-3.ensures.value),
     )
 
 pub returns-clause-tree : goal.returns-clause-tree
@@ -134,14 +136,14 @@ returns-clause-fits g c =
     let layout = c.args.settings.now.layout in
     let size = c.args.settings.now.leaf_size in
     let joined = c.args.joined in
+    let own = own_tables rows layout joined.members.items _ c.in_ok-leaves.leaves.items _ c.in_ok-tables.tables
+    c.in_ok-tables.ensures c.as_slice-2.ensures.value c.as_slice-3.ensures.value in
     tree_fits rows layout size _ c.segments-segments.ensures.divides
     (tree_is_seen rows layout size c.segments-segments.result c.args.roots.items joined c.in_ok-leaves.leaves.items
     (means_seen c.in_ok-tables.tables.means.items c.in_ok-leaves.leaves.items)
     (finer_seen c.in_ok-tables.tables.parts c.in_ok-tables.tables.finer.items c.in_ok-leaves.leaves.items) c.segments-segments.ensures.value
     c.requires.roots c.requires.nodes c.requires.leaves
     (c.in_ok-leaves.ensures ∙ ap (places_from 0) c.as_slice.ensures.value))
-    (means_are_own rows layout joined.members.items c.in_ok-tables.tables.means.items c.in_ok-leaves.leaves.items
-    (c.in_ok-tables.ensures.means ∙ ap (all_means rows layout) c.as_slice-2.ensures.value))
-    (ap (λ n. finer_seen n c.in_ok-tables.tables.finer.items c.in_ok-leaves.leaves.items) c.in_ok-tables.ensures.parts
-    ∙ finer_are_own rows joined.members.items c.in_ok-tables.tables.finer.items c.in_ok-leaves.leaves.items
-    (c.in_ok-tables.ensures.finer ∙ ap (all_finer rows) c.as_slice-2.ensures.value))
+    (means_are_own rows layout joined.members.items c.in_ok-tables.tables.means.items c.in_ok-leaves.leaves.items own.means)
+    (ap (λ n. finer_seen n c.in_ok-tables.tables.finer.items c.in_ok-leaves.leaves.items) own.parts
+    ∙ finer_are_own rows joined.members.items c.in_ok-tables.tables.finer.items c.in_ok-leaves.leaves.items own.finer)
