@@ -1,5 +1,7 @@
--- The distance as it is walked from the front: one place at a time (`distance_from_place`).
-use Rattle.std.proofs.Common.{◌≡◌, ℕ, ◌+◌, ◌<◌, ◌≤◌, ℤ, pos, List, [], ◌∷◌, ◌++◌, length, drop, take, get_or, add-one, zero-add, drop-cons, sym, ap, ◌∙◌, arith}
+-- The distance as it is walked from the front: one place at a time (`distance_from_place`), a part at a time
+-- (`distance_from_part`), and to the end (`distance_of_rest`).
+use Rattle.std.proofs.Common.{◌≡◌, ℕ, ◌+◌, ◌-◌, ◌<◌, ◌≤◌, ℤ, pos, List, [], ◌∷◌, ◌++◌, length, drop, take, get_or, add-one, zero-add, drop-cons, sym, ap, ◌∙◌, arith}
+use Rattle.std.proofs.lemmas.List.{take_all, length-drop}
 use Rattle.std.proofs.lemmas.Simd.{chunk-drop, length-chunk}
 use Rattle.series_core.specs.Distance.{squared_difference, squared_distance}
 
@@ -38,3 +40,13 @@ distance_from_part xs ys i n m is in_xs in_ys =
     ap (λ l. squared_distance l (drop i ys)) first
     ∙ ap (squared_distance (take n (drop i xs) ++ drop m xs)) second
     ∙ distance_of_parts (take n (drop i xs)) (drop m xs) (take n (drop i ys)) (drop m ys) long
+
+-- what a slice has from a place to its end is what is left there
+pub distance_of_rest : (xs ys : List ℤ) (i : ℕ)
+    → squared_distance (take (length xs - i) (drop i xs)) (take (length ys - i) (drop i ys))
+    ≡ squared_distance (drop i xs) (drop i ys)
+distance_of_rest xs ys i =
+    ap (λ l. squared_distance l (take (length ys - i) (drop i ys)))
+    (take_all (length xs - i) (drop i xs) (omega (arith, length-drop i xs)))
+    ∙ ap (squared_distance (drop i xs))
+    (take_all (length ys - i) (drop i ys) (omega (arith, length-drop i ys)))

@@ -1,5 +1,5 @@
 -- What a lane of the kernel holds: a difference of two values as 16 bits, and a square.
-use Rattle.std.specs.Prelude.{ℕ, ◌*◌, ◌<◌, ℤ, ◌-ℤ◌, unsigned_abs, List, map}
+use Rattle.std.specs.Prelude.{ℕ, ◌*◌, ◌%◌, ◌<◌, ℤ, ◌-ℤ◌, unsigned_abs, List, map}
 use Rattle.std.specs.Int.{cast_unsigned}
 use Rattle.std.specs.Simd.Lanes.{zip2, Each1}
 use mir.Syntax.{w16}
@@ -16,6 +16,10 @@ square n = n * n
 abbrev pub bits_of : List ℤ → List ℕ
 bits_of lanes = map (cast_unsigned w16) lanes
 
--- two lists of values differ by less than 8192 at each place, so that 64 squares together take 32 bits
+-- the square of the low 15 bits of a number
+abbrev pub square_of_low : ℕ → ℕ
+square_of_low n = square (n % 32768)
+
+-- two lists of values differ by less than 32768 at each place, so that a square takes 30 bits
 abbrev pub IsNear : List ℤ → List ℤ → Type 0
-IsNear xs ys = Each1 (λ n. n < 8192) (zip2 difference xs ys)
+IsNear xs ys = Each1 (λ n. n < 32768) (zip2 difference xs ys)

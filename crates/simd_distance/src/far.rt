@@ -1,44 +1,47 @@
 //! Blocks that may differ by anything: their squares take 32 bits each and add up in 64.
 //! No sum wraps, since the distance of any two series stays far below 2^64.
 
-ghost use Rattle.std.specs.Prelude.{◌≡◌, ◌+◌, ◌≤◌, ◌<◌, ◌^◌, length, map, FitsSigned};
+ghost use Rattle.std.specs.Prelude.{◌≡◌, ◌+◌, ◌%◌, ◌≤◌, ◌<◌, ◌^◌, length, map, FitsSigned};
 ghost use Rattle.std.specs.List.{All};
 ghost use Rattle.std.specs.Simd.Lanes.{chunk, sum_l, Each1};
 ghost use mir.Syntax.{w16};
 ghost use Rattle.series_core.specs.Distance.{squared_distance};
 ghost use Rattle.simd_distance.specs.Lanes.{square};
 
-use crate::lanes::{BLOCK, eight_differences};
+use crate::lanes::{LANES, sixteen_differences};
 use std::simd::prelude::*;
 
-/// The squared Euclidean distance of any two blocks, in lanes of 64 bits.
+/// The squared Euclidean distance of any two blocks of whole sixteens, in lanes of 64 bits. It stands by itself, so that the
+/// compiler keeps near blocks in few instructions.
+#[inline(never)]
 pub(crate) fn far_distance(x: &[i16], q: &[i16]) -> u64
-    requires x_block { length x.now ≡ 64 }
-    requires q_block { length q.now ≡ 64 }
+    requires same_length { length x.now ≡ length q.now }
+    requires short { length x.now ≤ 64 }
+    requires sixteens { length x.now % 16 ≡ 0 }
     requires x_fits { All (FitsSigned w16) x.now }
     requires q_fits { All (FitsSigned w16) q.now }
     ensures { result ≡ squared_distance x.now q.now }
 {
-    let mut sums = u64x8::splat(0);
-    for eight in 0..BLOCK / 8 {
-        sums = lanes_added(sums, eight_squares(x, q, 8 * eight));
+    let mut sums = u64x16::splat(0);
+    for sixteen in 0..x.len() / LANES {
+        sums = lanes_added(sums, sixteen_squares(x, q, LANES * sixteen));
     }
     lane_sum(sums)
 }
 
-/// The squared differences of the eight pairs of values from place `at` on, told by their sum.
-fn eight_squares(x: &[i16], q: &[i16], at: usize) -> u64x8
-    requires x_eight { at + 8 ≤ length x.now }
-    requires q_eight { at + 8 ≤ length q.now }
+/// The squared differences of the sixteen pairs of values from place `at` on, told by their sum.
+fn sixteen_squares(x: &[i16], q: &[i16], at: usize) -> u64x16
+    requires x_sixteen { at + 16 ≤ length x.now }
+    requires q_sixteen { at + 16 ≤ length q.now }
     requires x_fits { All (FitsSigned w16) x.now }
     requires q_fits { All (FitsSigned w16) q.now }
-    ensures { sum_l result ≡ squared_distance (chunk at 8 x.now) (chunk at 8 q.now) }
+    ensures { sum_l result ≡ squared_distance (chunk at 16 x.now) (chunk at 16 q.now) }
 {
-    squares(eight_differences(x, q, at))
+    squares(sixteen_differences(x, q, at))
 }
 
-/// The squares of eight numbers below 65536.
-fn squares(numbers: u32x8) -> u64x8
+/// The squares of sixteen numbers below 65536.
+fn squares(numbers: u32x16) -> u64x16
     requires { Each1 (λ n. n < 65536) numbers }
     ensures { result ≡ map square numbers }
 {
@@ -46,7 +49,7 @@ fn squares(numbers: u32x8) -> u64x8
 }
 
 /// The sums of two vectors, lane by lane, told by their sum.
-fn lanes_added(a: u64x8, b: u64x8) -> u64x8
+fn lanes_added(a: u64x16, b: u64x16) -> u64x16
     requires { sum_l a + sum_l b < 2 ^ 64 }
     ensures { sum_l result ≡ sum_l a + sum_l b }
 {
@@ -54,7 +57,7 @@ fn lanes_added(a: u64x8, b: u64x8) -> u64x8
 }
 
 /// The sum of the lanes.
-fn lane_sum(lanes: u64x8) -> u64
+fn lane_sum(lanes: u64x16) -> u64
     requires { sum_l lanes < 2 ^ 64 }
     ensures { result ≡ sum_l lanes }
 {

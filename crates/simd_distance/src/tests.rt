@@ -40,12 +40,14 @@ fn compare(rt: &impl Abort, x: &[i16], q: &[i16], expected: u64) {
 
 #[test]
 fn worked_distances(rt: HostRuntime) -> Result<(), Fail> {
-    let rows: [(usize, i16, i16, u64); 7] = [
+    let rows: [(usize, i16, i16, u64); 9] = [
         (0, 0, 0, 0),
         (1, 3, 0, 9),
         (4, 1, 10, 324),
         (64, 4096, -4095, 4293918784),
         (64, 4096, -4096, 4294967296),
+        (64, 16384, -16383, 68715282496),
+        (64, 16384, -16384, 68719476736),
         (4096, -32768, 32767, 17591649177600),
         (65536, -32768, 32767, 281466386841600),
     ];
@@ -75,7 +77,7 @@ fn compare_extremes(rt: &impl Abort, length: usize)
 
 #[test]
 fn an_extreme_at_each_place(rt: HostRuntime) -> Result<(), Fail> {
-    for length in 0..=70 {
+    for length in 0..=100 {
         compare_extremes(&rt, length);
     }
     for length in 4095..=4097 {
@@ -102,7 +104,7 @@ fn scattered_values(rt: HostRuntime) -> Result<(), Fail> {
     let x = scattered(7);
     let q = scattered(8);
     for length in 0..LONGEST + 1 {
-        if length <= 70 || length >= 4095 {
+        if length <= 130 || length >= 4095 {
             let plain = distance(&x[..length], &q[..length]);
             compare(&rt, &x[..length], &q[..length], plain);
         }

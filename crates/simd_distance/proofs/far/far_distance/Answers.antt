@@ -8,22 +8,22 @@ pub lanes_added-sums-requires : goal.lanes_added-sums-requires
 lanes_added-sums-requires c =
     let x = c.args.x.now in
     let q = c.args.q.now in
-    let i = c.loop-eight.eight in
-    let step = distance_from_part x q (8 * i) 8 (8 * (i + 1)) (omega arith) (omega arith)
+    let i = c.loop-sixteen.sixteen in
+    let step = distance_from_part x q (16 * i) 16 (16 * (i + 1)) (omega arith) (omega arith)
     (omega arith) in
     let whole = distance_each x q c.requires.x_fits c.requires.q_fits in
-    omega (arith, c.loop-eight.invariant, c.eight_squares.ensures)
+    omega (arith, c.loop-sixteen.invariant, c.sixteen_squares.ensures)
 
-pub loop-eight-preserved : goal.loop-eight-preserved
-loop-eight-preserved c =
+pub loop-sixteen-preserved : goal.loop-sixteen-preserved
+loop-sixteen-preserved c =
     let x = c.args.x.now in
     let q = c.args.q.now in
-    let i = c.loop-eight.eight in
-    let step = distance_from_part x q (8 * i) 8 (8 * (i + 1)) (omega arith) (omega arith)
+    let i = c.loop-sixteen.sixteen in
+    let step = distance_from_part x q (16 * i) 16 (16 * (i + 1)) (omega arith) (omega arith)
     (omega arith) in
-    omega (arith, c.loop-eight.invariant, c.eight_squares.ensures, c.lanes_added-sums.ensures)
+    omega (arith, c.loop-sixteen.invariant, c.sixteen_squares.ensures, c.lanes_added-sums.ensures)
 
 pub lane_sum-requires : goal.lane_sum-requires
 lane_sum-requires c =
     let whole = distance_each c.args.x.now c.args.q.now c.requires.x_fits c.requires.q_fits in
-    omega (arith, c.loop-eight.invariant)
+    omega (arith, c.loop-sixteen.invariant)

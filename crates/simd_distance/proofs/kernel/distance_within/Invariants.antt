@@ -5,5 +5,5 @@ use Rattle.simd_distance.proofs.kernel.distance_within.Given as goal
 
 abbrev pub invariant-loop-block : goal.invariant-loop-block
 invariant-loop-block l =
-    l.sum + squared_distance (drop (l.block * 64) l.x) (drop (l.block * 64) l.q)
+    l.sum + squared_distance (drop (32 + l.block * 64) l.x) (drop (32 + l.block * 64) l.q)
     ≡ squared_distance l.x l.q

@@ -8,10 +8,10 @@ use Rattle.simd_distance.proofs.Differences.{masked_are_plain, widened_are, with
 use Rattle.simd_distance.proofs.lanes.widened.Goals as goal
 
 pub overflow_cast-result-2 : goal.overflow_cast-result-2
-overflow_cast-result-2 c = masked_are_plain (map with_sign (bits_of c.args.bits)) 8
+overflow_cast-result-2 c = masked_are_plain (map with_sign (bits_of c.args.bits)) 16
 
 pub returns : goal.returns
 returns c =
-    let long : length (bits_of c.args.bits) ≡ 8 = length-map c.args.bits (of_z w16) ∙
+    let long : length (bits_of c.args.bits) ≡ 16 = length-map c.args.bits (of_z w16) ∙
     c.requires.lanes in
-    widened_are (bits_of c.args.bits) 8 long c.requires.small
+    widened_are (bits_of c.args.bits) 16 long c.requires.small

@@ -1,10 +1,10 @@
 -- No lane of the sums wraps, since all of them together do not.
-use Rattle.std.proofs.Common.{◌∙◌, sym, w32}
+use Rattle.std.proofs.Common.{◌∙◌, sym, w64}
 use Rattle.std.proofs.lemmas.Simd.{adds_fit, sum-zip2}
-use Rattle.simd_distance.proofs.near.near_lanes_added.Goals as goal
+use Rattle.simd_distance.proofs.near.sums_added.Goals as goal
 
 pub overflow_add-result : goal.overflow_add-result
-overflow_add-result c = adds_fit w32 c.args.a c.args.b c.requires
+overflow_add-result c = adds_fit w64 c.args.a c.args.b c.requires
 
 pub returns : goal.returns
 returns c = sum-zip2 c.args.a c.args.b (c.fits-a.0 ∙ sym c.fits-b.0)
