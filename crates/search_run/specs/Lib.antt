@@ -11,8 +11,8 @@ pub mod Certificates
 pub mod Nearests
 pub mod Plans
 pub mod Windows
-pub mod LongSearches
 pub mod Finding
+pub mod Batches
 pub mod Commands
 pub mod Pairs
 pub mod Ends

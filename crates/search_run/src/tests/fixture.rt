@@ -4,6 +4,7 @@ use crate::{Status, run};
 use outside::{Gate, MemFiles, MemSink, NoGate, NoMemory};
 use std::alloc::Global;
 use std::process::Abort;
+use std::sync::Wait;
 use std::sync::atomic::{AtomicU64, Ordering};
 use std::test::Fail;
 use std::thread::Threads;
@@ -190,7 +191,7 @@ pub fn files_of(
 }
 
 /// Runs the words of a line over the files of the tables and a certificate `C`, with this outside and gate.
-pub fn run_line<T: Threads + Sync, G: Gate + Sync>(
+pub fn run_line<T: Threads + Wait + Sync, G: Gate + Sync>(
     rt: &T,
     alloc: Global,
     line: &str,
@@ -208,7 +209,7 @@ pub fn run_line<T: Threads + Sync, G: Gate + Sync>(
 }
 
 /// Runs each row in pieces of so many bytes, and compares how it ends.
-pub fn end_as_they_should<H: Threads + Abort + Sync>(
+pub fn end_as_they_should<H: Threads + Wait + Abort + Sync>(
     rt: &H,
     alloc: Global,
     rows: &[Row],
