@@ -19,3 +19,4 @@ pub mod Certifying
 pub mod Nearests
 pub mod CertifiedTexts
 pub mod Verified
+pub mod Certifies
