@@ -1,5 +1,6 @@
 pub mod StatusLines
 pub mod Lines
+pub mod DiscordLines
 pub mod Pieces
 pub mod Short
 pub mod Summing

@@ -19,6 +19,7 @@ ghost use Rattle.search_run.specs.declared.status.Status.{Status};
 ghost use Rattle.search_run.specs.declared.status.Which.{Which};
 
 use crate::commands::convert::answer_convert;
+use crate::commands::discord::answer_discord;
 use crate::commands::nearest::answer_nearest;
 use crate::commands::range::answer_range;
 use crate::commands::trial::answer_trial;
@@ -208,6 +209,7 @@ fn answer<T: Threads + Sync, F: Files, S: Sink, G: Gate + Sync>(
             step,
             options,
         } => answer_windows(crew, series, queries, *step, options, files, out),
+        Command::Discord { series, options } => answer_discord(crew, series, options, files, out),
         _ => Err(Status::Usage),
     }
 }
