@@ -19,7 +19,7 @@ use std::thread::Threads;
 const SHARE: u32 = 32;
 
 /// From how many values of all series on a query is long enough for a team.
-const LONG: u64 = 100_000_000;
+const LONG: u64 = 1_000_000_000;
 
 /// Queries, what they are asked of, and how.
 #[derive(Drop)]

@@ -16,7 +16,8 @@ pub fn is_served(command: &Command) -> bool
         | Command::Verify { .. }
         | Command::Trial { .. }
         | Command::Convert { .. }
-        | Command::Windows { .. } => true,
+        | Command::Windows { .. }
+        | Command::Discord { .. } => true,
         _ => false,
     }
 }

@@ -15,11 +15,13 @@ ghost use Rattle.search_run.specs.Ends.{NoCommand, TellsCause, TellsFault, ended
 ghost use Rattle.search_run.specs.Plans.{HasFault};
 ghost use Rattle.search_run.specs.Status.{fault_line};
 ghost use Rattle.search_run.specs.Told.{Tells};
+ghost use Rattle.search_run.specs.Verified.{Certifies};
 ghost use Rattle.search_run.specs.declared.status.CertFault.{CertFault};
 ghost use Rattle.search_run.specs.declared.status.Status.{Status};
 ghost use Rattle.search_run.specs.declared.status.Which.{Which};
 
 use crate::commands::convert::answer_convert;
+use crate::commands::discord::answer_discord;
 use crate::commands::nearest::answer_nearest;
 use crate::commands::range::answer_range;
 use crate::commands::trial::answer_trial;
@@ -65,6 +67,9 @@ pub fn run<T: Threads + Wait + Sync, F: Files, S: Sink, E: Sink, G: Gate + Sync>
         → (fault : CertFault) → HasFault (F.held files.old) (plan_of command) fault
         → TellsFault (F.faults files.old) (F.faults files.new) fault result }
     ensures cause { TellsCause result }
+    // What `nearest` wrote with certificates is a certificate that holds.
+    ensures certifies { (command : Command) → Asks (map string_bytes words.now) command
+        → Certifies (F.held files.old) command (wrote_to S.written S.faults S.sure out.old out.new) result }
     ensures told { Tells (fault_line result) (E.written err.old) (E.written err.new) (E.faults err.old) (E.faults err.new) }
     ensures kept { F.held files.new ≡ F.held files.old }
     ensures reliable { F.reliable files.old → (w : Which) → result ≢ Status.ReadFault w }
@@ -109,6 +114,8 @@ pub fn run_free<T: Threads + Sync, F: Files, S: Sink, E: Sink, G: Gate + Sync>(
         → (fault : CertFault) → HasFault (F.held files.old) (plan_of command.now) fault
         → TellsFault (F.faults files.old) (F.faults files.new) fault result }
     ensures cause { TellsCause result }
+    ensures certifies { Certifies (F.held files.old) command.now
+        (wrote_to S.written S.faults S.sure out.old out.new) result }
     ensures told { Tells (fault_line result) (E.written err.old) (E.written err.new) (E.faults err.old) (E.faults err.new) }
     ensures kept { F.held files.new ≡ F.held files.old }
     ensures reliable { F.reliable files.old → (w : Which) → result ≢ Status.ReadFault w }
@@ -325,6 +332,7 @@ fn answer<
             step,
             options,
         } => answer_windows(crew, windows, series, queries, *step, options, files, out),
+        Command::Discord { series, options } => answer_discord(crew, series, options, files, out),
         _ => Err(Status::Usage),
     }
 }

@@ -80,12 +80,12 @@ fn ended<T: Threads + Wait + Sync>(
 // A change of a text.
 #[derive(Clone, Copy, Debug)]
 enum Change {
-    // The first bound has another first digit.
+    // The first bound is ten times as great.
     Bound,
     // The last answer of the first query is left out.
     Answer,
-    // The first leaf line has the number of the second.
-    Leaf,
+    // The first two leaf lines are exchanged.
+    Leaves,
 }
 
 // Where a piece stands in a text first.
@@ -100,18 +100,45 @@ fn place_of(text: &[u8], piece: &[u8]) -> Option<usize>
     None
 }
 
-// Another byte at a place behind the first of these pieces; whether the piece is there.
-fn put_behind(text: &mut [u8], piece: &[u8], byte: u8) -> bool {
-    let Some(place) = place_of(text, piece) else {
-        return false;
+// The text with a 0 behind the digits of its first bound.
+fn with_bound_raised(alloc: Global, text: &[u8]) -> Result<Option<Vec<u8>>, AllocError> {
+    let Some(place) = place_of(text, b" bound ") else {
+        return Ok(None);
     };
-    match text.get_mut(place.wrapping_add(piece.len())) {
-        Some(here) => {
-            *here = if *here == byte { b'1' } else { byte };
-            true
+    let (front, lines) = text.split_at(place);
+    let mut raised = Vec::from_slice(alloc, front)?;
+    for (i, line) in lines.split_inclusive(|byte| *byte == b'\n').enumerate() {
+        match line.strip_suffix(b"\n") {
+            Some(bound) if i == 0 => {
+                raised.extend_from_slice(bound)?;
+                raised.extend_from_slice(b"0\n")?;
+            }
+            _ => raised.extend_from_slice(line)?,
         }
-        None => false,
     }
+    Ok(Some(raised))
+}
+
+// The text with the first two leaf lines exchanged, where there are two.
+fn with_leaves_exchanged(alloc: Global, text: &[u8]) -> Result<Option<Vec<u8>>, AllocError> {
+    let Some(place) = place_of(text, b"leaf 0 ") else {
+        return Ok(None);
+    };
+    let (front, lines) = text.split_at(place);
+    let mut exchanged = Vec::from_slice(alloc, front)?;
+    let mut held: &[u8] = b"";
+    let mut there = false;
+    for (i, line) in lines.split_inclusive(|byte| *byte == b'\n').enumerate() {
+        if i == 0 {
+            held = line;
+            continue;
+        }
+        exchanged.extend_from_slice(line)?;
+        exchanged.extend_from_slice(held)?;
+        held = b"";
+        there |= line.starts_with(b"leaf 1 ");
+    }
+    Ok(if there { Some(exchanged) } else { None })
 }
 
 // The text without the line before its first start; None where that is the line of the query.
@@ -134,21 +161,21 @@ fn without_last_answer(alloc: Global, text: &[u8]) -> Result<Option<Vec<u8>>, Al
 
 // The text with this change, where it has what is changed.
 fn changed(alloc: Global, change: Change, text: &[u8]) -> Result<Option<Vec<u8>>, AllocError> {
-    let mut copy = Vec::from_slice(alloc, text)?;
-    let there = match change {
-        Change::Answer => return without_last_answer(alloc, text),
-        Change::Bound => put_behind(&mut copy, b" bound ", b'9'),
-        Change::Leaf => put_behind(&mut copy, b"\nleaf ", b'1'),
-    };
-    Ok(if there { Some(copy) } else { None })
+    match change {
+        Change::Bound => with_bound_raised(alloc, text),
+        Change::Answer => without_last_answer(alloc, text),
+        Change::Leaves => with_leaves_exchanged(alloc, text),
+    }
 }
 
-// Whether the status tells the change: the bound is not the real one, an answer is missing, a line is not in its place.
+// Whether the status tells the change: the bound is above the real one, an answer is missing, a line is not in its place.
 fn is_told(change: Change, status: Status) -> bool {
     match (change, status) {
-        (Change::Bound, Status::Invalid(CertFault::Rejected(Reject::Bound(_, _, _, _)))) => true,
+        (Change::Bound, Status::Invalid(CertFault::Rejected(Reject::Bound(_, _, said, real)))) => {
+            said > real
+        }
         (Change::Answer, Status::Invalid(CertFault::Rejected(Reject::Answers(_, _)))) => true,
-        (Change::Leaf, Status::Invalid(CertFault::Line(_))) => true,
+        (Change::Leaves, Status::Invalid(CertFault::Line(_))) => true,
         _ => false,
     }
 }
@@ -167,7 +194,7 @@ fn drawn_certificates(rt: HostRuntime) -> Result<(), Fail> {
         let (status, said) = ended(&rt, alloc, &mut files, &check)?;
         assert_eq!(rt; status, Status::Done, "{line}");
         assert_eq!(rt; said.written(), b"valid\n".as_slice(), "{line}");
-        for change in [Change::Bound, Change::Answer, Change::Leaf] {
+        for change in [Change::Bound, Change::Answer, Change::Leaves] {
             if let Some(text) = changed(alloc, change, out.written())? {
                 files.hold("C", &text)?;
                 let (status, _said) = ended(&rt, alloc, &mut files, &check)?;
@@ -179,7 +206,7 @@ fn drawn_certificates(rt: HostRuntime) -> Result<(), Fail> {
             }
         }
     }
-    assert_eq!(rt; changes, 22, "answers and leaf lines were changed");
+    assert_eq!(rt; changes, 21, "answers and leaf lines were changed");
     Ok(())
 }
 

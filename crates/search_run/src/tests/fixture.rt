@@ -81,11 +81,12 @@ fn hold_long(alloc: Global, files: &mut MemFiles) -> Result<(), NoMemory> {
 }
 
 /// Holds files without a header: a few values, a longer series, and an odd number of bytes; and queries for windows of the
-/// longer series.
+/// longer series; three points.
 fn hold_raw(alloc: Global, files: &mut MemFiles) -> Result<(), NoMemory> {
     files.hold("long", b"\0\0\0\0\x0a\0\x0a\0\0\0")?;
     files.hold("ones", &spelled(alloc, 2, 1, &[1; 2])?)?;
     files.hold("wide", &spelled(alloc, 6, 1, &[1; 6])?)?;
+    files.hold("steps", b"\0\0\x05\0\x0a\0")?;
     files.hold("raw", b"\x01\0\x01\0\x01\0\x01\0")?;
     files.hold("seven", b"\x01\0\x01\0\x01\0\x01")?;
     files.hold("empty", b"")

@@ -1,8 +1,11 @@
+use Rattle.std.specs.Prelude.{map, string_bytes}
 use Rattle.std.proofs.Common.{subst, sym}
 use Rattle.search_run.specs.Commands.{CanAnswer, plan_of}
 use Rattle.search_run.specs.Ends.{Finishes, IsFaultless}
 use Rattle.search_run.specs.Plans.{HasFault}
 use Rattle.search_run.specs.Traffic.{read_from, wrote_to}
+use Rattle.search_run.specs.Verified.{Certifies}
+use Rattle.search_run.proofs.Certifies.{answers_certify, none_done, only_done}
 use Rattle.search_run.proofs.Concluding.{answer_ends, answers_cause, answers_exactly, answers_faultless, answers_finish, answers_not_usage}
 use Rattle.search_run.proofs.stages.run.Goals as goal
 
@@ -51,3 +54,18 @@ returns-in-Ok-clause-cause g c =
     c.answer_either.new.files in
     let writing = wrote_to g.S.Sink.written g.S.Sink.faults g.S.Sink.sure c.args.out.now c.answer_either.new.out in
     answers_cause reading writing c.in-Ok.command c.answer_either.result c.answer_either.ensures.answers
+
+pub returns-in-Ok-clause-certifies : goal.returns-in-Ok-clause-certifies
+returns-in-Ok-clause-certifies g c command asks =
+    let reading = read_from g.F.Files.held g.F.Files.faults g.F.Files.misses g.F.Files.blamed c.args.files.now
+    c.answer_either.new.files in
+    let writing = wrote_to g.S.Sink.written g.S.Sink.faults g.S.Sink.sure c.args.out.now c.answer_either.new.out in
+    subst (λ asked. Certifies reading.held asked writing c.answer_either.result) (c.in-Ok.ensures.same command asks)
+    (answers_certify reading writing c.in-Ok.command c.answer_either.result c.in-Ok.ensures.limits
+    c.answer_either.ensures.answers)
+
+pub returns-in-Err-clause-certifies : goal.returns-in-Err-clause-certifies
+returns-in-Err-clause-certifies g c command asks =
+    only_done (g.F.Files.held c.args.files.now) command
+    (wrote_to g.S.Sink.written g.S.Sink.faults g.S.Sink.sure c.args.out.now c.args.out.now) c.in-Err.status
+    (none_done (map string_bytes c.args.words.now) c.in-Err.status c.in-Err.ensures.refused)

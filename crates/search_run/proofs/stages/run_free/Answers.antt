@@ -1,4 +1,5 @@
 use Rattle.search_run.specs.Traffic.{read_from, wrote_to}
+use Rattle.search_run.proofs.Certifies.{answers_certify}
 use Rattle.search_run.proofs.Concluding.{answers_cause, answers_exactly, answers_faultless, answers_finish, answers_not_usage}
 use Rattle.search_run.proofs.stages.run_free.Goals as goal
 
@@ -36,3 +37,11 @@ returns-clause-cause g c =
     c.answer_sealed.new.files in
     let writing = wrote_to g.S.Sink.written g.S.Sink.faults g.S.Sink.sure c.args.out.now c.answer_sealed.new.out in
     answers_cause reading writing c.args.command.now c.answer_sealed.result c.answer_sealed.ensures.answers
+
+pub returns-clause-certifies : goal.returns-clause-certifies
+returns-clause-certifies g c =
+    let reading = read_from g.F.Files.held g.F.Files.faults g.F.Files.misses g.F.Files.blamed c.args.files.now
+    c.answer_sealed.new.files in
+    let writing = wrote_to g.S.Sink.written g.S.Sink.faults g.S.Sink.sure c.args.out.now c.answer_sealed.new.out in
+    answers_certify reading writing c.args.command.now c.answer_sealed.result c.requires.limits
+    c.answer_sealed.ensures.answers
