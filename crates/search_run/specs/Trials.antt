@@ -1,5 +1,5 @@
 -- A trial: a search over random walks that are all made from one number, and the four lines that sum it up.
-use Rattle.std.specs.Prelude.{◌≡◌, ℕ, ◌*◌, ◌≤◌, ℤ, List, [], ◌∷◌, ◌++◌, codes, decimal, length, map}
+use Rattle.std.specs.Prelude.{ℕ, ◌*◌, ◌≤◌, ℤ, List, [], ◌∷◌, ◌++◌, codes, decimal, length, map}
 use Rattle.list_totals.specs.Totals.{total}
 use Rattle.series_core.specs.Answer.{answer}
 use Rattle.series_core.specs.Collection.{Collection}

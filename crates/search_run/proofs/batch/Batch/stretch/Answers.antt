@@ -1,4 +1,4 @@
-use Rattle.std.proofs.Common.{◌+◌, ◌<◌, All, length, subst, sym, arith}
+use Rattle.std.proofs.Common.{All, subst, sym, arith}
 use Rattle.std.proofs.lemmas.List.Elements.{All-push}
 use Rattle.search_run.specs.Batches.{HasQuery}
 use Rattle.search_run.proofs.batch.Batch.stretch.Goals as goal

@@ -1,4 +1,4 @@
-use Rattle.std.proofs.Common.{rules, ◌≡◌, ◌+◌, ◌<◌, ◌≤◌, [], ◌++◌, length, get_or, arith, sym, refl, ap, ◌∙◌, List, ℕ}
+use Rattle.std.proofs.Common.{rules, ◌+◌, ◌<◌, ◌≤◌, [], ◌++◌, length, get_or, arith, refl, ap, ◌∙◌, List}
 use Rattle.std.proofs.lemmas.Result.{err_from_is_err_and}
 use Rattle.outside.specs.Count.{Rose-wider}
 use Rattle.series_core.specs.declared.pair.Pair.{Pair}

@@ -1,4 +1,4 @@
-use Rattle.std.proofs.Common.{◌<◌, ◌≤◌, ◌∙◌, List, [], length, get_or, arith, ap}
+use Rattle.std.proofs.Common.{◌<◌, ◌∙◌, List, [], length, get_or, arith, ap}
 use Rattle.series_core.specs.Answer.{answer}
 use Rattle.series_core.specs.declared.pair.Pair.{Pair}
 use Rattle.search_run.proofs.Short.{answer_short}
