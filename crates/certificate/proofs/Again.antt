@@ -1,10 +1,11 @@
 -- Fields that are spelled are read again, whatever follows them but a digit.
-use Rattle.std.proofs.Common.{◌≡◌, ℕ, zero, suc, ◌-◌, ◌^◌, ◌<◌, ◌≤◌, List, [], ◌∷◌, ◌++◌, length, true, false, cond, Some, None, refl, sym, ap, ◌∙◌, append_assoc, length-append, ⊎_elim, arith}
-use Rattle.std.specs.Prelude.{decimal, codes, ◌==◌}
+use Rattle.std.proofs.Common.{◌≡◌, ℕ, zero, suc, ◌+◌, ◌-◌, ◌^◌, ◌<◌, ◌≤◌, List, [], ◌∷◌, ◌++◌, length, take, drop, get_or, true, false, cond, Some, None, refl, sym, ap, ◌∙◌, append_assoc, length-append, ⊎_elim, arith}
+use Rattle.std.specs.Prelude.{Bool, decimal, codes, not, ◌==◌}
 use Rattle.std.specs.List.{list_all, AllByRecursion}
 use Rattle.std.specs.Char.{is_ascii_digit}
 use Rattle.std.proofs.lemmas.Bool.{cases_Bool, and_parts, cond-true, cond-false, eqb-true, eqb-false, ne_eqb, cases_lt}
-use Rattle.std.proofs.lemmas.Fmt.{digits_decimal, decimal_nonempty}
+use Rattle.std.proofs.lemmas.Fmt.{decimal_digit, digits_decimal, decimal_nonempty}
+use Rattle.std.proofs.lemmas.List.{take_all}
 use Rattle.std.proofs.lemmas.List.Elements.{recursion_from_All}
 use Rattle.std.proofs.Math.Pow.{pow_mono}
 use Rattle.isax_word.specs.declared.word.Part.{Part}
@@ -15,7 +16,7 @@ use Rattle.certificate.specs.declared.block.Said.{Said}
 use Rattle.certificate.specs.declared.block.Said.TheVariants.{Scanned, Bound}
 use Rattle.certificate.specs.Spelling.{entries_text, part_text, parts_text, word_text, said_text, limit_text}
 use Rattle.certificate.specs.Grammar.{IsEntry, IsSaid}
-use Rattle.certificate.specs.Fields.{◌>>=◌, after, behind, with_front, entry_at, entries_at, part_at, parts_at, all_parts_at, is_part, word_at, said_at, limit_by, limit_at, labels_at}
+use Rattle.certificate.specs.Fields.{◌>>=◌, after, behind, stops, with_front, entry_at, entries_at, part_at, parts_at, all_parts_at, is_part, word_at, said_at, limit_by, limit_at, labels_at}
 use Rattle.certificate.proofs.NumberTexts.{Stops, own, number_again}
 use Rattle.certificate.proofs.Digits.{digit_range}
 use Rattle.certificate.proofs.WordTests.{passes_word}
@@ -98,6 +99,45 @@ part_again p rest part stops =
     ap part_at (append_assoc (decimal p.prefix) (58 ∷ decimal p.bits) rest)
     ∙ rw (number_again 255 p.prefix (58 ∷ (decimal p.bits ++ rest)) (omega arith) fits.0 refl)
     (rw (number_again 255 p.bits rest (omega arith) fits.1 stops) refl)
+
+-- a part whose numbers have one digit each
+pub short_part : (prefix bits : ℕ) (rest : List ℕ) → is_ascii_digit prefix ≡ true → is_ascii_digit bits ≡ true → Stops rest
+    → part_at (prefix ∷ 58 ∷ bits ∷ rest) ≡ Some (record { prefix = prefix - 48; bits = bits - 48 }, rest)
+unfolding part_at
+short_part prefix bits rest first second stops =
+    let low = digit_range prefix first in
+    let high = digit_range bits second in
+    let one : 48 + (prefix - 48) ≡ prefix = omega arith in
+    let two : 48 + (bits - 48) ≡ bits = omega arith in
+    ap (λ n. part_at (n ∷ 58 ∷ bits ∷ rest)) (sym one)
+    ∙ ap (λ n. part_at ((48 + (prefix - 48)) ∷ 58 ∷ n ∷ rest)) (sym two)
+    ∙ ap (λ (t : List ℕ). part_at (t ++ 58 ∷ (48 + (bits - 48)) ∷ rest)) (sym (decimal_digit (prefix - 48) (omega arith)))
+    ∙ ap (λ (t : List ℕ). part_at (decimal (prefix - 48) ++ 58 ∷ (t ++ rest))) (sym (decimal_digit (bits - 48) (omega arith)))
+    ∙ rw (number_again 255 (prefix - 48) (58 ∷ (decimal (bits - 48) ++ rest)) (omega arith) (omega arith) refl)
+    (rw (number_again 255 (bits - 48) rest (omega arith) (omega arith) stops) refl)
+
+-- where the test says that no digit stands at the front, none does
+pub tested_stop : (text : List ℕ) → stops text ≡ true → Stops text
+tested_stop [] e = tt
+tested_stop (c ∷ text) e = not_true (is_ascii_digit c) e
+  where
+    not_true : (b : Bool) → not b ≡ true → b ≡ false
+    not_true true e = absurd cc
+    not_true false e = refl
+
+-- the same by the places of the text
+pub short_part_read : (text : List ℕ) → 3 ≤ length text → get_or text 1 0 ≡ 58 → is_ascii_digit (get_or text 0 0) ≡ true
+    → is_ascii_digit (get_or text 2 0) ≡ true → stops (take (length text - 3) (drop 3 text)) ≡ true
+    → part_at text ≡ Some (record { prefix = get_or text 0 0 - 48; bits = get_or text 2 0 - 48 }, take (length text - 3) (drop 3 text))
+short_part_read [] long colon first second stop = absurd (omega arith)
+short_part_read (p ∷ []) long colon first second stop = absurd (omega arith)
+short_part_read (p ∷ c ∷ []) long colon first second stop = absurd (omega arith)
+short_part_read (p ∷ c ∷ b ∷ rest) long colon first second stop =
+    let size : ℕ = length (p ∷ c ∷ b ∷ rest) - 3 in
+    let all : take size rest ≡ rest = take_all size rest (omega arith) in
+    ap (λ n. part_at (p ∷ n ∷ b ∷ rest)) colon
+    ∙ short_part p b rest first second (tested_stop rest (ap stops (sym all) ∙ stop))
+    ∙ ap (λ (t : List ℕ). Some (record { prefix = p - 48; bits = b - 48 }, t)) (sym all)
 
 -- no digit stands where further parts begin, or what follows them
 parts_stop : (ps : List Part) (rest : List ℕ) → Stops rest → Stops (parts_text ps ++ rest)

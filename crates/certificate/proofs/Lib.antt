@@ -5,6 +5,7 @@ pub mod Fronts
 pub mod Seen
 pub mod Numbers
 pub mod SmallNumbers
+pub mod PartTexts
 pub mod PrintedText
 pub mod Certified
 pub mod Many
@@ -26,6 +27,7 @@ pub mod FileLines
 pub mod Walks
 pub mod Fitting
 pub mod Distances
+pub mod Missed
 pub mod Wanted
 pub mod Told
 pub mod Rising

@@ -1,8 +1,9 @@
 -- Texts that are printed item by item: one more item makes the longer text.
-use Rattle.std.proofs.Common.{◌≡◌, ℕ, zero, suc, ◌+◌, ◌<◌, ◌≤◌, List, [], ◌∷◌, ◌++◌, length, take, get_or, refl, sym, ap, ◌∙◌, arith, append_assoc, append-nil}
-use Rattle.std.specs.Prelude.{decimal}
+use Rattle.std.proofs.Common.{◌≡◌, ℕ, zero, suc, ◌+◌, ◌<◌, ◌≤◌, List, [], ◌∷◌, ◌++◌, length, take, drop, get_or, refl, sym, ap, ◌∙◌, subst, arith, append_assoc, append-nil, drop-cons, Some}
+use Rattle.std.specs.Prelude.{decimal, slice_get}
 use Rattle.std.specs.List.{concat}
 use Rattle.std.proofs.lemmas.List.{take_more, length-take-le, length-map}
+use Rattle.std.proofs.lemmas.Option.{slice_get_read}
 use Rattle.isax_word.specs.declared.word.Part.{Part}
 use Rattle.series_core.specs.declared.queue_words.Entry.{Entry}
 use Rattle.subtree_build.specs.declared.leaf.TreeLeaf.{TreeLeaf}
@@ -10,53 +11,27 @@ use Rattle.search_machine.specs.declared.outcome.Fate.{Fate}
 use Rattle.search_machine.specs.declared.outcome.QueueLine.{QueueLine}
 use Rattle.certificate.specs.declared.block.LeafLine.{LeafLine}
 use Rattle.certificate.specs.Spelling.{entries_text, leaf_line, leaf_lines, part_text, parts_text, queue_line, queue_lines, word_text}
-use Rattle.certificate.specs.Printed.{entries_taken, leaves_said, said_of}
+use Rattle.certificate.specs.Printed.{entries_taken, leaf_said, leaves_said}
 use Rattle.certificate.proofs.LineLists.{leaves_more, queues_more}
 
--- one more part
-parts_text-more : (ps : List Part) (p : Part) → parts_text (ps ++ p ∷ []) ≡ parts_text ps ++ 44 ∷ part_text p
-parts_text-more [] p = ap (λ (t : List ℕ). 44 ∷ t) (append-nil (part_text p))
-parts_text-more (q ∷ ps) p =
-    ap (λ (t : List ℕ). 44 ∷ (part_text q ++ t)) (parts_text-more ps p)
-    ∙ ap (λ (t : List ℕ). 44 ∷ t) (sym (append_assoc (part_text q) (parts_text ps) (44 ∷ part_text p)))
+-- a part put in front of further parts
+pub parts_step : (old before next : List ℕ) (word : List Part) (j m : ℕ) (d : Part) → j < length word → m ≡ j + 1
+    → before ≡ parts_text (drop m word) ++ old → next ≡ 44 ∷ (part_text (get_or word j d) ++ before)
+    → next ≡ parts_text (drop j word) ++ old
+parts_step old before next word j m d low after was grown =
+    let part : Part = get_or word j d in
+    let here : suc j ≡ j + 1 = omega arith in
+    grown ∙ ap (λ (t : List ℕ). 44 ∷ (part_text part ++ t)) (was ∙ ap (λ n. parts_text (drop n word) ++ old) (after ∙ sym here))
+    ∙ ap (λ (t : List ℕ). 44 ∷ t) (sym (append_assoc (part_text part) (parts_text (drop (suc j) word)) old))
+    ∙ ap (λ (ps : List Part). parts_text ps ++ old) (sym (drop-cons word j d low))
 
--- the first part of a word, and one more behind some
-first_part : (p : Part) → word_text (p ∷ []) ≡ part_text p
-first_part p = append-nil (part_text p)
-
-later_part : (q : Part) (ps : List Part) (p : Part) → word_text ((q ∷ ps) ++ p ∷ []) ≡ word_text (q ∷ ps) ++ 44 ∷ part_text p
-later_part q ps p =
-    ap (λ (t : List ℕ). part_text q ++ t) (parts_text-more ps p)
-    ∙ sym (append_assoc (part_text q) (parts_text ps) (44 ∷ part_text p))
-
--- the first part of a word is printed alone
-pub first_step : (old line : List ℕ) (word : List Part) (d : Part) → 0 < length word
-    → line ≡ old ++ part_text (get_or word 0 d) → line ≡ old ++ word_text (take 1 word)
-first_step old line word d some first =
-    first ∙ ap (λ (t : List ℕ). old ++ t) (sym (ap word_text (take_more word 0 d some) ∙ first_part (get_or word 0 d)))
-
--- one turn of the loop over the later parts
-pub later_step : (old line comma next : List ℕ) (word : List Part) (j : ℕ) (d : Part) → 0 < j → j < length word
-    → line ≡ old ++ word_text (take j word) → comma ≡ line ++ 44 ∷ [] → next ≡ comma ++ part_text (get_or word j d)
-    → next ≡ old ++ word_text (take (j + 1) word)
-later_step old line comma next word j d some low before then_comma then_part = by_front (take j word) refl
-  where
-    part : Part
-    part = get_or word j d
-
-    by_front : (front : List Part) → take j word ≡ front → next ≡ old ++ word_text (take (j + 1) word)
-    by_front [] e =
-        let size = length-take-le j word (omega arith) in
-        let none : length (take j word) ≡ 0 = ap length e in absurd (omega arith)
-    by_front (q ∷ ps) e =
-        then_part ∙ ap (λ (t : List ℕ). t ++ part_text part) (then_comma ∙ ap (λ (t : List ℕ). t ++ 44 ∷ []) before)
-        ∙ append_assoc (old ++ word_text (take j word)) (44 ∷ []) (part_text part)
-        ∙ append_assoc old (word_text (take j word)) (44 ∷ part_text part)
-        ∙ ap (λ (t : List ℕ). old ++ t)
-        (ap (λ (front : List Part). word_text front ++ 44 ∷ part_text part) e
-        ∙ sym (later_part q ps part)
-        ∙ sym (ap (λ (front : List Part). word_text (front ++ part ∷ [])) e)
-        ∙ sym (ap word_text (take_more word j d low)))
+-- all parts of a word without the first comma are the word
+pub parts_word : (old before : List ℕ) (word : List Part) (m : ℕ) → m ≡ 0 → 0 < length word
+    → before ≡ parts_text (drop m word) ++ old → (0 < length before) × (drop 1 before ≡ word_text word ++ old)
+parts_word old before [] m none some was = absurd (omega arith)
+parts_word old before (p ∷ ps) m none some was =
+    let all : before ≡ parts_text (p ∷ ps) ++ old = was ∙ ap (λ n. parts_text (drop n (p ∷ ps)) ++ old) none in
+    (subst (λ (t : List ℕ). 0 < length t) (sym all) (omega arith), ap (λ (t : List ℕ). drop 1 t) all)
 
 -- the entries of two lists
 entries_text-append : (es ds : List Entry) → entries_text (es ++ ds) ≡ entries_text es ++ entries_text ds
@@ -113,14 +88,14 @@ queues_step old text next lines m d low =
 -- one more leaf, where there are as many fates as leaves
 said-more : (leaves : List TreeLeaf) (fates : List Fate) (x : TreeLeaf) (f : Fate) (l : ℕ) → length fates ≡ l
     → get_or leaves l x ≡ x → l < length leaves
-    → leaves_said leaves (fates ++ f ∷ []) ≡ leaves_said leaves fates ++ record { word = x.word; said = said_of f } ∷ []
+    → leaves_said leaves (fates ++ f ∷ []) ≡ leaves_said leaves fates ++ leaf_said x f ∷ []
 said-more [] fates x f l size at low = absurd (omega arith)
 said-more (y ∷ leaves) [] x f zero size at low =
-    ap (λ (z : TreeLeaf). record { word = z.word; said = said_of f } ∷ []) at
+    ap (λ (z : TreeLeaf). leaf_said z f ∷ []) at
 said-more (y ∷ leaves) [] x f (suc l) size at low = absurd (omega arith)
 said-more (y ∷ leaves) (g ∷ fates) x f zero size at low = absurd (omega arith)
 said-more (y ∷ leaves) (g ∷ fates) x f (suc l) size at low =
-    ap (λ (ls : List LeafLine). record { word = y.word; said = said_of g } ∷ ls)
+    ap (λ (ls : List LeafLine). leaf_said y g ∷ ls)
     (said-more leaves fates x f l (omega arith) at (omega arith))
 
 -- there is one leaf line a fate
@@ -130,32 +105,38 @@ length-leaves_said leaves [] few = refl
 length-leaves_said [] (f ∷ fates) few = absurd (omega arith)
 length-leaves_said (y ∷ leaves) (f ∷ fates) few = ap suc (length-leaves_said leaves fates (omega arith))
 
--- one turn of the loop over leaves
-pub leaves_step : (old text next : List ℕ) (leaves : List TreeLeaf) (fates : List Fate) (l : ℕ) (x : TreeLeaf) (f : Fate)
+-- one turn of the loop over leaves, whatever the fate of the leaf
+pub leaves_step : (old text next line : List ℕ) (leaves : List TreeLeaf) (fates : List Fate) (l : ℕ) (x : TreeLeaf) (d : Fate)
     → l < length fates → length fates ≡ length leaves
     → text ≡ old ++ concat (leaf_lines 0 (leaves_said leaves (take l fates)))
-    → (printed : LeafLine) → next ≡ text ++ leaf_line l printed
-    → printed ≡ record { word = (get_or leaves l x).word; said = said_of (get_or fates l f) }
+    → ((fate : Fate) → slice_get fates l ≡ Some fate → line ≡ leaf_line l (leaf_said (get_or leaves l x) fate))
+    → next ≡ text ++ line
     → next ≡ old ++ concat (leaf_lines 0 (leaves_said leaves (take (l + 1) fates)))
-leaves_step old text next leaves fates l x f low same before printed grown is =
+leaves_step old text next line leaves fates l x d low same before made grown =
     let front : List Fate = take l fates in
     let many : length front ≡ l = length-take-le l fates (omega arith) in
-    let said : List LeafLine = leaves_said leaves front in
+    let lines : List LeafLine = leaves_said leaves front in
+    let fate : Fate = get_or fates l d in
     let leaf : TreeLeaf = get_or leaves l x in
-    let line : LeafLine = record { word = leaf.word; said = said_of (get_or fates l f) } in
-    let size : 0 + length said ≡ l = omega (arith, length-leaves_said leaves front (omega arith)) in
-    more_lines old text next (leaf_lines 0 said) (leaf_lines 0 (leaves_said leaves (take (l + 1) fates))) (leaf_line l line)
-    (ap (λ (fs : List Fate). leaf_lines 0 (leaves_said leaves fs)) (take_more fates l f low)
+    let said : LeafLine = leaf_said leaf fate in
+    let size : 0 + length lines ≡ l = omega (arith, length-leaves_said leaves front (omega arith)) in
+    more_lines old text next (leaf_lines 0 lines) (leaf_lines 0 (leaves_said leaves (take (l + 1) fates))) (leaf_line l said)
+    (ap (λ (fs : List Fate). leaf_lines 0 (leaves_said leaves fs)) (take_more fates l d low)
     ∙ ap (leaf_lines 0)
-    (said-more leaves front leaf (get_or fates l f) l many (get_or-any leaves l x (omega arith)) (omega arith))
-    ∙ leaves_more 0 said line
-    ∙ ap (λ (n : ℕ). leaf_lines 0 said ++ leaf_line n line ∷ []) size)
-    before (grown ∙ ap (λ (x : LeafLine). text ++ leaf_line l x) is)
+    (said-more leaves front leaf fate l many (get_or-any leaves l x (omega arith)) (omega arith))
+    ∙ leaves_more 0 lines said
+    ∙ ap (λ (n : ℕ). leaf_lines 0 lines ++ leaf_line n said ∷ []) size)
+    before (grown ∙ ap (λ (t : List ℕ). text ++ t) (made fate (slice_get_read fates (length fates) l fate refl low (fate-any fates l d low))))
   where
     get_or-any : (ls : List TreeLeaf) (n : ℕ) (d : TreeLeaf) → n < length ls → get_or ls n (get_or ls n d) ≡ get_or ls n d
     get_or-any [] n d inside = absurd (omega arith)
     get_or-any (y ∷ ls) zero d inside = refl
     get_or-any (y ∷ ls) (suc n) d inside = get_or-any ls n d (omega arith)
+
+    fate-any : (fs : List Fate) (n : ℕ) (d : Fate) → n < length fs → get_or fs n d ≡ get_or fs n (get_or fs n d)
+    fate-any [] n d inside = absurd (omega arith)
+    fate-any (f ∷ fs) zero d inside = refl
+    fate-any (f ∷ fs) (suc n) d inside = fate-any fs n d (omega arith)
 
 -- the text of a certificate is that of its start, its queues and its leaves
 pub whole_text : (start : List ℕ) (queues leaves : List (List ℕ)) (empty first second third : List ℕ)

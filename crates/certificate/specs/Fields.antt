@@ -1,5 +1,5 @@
 -- The fields of a line, read from the front of a text: each reading gives a value and the rest of the text.
-use Rattle.std.specs.Prelude.{ℕ, zero, suc, ◌-◌, ◌^◌, ◌==◌, ◌&&◌, ◌≡◌, if◌then◌else◌, Bool, true, false, nat_lt, nat_le, List, [], ◌∷◌, ◌++◌, length, take, drop, Option, None, Some, Result, Ok, Err, codes}
+use Rattle.std.specs.Prelude.{ℕ, zero, suc, ◌-◌, ◌^◌, ◌==◌, ◌&&◌, ◌≡◌, if◌then◌else◌, Bool, true, false, not, nat_lt, nat_le, List, [], ◌∷◌, ◌++◌, length, take, drop, Option, None, Some, Result, Ok, Err, codes}
 use Rattle.std.specs.List.{prefix_len, list_all}
 use Rattle.std.specs.Char.{is_ascii_digit}
 use Rattle.std.specs.Str.Parse.{digits_value}
@@ -42,6 +42,11 @@ number_at most text =
     let size = prefix_len is_ascii_digit text in
     let n = digits_value 10 (take size text) in
     if is_spelled (take size text) && nat_le n most then Some (n, drop size text) else None
+
+-- whether no digit stands at the front
+abbrev pub stops : List ℕ → Bool
+stops [] = true
+stops (c ∷ text) = not (is_ascii_digit c)
 
 -- the line end and nothing behind it
 abbrev pub is_end : List ℕ → Bool

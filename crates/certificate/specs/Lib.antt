@@ -6,6 +6,7 @@ pub mod LineForms
 pub mod Reading
 pub mod Refusals
 pub mod Verdict
+pub mod Missing
 pub mod Printed
 pub mod Certified
 pub use Rattle.series_core.specs.Collection

@@ -92,12 +92,16 @@ abbrev pub said_of : Fate → Said
 said_of (BoundFate bound) = Bound bound
 said_of _ = Scanned
 
+-- the line of a leaf of this fate
+abbrev pub leaf_said : TreeLeaf → Fate → LeafLine
+leaf_said leaf fate = record { word = leaf.word; said = said_of fate }
+
 -- leaves with what is said of those of these fates
 abbrev pub leaves_said : List TreeLeaf → List Fate → List LeafLine
 leaves_said leaves [] = []
 leaves_said [] (fate ∷ fates) = []
 leaves_said (leaf ∷ leaves) (fate ∷ fates) =
-    record { word = leaf.word; said = said_of fate } ∷ leaves_said leaves fates
+    leaf_said leaf fate ∷ leaves_said leaves fates
 
 -- the entries of each line
 abbrev pub entries_taken : List QueueLine → List (List Entry)

@@ -1,20 +1,21 @@
-//! Checking a certificate against the plain list of all series: one walk over the series a query.
+//! Checking a certificate against the plain list of all series: one walk over the series for all queries.
 //! It uses no tree, and it looks at no start and no queue.
 
-ghost use Rattle.std.specs.Prelude.{◌≡◌, ◌^◌, ◌<◌, ◌≤◌, ℕ, [], length, Some, IfSome, IfOk, is_some, slice_get, slice_index_or};
+ghost use Rattle.std.specs.Prelude.{◌≡◌, ◌^◌, ◌<◌, ◌≤◌, ℕ, false, [], length, None, Some, IfSome, IfOk, is_some, slice_get, slice_index_or};
 ghost use Rattle.std.specs.List.{All};
 ghost use Rattle.std.specs.Option.{option_copied};
 ghost use Rattle.series_core.specs.Answer.{answer};
 ghost use Rattle.series_core.specs.declared.best.TheConstants.{MAX_BEST};
 ghost use Rattle.certificate.specs.declared.block.Block.{Block};
 ghost use Rattle.certificate.specs.Refusals.{refusal_of};
-ghost use Rattle.certificate.specs.Verdict.{block_refusal, verdict, last_answer, HaveAnswers, IsFor};
+ghost use Rattle.certificate.specs.Missing.{block_misses, lines_refusal};
+ghost use Rattle.certificate.specs.Verdict.{verdict, last_answer, HaveAnswers, IsFor};
 
 use crate::answers::check_answers;
 use crate::block::Block;
 use crate::error::Reject;
 use crate::leaves::{check_bounds, check_lows};
-use crate::misses::{check_misses, last_distance};
+use crate::misses::{check_misses, is_any_missed, last_distance};
 use isax_word::Layout;
 use lower_bound::QueryView;
 use series_core::{Pair, Rows};
@@ -46,22 +47,17 @@ pub fn check<R: Rows, Q: Rows>(
     if blocks.len() != want as usize {
         return Err(Reject::Blocks(blocks.len() as u64, u64::from(want)));
     }
+    let missed = is_any_missed(rows, queries, k, blocks);
     for (b, block) in blocks.iter().enumerate() {
-        check_block(
-            rows,
-            labels,
-            k,
-            layout,
-            b as u32,
-            queries.row(b as u32),
-            block,
-        )?;
+        let query = queries.row(b as u32);
+        check_lines(rows, labels, k, layout, b as u32, query, block)?;
+        check_missed(rows, k, b as u32, query, block, missed)?;
     }
     Ok(())
 }
 
-// Tests block `b`, which is that of this query.
-fn check_block<R: Rows>(
+// Tests the answers and the leaf lines of block `b`, which is that of this query.
+fn check_lines<R: Rows>(
     rows: &R,
     labels: Option<&[u64]>,
     k: u32,
@@ -77,18 +73,38 @@ fn check_block<R: Rows>(
     requires labels { IfSome (option_copied labels) (λ ls. length ls ≡ length (R.collection rows.now).series) }
     requires block { IsFor layout.now.cuts.segments (is_some (option_copied labels)) block.now }
     ensures { refusal_of result
-        ≡ block_refusal (R.collection rows.now) (option_copied labels.entry) k layout.now b query.now block.now }
+        ≡ lines_refusal (R.collection rows.now) (option_copied labels.entry) k layout.now b query.now block.now }
 {
     check_answers(rows, labels, k, b, query, block)?;
     let leaves = block.leaf_lines();
     check_bounds(b, &QueryView::new(layout, query), leaves)?;
     let last = last_answer(rows, k, block.pairs());
-    check_lows(b, last_distance(last), leaves)?;
-    check_misses(rows, b, query, last, block.pairs())
+    check_lows(b, last_distance(last), leaves)
 }
 
-// The answer of rank `k`, where there are at least so many series.
-fn last_answer<R: Rows>(rows: &R, k: u32, answers: &[Pair]) -> Option<Pair>
+// Tests that block `b` misses no series. Where it is known that no block does, there is nothing to do.
+fn check_missed<R: Rows>(
+    rows: &R,
+    k: u32,
+    b: u32,
+    query: &[i16],
+    block: &Block,
+    missed: bool,
+) -> Result<(), Reject>
+    requires some { 0 < k }
+    requires query_length { length query.now ≡ (R.collection rows.now).points }
+    requires known { missed ≡ false → block_misses (R.collection rows.now) k b query.now block.now ≡ None }
+    ensures { refusal_of result ≡ block_misses (R.collection rows.now) k b query.now block.now }
+{
+    if missed {
+        check_misses(rows, b, query, last_answer(rows, k, block.pairs()), block.pairs())
+    } else {
+        Ok(())
+    }
+}
+
+/// The answer of rank `k`, where there are at least so many series.
+pub fn last_answer<R: Rows>(rows: &R, k: u32, answers: &[Pair]) -> Option<Pair>
     requires { 0 < k }
     ensures { result ≡ last_answer (R.collection rows.now) k answers.now }
 {

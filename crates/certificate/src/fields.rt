@@ -5,7 +5,7 @@ ghost use Rattle.std.specs.List.{prefix_len, list_all};
 ghost use Rattle.std.specs.Char.{is_ascii_digit};
 ghost use Rattle.std.specs.Option.{option_to_list, SomeIff};
 ghost use Rattle.std.specs.Str.Parse.{digits_value};
-ghost use Rattle.certificate.specs.Fields.{Sees, after, is_spelled, number_at, is_end, ended, entry_at, entries_at, part_at, is_part, word_at, said_at, limit_at, labels_at};
+ghost use Rattle.certificate.specs.Fields.{Sees, after, is_spelled, number_at, stops, is_end, ended, entry_at, entries_at, part_at, is_part, word_at, said_at, limit_at, labels_at};
 
 use crate::block::Said;
 use isax_word::Word;
@@ -83,4 +83,14 @@ pub fn is_end(text: &[u8]) -> bool
     ensures { result ≡ is_end text.now }
 {
     matches!(text, [b'\n'])
+}
+
+/// Whether no digit stands at the front.
+pub fn stops(text: &[u8]) -> bool
+    ensures { result ≡ stops text.now }
+{
+    match text {
+        [] => true,
+        [first, ..] => !first.is_ascii_digit(),
+    }
 }

@@ -14,6 +14,7 @@ mod misses;
 mod parts;
 mod printing;
 mod reader;
+mod tail;
 mod text;
 mod words;
 

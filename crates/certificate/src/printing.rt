@@ -1,14 +1,17 @@
 //! Printing a certificate: the lines behind the answers of a query, from what the search of it ended with.
-//! A line of a leaf is made in place and then appended, so it takes memory once at most; so does that of a queue.
+//! A line of a leaf is made in place and then appended; there is room for most lines from the start.
 
-ghost use Rattle.std.specs.Prelude.{◌≡◌, ℕ, ◌+◌, ◌<◌, ◌≤◌, ◌++◌, [], ◌∷◌, length, IfOk, OnOk};
+ghost use Rattle.std.specs.Prelude.{◌≡◌, ℕ, ◌+◌, ◌<◌, ◌≤◌, ◌++◌, [], ◌∷◌, length, slice_get, Some, IfOk, OnOk};
 ghost use Rattle.std.specs.List.{concat};
 ghost use Rattle.isax_word.specs.Word.{part_at};
-ghost use Rattle.certificate.specs.Printed.{CertifiesWhereLegal, entries_taken, leaves_said, outcome_said, said_of, search_text};
+ghost use Rattle.search_machine.specs.declared.outcome.Fate.{Fate};
+ghost use Rattle.subtree_build.specs.Index.{leaf_at};
+ghost use Rattle.certificate.specs.Printed.{CertifiesWhereLegal, entries_taken, leaf_said, leaves_said, outcome_said, said_of, search_text};
 ghost use Rattle.certificate.specs.Spelling.{entries_text, leaf_line, leaf_lines, limit_text, part_text, queue_line, queue_lines, said_text, start_line, word_text};
 
 use crate::block::Said;
 use crate::line_text::LineText;
+use crate::tail::Tail;
 use isax_word::Word;
 use outside::NoMemory;
 use search_machine::{Fate, Outcome, QueueLine, Start};
@@ -98,24 +101,27 @@ fn push_queue(text: &mut Vec<u8>, m: u64, line: &QueueLine) -> Result<(), NoMemo
 fn push_entries(text: &mut Vec<u8>, entries: &[Entry]) -> Result<(), NoMemory>
     ensures { OnOk result (text.new.items ≡ text.old.items ++ entries_text entries.now) }
 {
+    let mut tail = Tail::new();
     for entry in entries {
-        push_entry(text, *entry)?;
+        put_entry(&mut tail, *entry);
+        text.extend_from_slice(tail.bytes())?;
     }
     Ok(())
 }
 
-// Appends an entry: a space, its bound, a colon and its leaf.
-fn push_entry(text: &mut Vec<u8>, entry: Entry) -> Result<(), NoMemory>
-    ensures { OnOk result (text.new.items ≡ text.old.items ++ entries_text (entry ∷ [])) }
+// Makes an entry: a space, its bound, a colon and its leaf.
+fn put_entry(tail: &mut Tail, entry: Entry)
+    ensures { tail.new ≡ entries_text (entry ∷ []) }
 {
-    let mut line = LineText::new();
-    line.push_byte(b' ');
-    line.push_number(entry.bound);
-    line.push_byte(b':');
-    line.push_number(u64::from(entry.leaf));
-    text.extend_from_slice(line.bytes())?;
-    Ok(())
+    tail.clear();
+    tail.put_number(u64::from(entry.leaf));
+    tail.put(b":");
+    tail.put_number(entry.bound);
+    tail.put(b" ");
 }
+
+// About as many bytes as a leaf's line has.
+const LEAF_ROOM: usize = 112;
 
 // Appends the lines of all leaves.
 fn push_leaves(text: &mut Vec<u8>, index: &Index, fates: &[Fate]) -> Result<(), NoMemory>
@@ -123,10 +129,24 @@ fn push_leaves(text: &mut Vec<u8>, index: &Index, fates: &[Fate]) -> Result<(), 
     ensures { OnOk result (text.new.items
         ≡ text.old.items ++ concat (leaf_lines 0 (leaves_said index.now.leaves fates.now))) }
 {
+    text.reserve((index.leaf_count() as usize).saturating_mul(LEAF_ROOM))?;
+    let mut tail = Tail::new();
     for l in 0..index.leaf_count() {
-        push_leaf(text, l, index.leaf_word(l), said_of(fates[l as usize]))?;
+        put_leaf(&mut tail, index, fates, l);
+        text.extend_from_slice(tail.bytes())?;
     }
     Ok(())
+}
+
+// Makes the line of leaf `l` of an index.
+fn put_leaf(tail: &mut Tail, index: &Index, fates: &[Fate], l: u32)
+    requires leaf { l < length index.now.leaves }
+    requires fate { l < length fates.now }
+    ensures { (fate : Fate) → slice_get fates.now l ≡ Some fate
+        → tail.new ≡ leaf_line l (leaf_said (leaf_at index.now.leaves l) fate) }
+{
+    let said = said_of(fates[l as usize]);
+    put_line(tail, l, index.leaf_word(l), said);
 }
 
 // What is said of a leaf of this fate: that it was scanned, or else its bound.
@@ -139,59 +159,60 @@ fn said_of(fate: Fate) -> Said
     }
 }
 
-// Appends the line of leaf `l`.
-fn push_leaf(text: &mut Vec<u8>, l: u32, word: &Word, said: Said) -> Result<(), NoMemory>
-    ensures { OnOk result (text.new.items
-        ≡ text.old.items ++ leaf_line l (record { word = word.now; said = said })) }
+// Makes the line of leaf `l`.
+fn put_line(tail: &mut Tail, l: u32, word: &Word, said: Said)
+    ensures { tail.new ≡ leaf_line l (record { word = word.now; said = said }) }
 {
-    let mut line = LineText::new();
-    line.push("leaf ");
-    line.push_number(u64::from(l));
-    line.push(" word ");
-    push_word(&mut line, word);
-    push_said(&mut line, said);
-    line.push_byte(b'\n');
-    text.extend_from_slice(line.bytes())?;
-    Ok(())
+    tail.clear();
+    tail.put(b"\n");
+    put_said(tail, said);
+    put_word(tail, word);
+    tail.put(b" word ");
+    tail.put_number(u64::from(l));
+    tail.put(b"leaf ");
 }
 
-// Appends a word: its parts, parted by commas.
-fn push_word(line: &mut LineText, word: &Word)
-    requires { length line.old ≤ 31 }
-    ensures text { line.new ≡ line.old ++ word_text word.now }
-    ensures room { length line.new ≤ length line.old + 128 }
+// Puts a word in front: its parts, parted by commas.
+fn put_word(tail: &mut Tail, word: &Word)
+    requires { length tail.old ≤ 28 }
+    ensures text { tail.new ≡ word_text word.now ++ tail.old }
+    ensures room { length tail.new ≤ length tail.old + 128 }
 {
     let segments = word.segments();
-    push_part(line, word, 0);
-    for j in 1..segments {
-        line.push_byte(b',');
-        push_part(line, word, j);
+    for put in 0..segments {
+        put_part(tail, word, segments - 1 - put);
     }
+    tail.drop_first();
 }
 
-// Appends a part of a word: its prefix, a colon and its number of bits.
-fn push_part(line: &mut LineText, word: &Word, j: u32)
+// Puts a part of a word in front, behind a comma: its prefix, a colon and its number of bits.
+fn put_part(tail: &mut Tail, word: &Word, j: u32)
     requires part { j < length word.now }
-    requires room { length line.old ≤ 190 }
-    ensures text { line.new ≡ line.old ++ part_text (part_at word.now j) }
-    ensures room { length line.new ≤ length line.old + 7 }
+    requires room { length tail.old ≤ 156 }
+    ensures text { tail.new ≡ 44 ∷ (part_text (part_at word.now j) ++ tail.old) }
+    ensures room { length tail.new ≤ length tail.old + 8 }
 {
-    line.push_small(word.prefix(j));
-    line.push_byte(b':');
-    line.push_small(word.bits(j));
+    let (prefix, bits) = (word.prefix(j), word.bits(j));
+    if prefix < 10 {
+        tail.put(&[b',', b'0' + prefix, b':', b'0' + bits]);
+        return;
+    }
+    tail.put(&[b':', b'0' + bits]);
+    tail.put_number(u64::from(prefix));
+    tail.put(b",");
 }
 
-// Appends what is said of a leaf.
-fn push_said(line: &mut LineText, said: Said)
-    requires { length line.old ≤ 159 }
-    ensures text { line.new ≡ line.old ++ said_text said }
-    ensures room { length line.new ≤ length line.old + 27 }
+// Puts in front what is said of a leaf.
+fn put_said(tail: &mut Tail, said: Said)
+    requires { length tail.old ≤ 1 }
+    ensures text { tail.new ≡ said_text said ++ tail.old }
+    ensures room { length tail.new ≤ length tail.old + 27 }
 {
     match said {
-        Said::Scanned => line.push(" scanned"),
+        Said::Scanned => tail.put(b" scanned"),
         Said::Bound(bound) => {
-            line.push(" bound ");
-            line.push_number(bound);
+            tail.put_number(bound);
+            tail.put(b" bound ");
         }
     }
 }

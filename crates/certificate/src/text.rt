@@ -9,6 +9,7 @@ ghost use Rattle.certificate.specs.Grammar.{Spells, ReadsAs, IsRightError, lines
 use crate::block::Block;
 use crate::error::CertError;
 use crate::reader::Reader;
+use memchr::memchr;
 use std::alloc::Global;
 
 /// Reads the text of a certificate whose words have so many segments, from 1 to 16. With `labelled` each answer has a
@@ -55,10 +56,8 @@ fn first_line(text: &[u8]) -> (&[u8], &[u8])
     ensures lines { lines_of text.now ≡ result.0.now ∷ lines_of result.1.now }
     ensures shorter { length result.1.now < length text.now }
 {
-    for i in 0..text.len() {
-        if text[i] == b'\n' {
-            return text.split_at(i + 1);
-        }
+    match memchr(b'\n', text) {
+        Some(i) => text.split_at(i + 1),
+        None => text.split_at(text.len()),
     }
-    text.split_at(text.len())
 }

@@ -5,7 +5,7 @@ ghost use Rattle.std.specs.Option.{option_to_list};
 ghost use Rattle.certificate.specs.Fields.{Sees, SeesOk, entry_at, entries_at, part_at, all_parts_at, word_at, said_at, limit_at, labels_at};
 
 use crate::block::Said;
-use crate::fields::{after, number};
+use crate::fields::{after, number, stops};
 use crate::parts::Parts;
 use isax_word::{Part, Word};
 use outside::NoMemory;
@@ -44,9 +44,25 @@ pub fn entries(alloc: Global, text: &[u8]) -> Result<Option<(EntryList, &[u8])>,
     Ok(Some((EntryList { items }, rest)))
 }
 
-// A part of a word: prefix, colon, number of bits.
-#[tactic(auto, unfolding(crate::specs::Fields::part_at))]
+// A part of a word: prefix, colon, number of bits. In most of them each number has one digit.
 fn part(text: &[u8]) -> Option<(Part, &[u8])>
+    ensures { Sees (λ x. (x.0, x.1.now)) result (part_at text.now) }
+{
+    if let [prefix, colon, bits, rest @ ..] = text {
+        if *colon == b':' && prefix.is_ascii_digit() && bits.is_ascii_digit() && stops(rest) {
+            let part = Part {
+                prefix: *prefix - b'0',
+                bits: *bits - b'0',
+            };
+            return Some((part, rest));
+        }
+    }
+    long_part(text)
+}
+
+// A part of a word, whose numbers have any number of digits.
+#[tactic(auto, unfolding(crate::specs::Fields::part_at))]
+fn long_part(text: &[u8]) -> Option<(Part, &[u8])>
     ensures { Sees (λ x. (x.0, x.1.now)) result (part_at text.now) }
 {
     let (prefix, rest) = number(text, 255)?;

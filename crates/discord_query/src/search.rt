@@ -3,16 +3,20 @@ ghost use Rattle.std.specs.Prelude.{◌≡◌, ◌<◌, IfOk, All, length, true,
 ghost use Rattle.std.specs.List.{filter};
 ghost use Rattle.std.specs.Option.{option_to_list};
 ghost use Rattle.discord_query.specs.Discords.{farness_of, is_other, other, least_farness};
-ghost use Rattle.discord_query.specs.Searches.{IsReady, IsNearOther};
+ghost use Rattle.discord_query.specs.Searches.{HasNearOther, IsReady, IsNearOther};
 
 use best_word::Floor;
 use isax_word::{Layout, Member};
+use mean_bound::{MeanView, Means};
 use outside::NoMemory;
 use query_core::{Task, one_worker_answer};
 use series_core::{NONE, Pair, Rows};
 use simd_distance::distance_within;
 use std::alloc::Global;
 use subtree_build::Index;
+
+/// How many leaves on each side are looked through before a series is searched for its nearest other.
+const REACH: u32 = 8192;
 
 /// What all workers search: rows, their index, the leaf of each series, and how many discords are wanted.
 #[derive(Drop)]
@@ -41,6 +45,14 @@ fn first_but(pairs: &[Pair], number: u32) -> Option<Pair>
     None
 }
 
+/// Whether the bound of the means at this place, if there are any, leaves a member within a radius.
+fn is_within(view: &MeanView, means: &[Means], i: usize, radius: u64) -> bool {
+    match means.get(i) {
+        Some(means) => view.bound(means) <= radius,
+        None => true,
+    }
+}
+
 impl<'a, R: Rows> Search<'a, R> {
     /// The nearest other of a series: of two as near, the one with the smaller number. None where there is no other.
     pub fn other(&self, alloc: Global, number: u32) -> Result<Option<Pair>, NoMemory>
@@ -53,19 +65,50 @@ impl<'a, R: Rows> Search<'a, R> {
         Ok(first_but(nearest.items.as_slice(), number))
     }
 
-    /// Whether a series may be given up: some other in its leaf is nearer to it than `NONE` less the limit.
+    /// Whether a series may be given up: some other is nearer to it than `NONE` less the limit. It is sought from the
+    /// series' own leaf outwards, since leaves that stand near one another have words that are alike.
     pub fn is_given_up(&self, number: u32, limit: u64) -> bool
         requires ready { IsReady R.collection self.now }
         requires number { number < length (R.collection self.now.rows.now).series }
         ensures { result ≡ true → All (λ p. limit < p.distance) (farness_of (R.collection self.now.rows.now) number) }
     {
         let home = match self.homes.get(number as usize) {
-            Some(home) if limit < NONE && *home < self.index.leaf_count() => *home,
+            Some(home) if limit < NONE => *home,
             _ => return false,
         };
         let nearer = NONE - limit - 1;
-        for member in self.index.leaf_members(home) {
-            if self.is_near_other(number, member, nearer) {
+        let view = self.view(number);
+        for step in 0..REACH.min(self.index.leaf_count()) {
+            if self.has_near(number, &view, home.wrapping_add(step), nearer) {
+                return true;
+            }
+            if self.has_near(number, &view, home.wrapping_sub(step + 1), nearer) {
+                return true;
+            }
+        }
+        false
+    }
+
+    /// A series as bounds by means see it.
+    fn view(&self, number: u32) -> MeanView
+        requires ready { IsReady R.collection self.now }
+        requires number { number < length (R.collection self.now.rows.now).series }
+    {
+        MeanView::new(&self.layout.cuts, self.rows.row(number))
+    }
+
+    /// Whether a leaf, if there is one of this number, has a member of another series within a radius of this one.
+    fn has_near(&self, number: u32, view: &MeanView, leaf: u32, radius: u64) -> bool
+        requires ready { IsReady R.collection self.now }
+        requires number { number < length (R.collection self.now.rows.now).series }
+        ensures { result ≡ true → HasNearOther (R.collection self.now.rows.now) number radius }
+    {
+        if leaf >= self.index.leaf_count() {
+            return false;
+        }
+        let means = self.index.leaf_means(leaf);
+        for (i, member) in self.index.leaf_members(leaf).iter().enumerate() {
+            if is_within(view, means, i, radius) && self.is_near_other(number, member, radius) {
                 return true;
             }
         }

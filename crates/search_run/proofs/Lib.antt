@@ -1,5 +1,6 @@
 pub mod StatusLines
 pub mod Lines
+pub mod DiscordLines
 pub mod Pieces
 pub mod Short
 pub mod Summing
@@ -19,3 +20,4 @@ pub mod Certifying
 pub mod Nearests
 pub mod CertifiedTexts
 pub mod Verified
+pub mod Certifies

@@ -1,29 +1,27 @@
 -- How a search of windows ends: what refuses its files, and what was written of its text (`stops_conclude`).
-use Rattle.std.proofs.Common.{◌≡◌, ℕ, ◌*◌, ◌<◌, ◌++◌, List, Option, None, inl, inr, ⊎_elim, length, take, arith, sym, ap, ◌∙◌}
+use Rattle.std.proofs.Common.{◌≡◌, ℕ, ◌*◌, ◌<◌, ◌++◌, List, Option, None, inl, inr, ⊎_elim, length, take, arith, ap, ◌∙◌}
 use Rattle.std.specs.Prelude.{ℤ, Result, Ok, Err, IfErr, OnOk}
 use Rattle.std.specs.Io.KnownBytes.{append_known}
 use Rattle.command_words.specs.Options.{windows_needed}
 use Rattle.command_words.specs.declared.options.Options.{Options}
-use Rattle.series_core.specs.Answer.{answer}
+use Rattle.series_core.specs.Collection.{Collection}
 use Rattle.series_core.specs.Flat.{joined}
-use Rattle.series_core.specs.declared.pair.Pair.{Pair}
 use Rattle.series_file.specs.Format.{HasText}
 use Rattle.series_file.specs.declared.error.Form.TheVariants.{Raw}
 use Rattle.series_file.specs.declared.error.Loaded.{Loaded}
 use Rattle.series_file.proofs.ReadBack.{length-joined}
+use Rattle.search_run.specs.Batches.{AppendsTold, IsTold}
 use Rattle.search_run.specs.Ends.{Concludes, ConcludesBy}
 use Rattle.search_run.specs.Plans.{Plan, Refuses}
 use Rattle.search_run.specs.Status.{status_of}
 use Rattle.search_run.specs.Stops.{Stops}
-use Rattle.search_run.specs.Texts.{Call, IsMade, IsTextOf, query_text}
+use Rattle.search_run.specs.Texts.{IsTextOf, query_text}
 use Rattle.search_run.specs.Traffic.{Reading, Writing}
-use Rattle.search_run.specs.LongSearches.{GivesChosen}
 use Rattle.search_run.specs.Windows.{AppendsChoices, HasFew, IsChoice, long_plan, nothing_behind}
-use Rattle.window_rows.specs.Choice.{chosen_apart}
 use Rattle.window_rows.proofs.Enough.{nearest_enough}
 use Rattle.search_run.proofs.Concluding.{concludes_map}
 use Rattle.search_run.proofs.Pieces.{text_finish, text_map}
-use Rattle.search_run.specs.declared.commands.windows.LongGround.{LongGround}
+use Rattle.search_run.specs.declared.output.answers.Telling.TheVariants.{Apart}
 use Rattle.search_run.specs.declared.output.stop.Stop.{Stop}
 use Rattle.search_run.specs.declared.output.stop.Stop.TheVariants.{WriteFault, NoMemory}
 use Rattle.search_run.specs.declared.status.Status.{Status}
@@ -99,31 +97,22 @@ stops_conclude P each qs IsRight R writing right stop stopped =
     by_stop WriteFault x = (x.1, (x.0, x.2), x.3, x.4, x.5)
     by_stop NoMemory x = inr (x.1, (x.0, x.2), x.3)
 
--- a piece that such a call made has those that are chosen from all
-piece_chosen : (Gives : Call LongGround) (o : Options) → GivesChosen Gives o → 0 < o.apart → (base : LongGround)
-    → (i : ℕ) (query : List ℤ) (piece : List ℕ) → IsMade Gives base i query piece
-    → IsChoice o base.windows i query piece
-piece_chosen Gives o each some base i query piece made =
-    let needed = windows_needed o in
-    let text : List Pair → List ℕ = λ pairs. query_text None i (chosen_apart o.apart pairs o.k) in
-    sym made.6
-    ∙ each made.0 i made.1 (Ok made.2) made.3
-    ∙ ap (λ (g : LongGround). text (answer g.windows made.1.now needed)) made.4
-    ∙ ap (λ q. text (answer base.windows q needed)) made.5
-    ∙ ap (query_text None i) (nearest_enough o.apart o.k needed base.windows query some (omega arith))
+-- what is told of as many of the nearest as are needed has those that are chosen from all
+told_chosen : (o : Options) → 0 < o.apart → (c : Collection) (i : ℕ) (query : List ℤ) (piece : List ℕ)
+    → IsTold (Apart o.apart o.k) c (windows_needed o) i query piece → IsChoice o c i query piece
+told_chosen o some c i query piece is =
+    is ∙ ap (query_text None i) (nearest_enough o.apart o.k (windows_needed o) c query some (omega arith))
 
--- so the pieces that such calls made are, where all were written, a text of chosen windows
-pub chosen_done : (Gives : Call LongGround) (o : Options) → GivesChosen Gives o → 0 < o.apart → (base : LongGround)
-    → (qs : List (List ℤ)) (before now : Option (List ℕ)) (ended : Result (Unit {0}) Stop)
-    → OnOk ended ((text : List ℕ) × IsTextOf (IsMade Gives base) qs text × (now ≡ append_known before text))
-    → OnOk ended (AppendsChoices o base.windows qs before now)
-chosen_done Gives o each some base =
-    done_map (IsMade Gives base) (IsChoice o base.windows) (piece_chosen Gives o each some base)
+-- so a text of such pieces is one of chosen windows
+pub chosen_done : (o : Options) → 0 < o.apart → (c : Collection) (qs : List (List ℤ)) (before now : Option (List ℕ))
+    (ended : Result (Unit {0}) Stop) → OnOk ended (AppendsTold (Apart o.apart o.k) c (windows_needed o) qs before now)
+    → OnOk ended (AppendsChoices o c qs before now)
+chosen_done o some c =
+    done_map (IsTold (Apart o.apart o.k) c (windows_needed o)) (IsChoice o c) (told_chosen o some c)
 
 -- and where they were not all written, a beginning of one
-pub chosen_stopped : (Gives : Call LongGround) (o : Options) → GivesChosen Gives o → 0 < o.apart → (base : LongGround)
-    → (qs : List (List ℤ)) (writing : Writing) (ended : Result (Unit {0}) Stop)
-    → IfErr ended (Stops (IsMade Gives base) qs writing)
-    → IfErr ended (Stops (IsChoice o base.windows) qs writing)
-chosen_stopped Gives o each some base =
-    stopped_map (IsMade Gives base) (IsChoice o base.windows) (piece_chosen Gives o each some base)
+pub chosen_stopped : (o : Options) → 0 < o.apart → (c : Collection) (qs : List (List ℤ)) (writing : Writing)
+    (ended : Result (Unit {0}) Stop) → IfErr ended (Stops (IsTold (Apart o.apart o.k) c (windows_needed o)) qs writing)
+    → IfErr ended (Stops (IsChoice o c) qs writing)
+chosen_stopped o some c =
+    stopped_map (IsTold (Apart o.apart o.k) c (windows_needed o)) (IsChoice o c) (told_chosen o some c)

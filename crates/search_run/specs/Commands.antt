@@ -2,12 +2,14 @@
 use Rattle.std.specs.Prelude.{◌≡◌, ℕ, ℤ, true, ⊤, List, Option, None, codes}
 use Rattle.outside.specs.Files.{Held}
 use Rattle.command_words.specs.declared.command.Command.{Command}
-use Rattle.command_words.specs.declared.command.Command.TheVariants.{Nearest, Range, Verify, Trial, Convert, Windows}
+use Rattle.command_words.specs.declared.command.Command.TheVariants.{Nearest, Range, Verify, Trial, Convert, Windows, Discord}
 use Rattle.command_words.specs.declared.options.Options.{Options}
 use Rattle.series_core.specs.Answer.{within}
 use Rattle.series_file.specs.declared.error.Loaded.{Loaded}
 use Rattle.search_run.specs.Certificates.{subject_of}
+use Rattle.discord_query.specs.Discords.{discords}
 use Rattle.search_run.specs.Conversions.{converted_text}
+use Rattle.search_run.specs.DiscordLines.{discord_lines}
 use Rattle.search_run.specs.Loads.{form_of}
 use Rattle.search_run.specs.Nearests.{IsNearestPiece}
 use Rattle.search_run.specs.Plans.{CanPass, Plan, Load, Compare, Divide, Check, Write}
@@ -24,6 +26,7 @@ IsServed (Verify series queries certificate o) = ⊤
 IsServed (Trial seed count length queries o) = ⊤
 IsServed (Convert series o) = ⊤
 IsServed (Windows series queries step o) = ⊤
+IsServed (Discord series o) = ⊤
 IsServed _ = ⊥
 
 -- where the command would search over queues with locks, it asks for the search over sealed runs, which has none
@@ -77,6 +80,11 @@ trial_plan seed count length queries o =
 abbrev pub convert_plan : List ℕ → Options → Plan
 convert_plan series o = Load Series series (form_of o.raw) (λ x. Write (λ text. text ≡ converted_text x))
 
+-- one file of series, which has the asked segments, and the lines of its k discords
+abbrev pub discord_plan : List ℕ → Options → Plan
+discord_plan series o = Load Series series (form_of o.raw) (λ x. Divide o.segments x.rows.points
+    (Write (λ text. text ≡ discord_lines 1 (discords x.rows o.k))))
+
 -- what a command does; one that is not answered yet has no text
 abbrev pub plan_of : Command → Plan
 plan_of (Nearest series queries o) = nearest_plan series queries o
@@ -85,6 +93,7 @@ plan_of (Verify series queries certificate o) = verify_plan series queries certi
 plan_of (Trial seed count length queries o) = trial_plan seed count length queries o
 plan_of (Convert series o) = convert_plan series o
 plan_of (Windows series queries step o) = windows_plan series queries step o
+plan_of (Discord series o) = discord_plan series o
 plan_of _ = Write (λ _. ⊥)
 
 -- nothing keeps the command from its work

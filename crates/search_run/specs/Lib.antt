@@ -6,13 +6,14 @@ pub mod Trials
 pub mod Traffic
 pub mod Loads
 pub mod Conversions
+pub mod DiscordLines
 pub mod Layouts
 pub mod Certificates
 pub mod Nearests
 pub mod Plans
 pub mod Windows
-pub mod LongSearches
 pub mod Finding
+pub mod Batches
 pub mod Commands
 pub mod Pairs
 pub mod Ends
@@ -20,6 +21,7 @@ pub mod Stops
 pub mod Verified
 pub use Rattle.series_core.specs.Collection
 pub use Rattle.series_core.specs.Answer
+pub use Rattle.discord_query.specs.Discords
 pub use Rattle.list_totals.specs.Totals
 pub use Rattle.command_words.specs.Settings
 pub use Rattle.series_file.specs.Format

@@ -1,7 +1,5 @@
 -- A trial: a search over random walks that are all made from one number, and the four lines that sum it up.
-use Rattle.std.specs.Prelude.{◌≡◌, ℕ, ◌*◌, ◌≤◌, ℤ, List, [], ◌∷◌, ◌++◌, codes, decimal, length, map, Result, IfOk}
-use Rattle.std.specs.Borrow.{Bor}
-use Rattle.outside.specs.declared.faults.NoMemory.{NoMemory}
+use Rattle.std.specs.Prelude.{ℕ, ◌*◌, ◌≤◌, ℤ, List, [], ◌∷◌, ◌++◌, codes, decimal, length, map}
 use Rattle.list_totals.specs.Totals.{total}
 use Rattle.series_core.specs.Answer.{answer}
 use Rattle.series_core.specs.Collection.{Collection}
@@ -36,11 +34,6 @@ summed answers = record {
 -- text and a number behind it
 abbrev pub counted : List ℕ → ℕ → List ℕ
 counted text n = text ++ decimal n
-
--- what is found for a query is what a call that ends well gives
-abbrev pub FindsBy : (Bor (List ℤ) → Result (List Pair) NoMemory → Type 0) → (List ℤ → List Pair) → Type 0
-FindsBy Gives found =
-    (q : Bor (List ℤ)) (r : Result (List Pair) NoMemory) → Gives q r → IfOk r (λ pairs. pairs ≡ found q.now)
 
 -- the four lines
 abbrev pub summary_lines : ℕ → ℕ → ℕ → ℕ → Summary → List ℕ

@@ -1,8 +1,10 @@
 -- What `nearest` writes with certificates, and `verify` of it under the same words.
-use Rattle.std.specs.Prelude.{◌≡◌, ℕ, ◌≤◌, true, List, length, Option, Some}
+use Rattle.std.specs.Prelude.{◌≡◌, ℕ, ◌≤◌, true, ⊤, List, length, Option, Some}
+use Rattle.std.specs.Io.KnownBytes.{append_known}
 use Rattle.outside.specs.Files.{Held}
 use Rattle.command_words.specs.Limits.{OptionsKeepLimits}
-use Rattle.command_words.specs.declared.command.Command.TheVariants.{Verify}
+use Rattle.command_words.specs.declared.command.Command.{Command}
+use Rattle.command_words.specs.declared.command.Command.TheVariants.{Nearest, Verify}
 use Rattle.command_words.specs.declared.options.Options.{Options}
 use Rattle.series_file.specs.declared.error.Loaded.{Loaded}
 use Rattle.search_run.specs.Certificates.{IsValid, most_bytes, subject_of}
@@ -10,6 +12,9 @@ use Rattle.search_run.specs.Commands.{nearest_plan}
 use Rattle.search_run.specs.Ends.{IsFaultless}
 use Rattle.search_run.specs.Loads.{HoldsFile, form_of}
 use Rattle.search_run.specs.Plans.{Writes}
+use Rattle.search_run.specs.Traffic.{Writing}
+use Rattle.search_run.specs.declared.status.Status.{Status}
+use Rattle.search_run.specs.declared.status.Status.TheVariants.{Done}
 
 -- both ask the same: so many answers, the same words of series, files of one form
 pub record AskAlike (o v : Options) : Type 0 where
@@ -37,3 +42,16 @@ abbrev pub CertifiedTextsAreFaultless : Type 0
 CertifiedTextsAreFaultless = (h : Held) (series queries name : List ℕ) (o v : Options) (text : List ℕ)
     → IsCertifiedText (Some h) series queries o text → AskAlike o v → h name ≡ Some text
     → IsFaultless (Some h) (Verify series queries name v)
+
+-- the text is a certificate that holds for what the two files hold, where it is not too long to be one
+abbrev pub HoldsForFiles : Option Held → List ℕ → List ℕ → Options → List ℕ → Type 0
+HoldsForFiles held series queries o text = length text ≤ most_bytes
+    → (x : Loaded) × (y : Loaded) × HoldsFile held series (form_of o.raw) x × HoldsFile held queries (form_of o.raw) y
+    × IsValid (subject_of x y o) text
+
+-- Where a search for the nearest with certificates ended well, what was written is a certificate that holds for its files
+-- under its own options: the same number of answers, the same segments and the same table.
+abbrev pub Certifies : Option Held → Command → Writing → Status → Type 0
+Certifies held (Nearest series queries o) writing Done = o.certificate ≡ true
+    → (text : List ℕ) × (writing.now ≡ append_known writing.before text) × HoldsForFiles held series queries o text
+Certifies held command writing status = ⊤

@@ -1,6 +1,7 @@
 //! What each command does with its input, one module a command: it ends with the status that says why it did not.
 
 pub mod convert;
+pub mod discord;
 pub mod nearest;
 pub mod range;
 pub mod search;

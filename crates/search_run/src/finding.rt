@@ -1,20 +1,48 @@
-//! What finds the answers to a query: a search of the tree for the k nearest, or for all within a radius.
+//! What finds the answers to a query: a search of the tree for the k nearest, by one worker or by a team, or for all within a
+//! radius.
 
 ghost use Rattle.std.specs.Prelude.{◌≡◌, ◌<◌, ◌≤◌, length, IfOk};
 ghost use Rattle.series_core.specs.Answer.{answer, within};
 ghost use Rattle.series_core.specs.declared.best.TheConstants.{MAX_BEST};
-ghost use Rattle.search_machine.specs.Legal.{IsStraight, Legal};
-ghost use Rattle.query_core.specs.Questions.{IsQuestion, search_over};
-ghost use Rattle.search_run.specs.Finding.{IsTreeFor, asked_of};
+ghost use Rattle.command_words.specs.Limits.{OptionsKeepLimits};
+ghost use Rattle.search_run.specs.Batches.{CanAsk, HasRightOutcome, IsAsking, asking_of};
+ghost use Rattle.search_run.specs.Finding.{IsTreeFor};
 
 use crate::crew::Crew;
 use crate::tree::Tree;
+use command_words::Options;
+use live_query::nearest_sealed;
 use outside::{Gate, NoMemory};
 use query_core::{Outcome, Task, one_worker, one_worker_answer};
 use range_query::within;
 use series_core::{PairList, Rows};
 use std::alloc::Global;
+use std::sync::Wait;
 use std::thread::Threads;
+
+/// How many of the nearest are asked for, of how many workers, over how many queues for leaves.
+#[derive(Clone, Copy, Debug, PartialEq, Eq)]
+pub struct Asking {
+    /// How many of the nearest.
+    pub k: u32,
+    /// How many workers.
+    pub workers: u32,
+    /// How many queues.
+    pub queues: u32,
+}
+
+/// What these options ask for.
+pub fn asking_of(options: &Options) -> Asking
+    requires { OptionsKeepLimits options.now }
+    ensures asking { result ≡ asking_of options.now }
+    ensures limits { IsAsking result }
+{
+    Asking {
+        k: options.k,
+        workers: options.workers,
+        queues: options.queues,
+    }
+}
 
 /// The k series nearest to a query as long as they, by one worker with this many queues for leaves.
 pub fn nearest<R: Rows>(
@@ -36,30 +64,71 @@ pub fn nearest<R: Rows>(
     one_worker_answer(alloc, &task, &tree.index, queues)
 }
 
-/// The whole outcome of that search, which is legal and straight.
-pub fn searched<R: Rows>(
-    alloc: Global,
+/// The whole outcome of the search for the nearest series to a query as long as they, over sealed runs: by a team that waits for
+/// nobody, or by one worker, which starts no thread.
+pub fn sealed<T: Threads + Sync, R: Rows + Sync, G: Gate + Sync>(
+    crew: &Crew<'_, T, G>,
     rows: &R,
     tree: &Tree,
     query: &[i16],
-    k: u32,
-    queues: u32,
+    asking: Asking,
 ) -> Result<Outcome, NoMemory>
-    requires tree { IsTreeFor (R.collection rows.now) tree.now }
-    requires length { length query.now ≡ (R.collection rows.now).points }
-    requires some { 0 < k }
-    requires limit { k ≤ MAX_BEST }
-    requires queues { (1 ≤ queues) × (queues ≤ 64) }
-    ensures question { IfOk result (λ _. IsQuestion (asked_of (R.collection rows.now) query.now k tree.now)) }
-    ensures legal { IfOk result (Legal
-        (search_over (asked_of (R.collection rows.now) query.now k tree.now) tree.now.index 1 queues)) }
-    ensures straight { IfOk result IsStraight }
-    ensures answer { IfOk result (λ o. o.pairs ≡ answer (R.collection rows.now) query.now k) }
+    requires { CanAsk (R.collection rows.now) tree.now query.now asking }
+    ensures { HasRightOutcome (R.collection rows.now) tree.now query.now asking result }
 {
-    let task = Task::new(rows, query, k, &tree.settings.layout);
+    let task = Task::new(rows, query, asking.k, &tree.settings.layout);
     // for the fact that the task is a question
     let _k = task.k();
-    one_worker(alloc, &task, &tree.index, queues)
+    let Asking {
+        workers,
+        queues,
+        ..
+    } = asking;
+    if workers == 1 {
+        return one_worker(crew.alloc, &task, &tree.index, queues);
+    }
+    nearest_sealed(
+        crew.rt,
+        crew.alloc,
+        &task,
+        &tree.index,
+        workers,
+        queues,
+        crew.gate,
+    )
+}
+
+/// The same over queues with locks: the workers of a team may wait for one another.
+pub fn locked<T: Threads + Wait + Sync, R: Rows + Sync, G: Gate + Sync>(
+    crew: &Crew<'_, T, G>,
+    rows: &R,
+    tree: &Tree,
+    query: &[i16],
+    asking: Asking,
+) -> Result<Outcome, NoMemory>
+    requires { CanAsk (R.collection rows.now) tree.now query.now asking }
+    ensures { HasRightOutcome (R.collection rows.now) tree.now query.now asking result }
+{
+    let task = Task::new(rows, query, asking.k, &tree.settings.layout);
+    // for the fact that the task is a question
+    let _k = task.k();
+    let Asking {
+        workers,
+        queues,
+        ..
+    } = asking;
+    if workers == 1 {
+        return one_worker(crew.alloc, &task, &tree.index, queues);
+    }
+    nearest_sealed(
+        crew.rt,
+        crew.alloc,
+        &task,
+        &tree.index,
+        workers,
+        queues,
+        crew.gate,
+    )
 }
 
 /// All series within a radius of a query as long as they, by so many workers.

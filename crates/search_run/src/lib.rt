@@ -2,6 +2,7 @@
 //! One module a stage; each stage has one contract, and `run` puts them in order.
 #![tactic(auto)]
 
+mod batch;
 mod commands;
 mod crew;
 mod finding;

@@ -16,7 +16,18 @@ pub fn is_served(command: &Command) -> bool
         | Command::Verify { .. }
         | Command::Trial { .. }
         | Command::Convert { .. }
-        | Command::Windows { .. } => true,
+        | Command::Windows { .. }
+        | Command::Discord { .. } => true,
         _ => false,
+    }
+}
+
+/// Whether the command is served by stages that wait for nobody: it asks for the sealed search, or does not search so.
+pub fn is_free(command: &Command) -> bool {
+    match command {
+        Command::Nearest { options, .. }
+        | Command::Trial { options, .. }
+        | Command::Windows { options, .. } => options.sealed,
+        _ => true,
     }
 }

@@ -6,6 +6,8 @@ ghost use Rattle.command_words.specs.Absence.{HoldsAbsence, IndexStandsAlone};
 ghost use Rattle.command_words.specs.Limits.{KeepsLimits};
 ghost use Rattle.command_words.specs.Settings.{name_of, options_of};
 ghost use Rattle.command_words.specs.declared.command.Command.{Command};
+ghost use Rattle.std.specs.Thread.{IsSync};
+ghost use Rattle.search_run.specs.Batches.{CanAsk, HasRightOutcome, IsTeam};
 ghost use Rattle.search_run.specs.Traffic.{read_from, wrote_to};
 ghost use Rattle.search_run.specs.Commands.{CanAnswer, IsServed, SearchesWithoutLocks, plan_of};
 ghost use Rattle.search_run.specs.Ends.{Answers, Asks, CanSearch, Ends, Finishes, IsAnswered, IsFaultless};
@@ -13,29 +15,37 @@ ghost use Rattle.search_run.specs.Ends.{NoCommand, TellsCause, TellsFault, ended
 ghost use Rattle.search_run.specs.Plans.{HasFault};
 ghost use Rattle.search_run.specs.Status.{fault_line};
 ghost use Rattle.search_run.specs.Told.{Tells};
+ghost use Rattle.search_run.specs.Verified.{Certifies};
 ghost use Rattle.search_run.specs.declared.status.CertFault.{CertFault};
 ghost use Rattle.search_run.specs.declared.status.Status.{Status};
 ghost use Rattle.search_run.specs.declared.status.Which.{Which};
 
 use crate::commands::convert::answer_convert;
+use crate::commands::discord::answer_discord;
 use crate::commands::nearest::answer_nearest;
 use crate::commands::range::answer_range;
 use crate::commands::trial::answer_trial;
 use crate::commands::verify::answer_verify;
 use crate::commands::windows::answer_windows;
 use crate::crew::Crew;
+use crate::finding::{Asking, locked, sealed};
 use crate::output::tell::tell;
-use crate::serving::is_served;
+use crate::serving::{is_free, is_served};
 use crate::status::{Status, Which};
+use crate::tree::Tree;
 use command_words::{Command, WordsError, parse_words};
-use outside::{Files, Gate, Sink};
+use outside::{Files, Gate, NoMemory, Sink};
+use query_core::Outcome;
+use series_core::Flat;
 use std::alloc::Global;
+use std::sync::Wait;
 use std::thread::Threads;
+use window_rows::Windows;
 
 /// Runs the program on the words of a command line: answers go to `out`, and to `err` a line where it failed.
 /// `files` is where names are opened, `rt` gives threads, and `gate` comes before each turn of a worker. The status
-/// tells how it ended.
-pub fn run<T: Threads + Sync, F: Files, S: Sink, E: Sink, G: Gate + Sync>(
+/// tells how it ended. It may wait where a command searches over queues with locks.
+pub fn run<T: Threads + Wait + Sync, F: Files, S: Sink, E: Sink, G: Gate + Sync>(
     rt: &T,
     alloc: Global,
     words: &[String],
@@ -57,13 +67,16 @@ pub fn run<T: Threads + Sync, F: Files, S: Sink, E: Sink, G: Gate + Sync>(
         → (fault : CertFault) → HasFault (F.held files.old) (plan_of command) fault
         → TellsFault (F.faults files.old) (F.faults files.new) fault result }
     ensures cause { TellsCause result }
+    // What `nearest` wrote with certificates is a certificate that holds.
+    ensures certifies { (command : Command) → Asks (map string_bytes words.now) command
+        → Certifies (F.held files.old) command (wrote_to S.written S.faults S.sure out.old out.new) result }
     ensures told { Tells (fault_line result) (E.written err.old) (E.written err.new) (E.faults err.old) (E.faults err.new) }
     ensures kept { F.held files.new ≡ F.held files.old }
     ensures reliable { F.reliable files.old → (w : Which) → result ≢ Status.ReadFault w }
 {
     let crew = Crew { rt, alloc, gate };
     match ask(alloc, words) {
-        Ok(command) => answer_and_tell(&crew, &command, files, out, err),
+        Ok(command) => answer_either(&crew, &command, files, out, err),
         Err(status) => {
             tell(err, &status);
             status
@@ -101,11 +114,13 @@ pub fn run_free<T: Threads + Sync, F: Files, S: Sink, E: Sink, G: Gate + Sync>(
         → (fault : CertFault) → HasFault (F.held files.old) (plan_of command.now) fault
         → TellsFault (F.faults files.old) (F.faults files.new) fault result }
     ensures cause { TellsCause result }
+    ensures certifies { Certifies (F.held files.old) command.now
+        (wrote_to S.written S.faults S.sure out.old out.new) result }
     ensures told { Tells (fault_line result) (E.written err.old) (E.written err.new) (E.faults err.old) (E.faults err.new) }
     ensures kept { F.held files.new ≡ F.held files.old }
     ensures reliable { F.reliable files.old → (w : Which) → result ≢ Status.ReadFault w }
 {
-    answer_and_tell(&Crew { rt, alloc, gate }, command, files, out, err)
+    answer_sealed(&Crew { rt, alloc, gate }, command, files, out, err)
 }
 
 // The command that the words ask for, if it is one that is answered.
@@ -122,8 +137,8 @@ fn ask(alloc: Global, words: &[String]) -> Result<Command, Status>
     }
 }
 
-// Answers one command, and tells how that ended.
-fn answer_and_tell<T: Threads + Sync, F: Files, S: Sink, E: Sink, G: Gate + Sync>(
+// Answers one command as it asks for it: waiting for nobody, or over queues with locks.
+fn answer_either<T: Threads + Wait + Sync, F: Files, S: Sink, E: Sink, G: Gate + Sync>(
     crew: &Crew<'_, T, G>,
     command: &Command,
     files: &mut F,
@@ -139,7 +154,111 @@ fn answer_and_tell<T: Threads + Sync, F: Files, S: Sink, E: Sink, G: Gate + Sync
     ensures kept { F.held files.new ≡ F.held files.old }
     ensures reliable { F.reliable files.old → (w : Which) → result ≢ Status.ReadFault w }
 {
-    let status = ended(answer(crew, command, files, out));
+    if is_free(command) {
+        answer_sealed(crew, command, files, out, err)
+    } else {
+        answer_locked(crew, command, files, out, err)
+    }
+}
+
+// Answers one command, with teams that search over sealed runs.
+fn answer_sealed<T: Threads + Sync, F: Files, S: Sink, E: Sink, G: Gate + Sync>(
+    crew: &Crew<'_, T, G>,
+    command: &Command,
+    files: &mut F,
+    out: &mut S,
+    err: &mut E,
+) -> Status
+    requires limits { KeepsLimits command.now }
+    requires served { IsServed command.now }
+    ensures answers { Answers
+        (read_from F.held F.faults F.misses F.blamed files.old files.new)
+        (wrote_to S.written S.faults S.sure out.old out.new) command.now result }
+    ensures told { Tells (fault_line result) (E.written err.old) (E.written err.new) (E.faults err.old) (E.faults err.new) }
+    ensures kept { F.held files.new ≡ F.held files.old }
+    ensures reliable { F.reliable files.old → (w : Which) → result ≢ Status.ReadFault w }
+{
+    let rows = |rows: &Flat, tree: &Tree, query: &[i16], asking: Asking| -> Result<
+        Outcome,
+        NoMemory,
+    >
+        requires { IsSync T.row × IsSync G.row × CanAsk rows.now tree.now query.now asking }
+        ensures { HasRightOutcome rows.now tree.now query.now asking result }
+    { sealed(crew, rows, tree, query, asking) };
+    let windows = |rows: &Windows<'_>, tree: &Tree, query: &[i16], asking: Asking| -> Result<
+        Outcome,
+        NoMemory,
+    >
+        requires { IsSync T.row × IsSync G.row × CanAsk rows.now tree.now query.now asking }
+        ensures { HasRightOutcome rows.now tree.now query.now asking result }
+    { sealed(crew, rows, tree, query, asking) };
+    answer_and_tell(crew, &rows, &windows, command, files, out, err)
+}
+
+// Answers one command, with teams that search over queues with locks.
+fn answer_locked<T: Threads + Wait + Sync, F: Files, S: Sink, E: Sink, G: Gate + Sync>(
+    crew: &Crew<'_, T, G>,
+    command: &Command,
+    files: &mut F,
+    out: &mut S,
+    err: &mut E,
+) -> Status
+    requires limits { KeepsLimits command.now }
+    requires served { IsServed command.now }
+    ensures answers { Answers
+        (read_from F.held F.faults F.misses F.blamed files.old files.new)
+        (wrote_to S.written S.faults S.sure out.old out.new) command.now result }
+    ensures told { Tells (fault_line result) (E.written err.old) (E.written err.new) (E.faults err.old) (E.faults err.new) }
+    ensures kept { F.held files.new ≡ F.held files.old }
+    ensures reliable { F.reliable files.old → (w : Which) → result ≢ Status.ReadFault w }
+{
+    let rows = |rows: &Flat, tree: &Tree, query: &[i16], asking: Asking| -> Result<
+        Outcome,
+        NoMemory,
+    >
+        requires { IsSync T.row × IsSync G.row × CanAsk rows.now tree.now query.now asking }
+        ensures { HasRightOutcome rows.now tree.now query.now asking result }
+    { locked(crew, rows, tree, query, asking) };
+    let windows = |rows: &Windows<'_>, tree: &Tree, query: &[i16], asking: Asking| -> Result<
+        Outcome,
+        NoMemory,
+    >
+        requires { IsSync T.row × IsSync G.row × CanAsk rows.now tree.now query.now asking }
+        ensures { HasRightOutcome rows.now tree.now query.now asking result }
+    { locked(crew, rows, tree, query, asking) };
+    answer_and_tell(crew, &rows, &windows, command, files, out, err)
+}
+
+// Answers one command, and tells how that ended.
+fn answer_and_tell<
+    T: Threads + Sync,
+    F: Files,
+    S: Sink,
+    E: Sink,
+    G: Gate + Sync,
+    L: Fn(&Flat, &Tree, &[i16], Asking) -> Result<Outcome, NoMemory>,
+    W: Fn(&Windows<'_>, &Tree, &[i16], Asking) -> Result<Outcome, NoMemory>,
+>(
+    crew: &Crew<'_, T, G>,
+    rows: &L,
+    windows: &W,
+    command: &Command,
+    files: &mut F,
+    out: &mut S,
+    err: &mut E,
+) -> Status
+    requires limits { KeepsLimits command.now }
+    requires served { IsServed command.now }
+    requires rows { IsTeam (λ rows. rows) (L.pre rows.now) (L.post rows.now) }
+    requires windows { IsTeam (λ rows. rows) (W.pre windows.now) (W.post windows.now) }
+    ensures answers { Answers
+        (read_from F.held F.faults F.misses F.blamed files.old files.new)
+        (wrote_to S.written S.faults S.sure out.old out.new) command.now result }
+    ensures told { Tells (fault_line result) (E.written err.old) (E.written err.new) (E.faults err.old) (E.faults err.new) }
+    ensures kept { F.held files.new ≡ F.held files.old }
+    ensures reliable { F.reliable files.old → (w : Which) → result ≢ Status.ReadFault w }
+{
+    let status = ended(answer(crew, rows, windows, command, files, out));
     tell(err, &status);
     status
 }
@@ -155,14 +274,25 @@ fn ended(work: Result<(), Status>) -> Status
 }
 
 // Answers one command.
-fn answer<T: Threads + Sync, F: Files, S: Sink, G: Gate + Sync>(
+fn answer<
+    T: Threads + Sync,
+    F: Files,
+    S: Sink,
+    G: Gate + Sync,
+    L: Fn(&Flat, &Tree, &[i16], Asking) -> Result<Outcome, NoMemory>,
+    W: Fn(&Windows<'_>, &Tree, &[i16], Asking) -> Result<Outcome, NoMemory>,
+>(
     crew: &Crew<'_, T, G>,
+    rows: &L,
+    windows: &W,
     command: &Command,
     files: &mut F,
     out: &mut S,
 ) -> Result<(), Status>
     requires limits { KeepsLimits command.now }
     requires served { IsServed command.now }
+    requires rows { IsTeam (λ rows. rows) (L.pre rows.now) (L.post rows.now) }
+    requires windows { IsTeam (λ rows. rows) (W.pre windows.now) (W.post windows.now) }
     ensures answers { Answers
         (read_from F.held F.faults F.misses F.blamed files.old files.new)
         (wrote_to S.written S.faults S.sure out.old out.new) command.now (ended result) }
@@ -175,7 +305,7 @@ fn answer<T: Threads + Sync, F: Files, S: Sink, G: Gate + Sync>(
             series,
             queries,
             options,
-        } => answer_nearest(crew, series, queries, options, files, out),
+        } => answer_nearest(crew, rows, series, queries, options, files, out),
         Command::Range {
             series,
             queries,
@@ -194,14 +324,15 @@ fn answer<T: Threads + Sync, F: Files, S: Sink, G: Gate + Sync>(
             length,
             queries,
             options,
-        } => answer_trial(crew, *seed, *count, *length, *queries, options, out),
+        } => answer_trial(crew, rows, *seed, *count, *length, *queries, options, out),
         Command::Convert { series, options } => answer_convert(alloc, series, options, files, out),
         Command::Windows {
             series,
             queries,
             step,
             options,
-        } => answer_windows(crew, series, queries, *step, options, files, out),
+        } => answer_windows(crew, windows, series, queries, *step, options, files, out),
+        Command::Discord { series, options } => answer_discord(crew, series, options, files, out),
         _ => Err(Status::Usage),
     }
 }

@@ -2,6 +2,7 @@
 
 mod certifying;
 mod converting;
+mod discords;
 mod failing;
 mod fixture;
 mod nearests;

@@ -1,6 +1,6 @@
 -- Windows by their places: there is one wherever the series has all its values, and all are a
 -- collection.
-use Rattle.std.proofs.Common.{◌≡◌, ℕ, zero, suc, ◌+◌, ◌-◌, ◌*◌, ◌/◌, ◌<◌, ◌≤◌, List, length, drop, None, Some, refl, sym, ap, ◌∙◌, ⊎_elim, arith, map, length-drop}
+use Rattle.std.proofs.Common.{◌≡◌, ℕ, zero, suc, ◌+◌, ◌-◌, ◌*◌, ◌/◌, ◌<◌, ◌≤◌, List, length, drop, None, Some, refl, sym, ap, ◌∙◌, ⊎_elim, arith, map, mul-suc, length-drop}
 use Rattle.std.specs.Prelude.{ℤ, FitsSigned, slice_get, nat_le}
 use Rattle.std.specs.List.{All, range_with_len}
 use Rattle.std.specs.Option.{option_map}
@@ -30,6 +30,11 @@ pub place_counted : (size n step i : ℕ) → 0 < step → i * step + n ≤ size
 place_counted size n step i some fits =
     let last : i ≤ (size - n) / step = (le-div_iff_mul-le some).1 (omega arith) in
     omega (arith, count_some size n step (omega arith), last)
+
+-- a window does not begin before its number
+pub place_grows : (i step : ℕ) → 0 < step → i ≤ i * step
+place_grows i zero some = absurd (omega (arith, some))
+place_grows i (suc step) some = omega (arith, mul-suc i step)
 
 -- and each of them has all its values
 pub counted_place : (size n step i : ℕ) → 0 < step → i < windows_count size n step

@@ -1,41 +1,52 @@
 //! The command `nearest`: for each query its k nearest, by a search of the tree, and where it is asked for a certificate.
 
-ghost use Rattle.std.specs.Prelude.{◌≡◌, ◌≢◌, ◌<◌, ◌≤◌, true, false, length, IfOk};
+ghost use Rattle.std.specs.Prelude.{◌≡◌, ◌≢◌, true, false, length, IfOk};
 ghost use Rattle.command_words.specs.Limits.{OptionsKeepLimits};
-ghost use Rattle.series_core.specs.Answer.{answer};
-ghost use Rattle.series_core.specs.declared.best.TheConstants.{MAX_BEST};
 ghost use Rattle.search_run.specs.Traffic.{read_from, wrote_to};
 ghost use Rattle.search_run.specs.Commands.{nearest_plan, pieces_plan};
+ghost use Rattle.search_run.specs.Batches.{IsTeam};
 ghost use Rattle.search_run.specs.Ends.{Concludes, ended};
-ghost use Rattle.search_run.specs.Finding.{IsGround, IsTreeFor};
+ghost use Rattle.search_run.specs.Finding.{IsGround};
 ghost use Rattle.search_run.specs.Nearests.{IsCertifiedPiece, IsNearestPiece};
 ghost use Rattle.search_run.specs.Plans.{Refuses, Writes};
-ghost use Rattle.search_run.specs.Texts.{query_text};
 ghost use Rattle.search_run.specs.declared.status.Status.{Status};
 ghost use Rattle.search_run.specs.declared.status.Which.{Which};
 
+use crate::batch::Batch;
 use crate::commands::search::{Ground, answer_search};
 use crate::crew::Crew;
-use crate::finding::{nearest, searched};
-use crate::input::pair::Search;
+use crate::finding::{Asking, asking_of};
+use crate::input::pair::{Search, read_both};
+use crate::output::answers::{Telling, write_answers};
 use crate::output::text::query_text;
 use crate::status::{Status, Which};
+use crate::tree::{Tree, tree_of};
 use certificate::print;
 use command_words::{Options, Text};
 use outside::{Files, Gate, NoMemory, Sink};
+use query_core::Outcome;
+use series_core::Flat;
 use std::alloc::Global;
 use std::thread::Threads;
 
 /// Answers `nearest`: a search whose pieces have for each query its k nearest, and their certificate where it is asked for.
-pub fn answer_nearest<T: Threads + Sync, F: Files, S: Sink, G: Gate + Sync>(
+pub fn answer_nearest<
+    T: Threads + Sync,
+    F: Files,
+    S: Sink,
+    G: Gate + Sync,
+    P: Fn(&Flat, &Tree, &[i16], Asking) -> Result<Outcome, NoMemory>,
+>(
     crew: &Crew<'_, T, G>,
+    team: &P,
     series: &Text,
     queries: &Text,
     options: &Options,
     files: &mut F,
     out: &mut S,
 ) -> Result<(), Status>
-    requires { OptionsKeepLimits options.now }
+    requires limits { OptionsKeepLimits options.now }
+    requires team { IsTeam (λ rows. rows) (P.pre team.now) (P.post team.now) }
     ensures answers { let plan = nearest_plan series.now queries.now options.now in
         Concludes (Writes (F.held files.old) plan)
         (Refuses (read_from F.held F.faults F.misses F.blamed files.old files.new) plan)
@@ -49,20 +60,28 @@ pub fn answer_nearest<T: Threads + Sync, F: Files, S: Sink, G: Gate + Sync>(
         options,
     };
     if options.certificate {
-        answer_certified(crew, &search, files, out)
+        answer_certified(crew, team, &search, files, out)
     } else {
-        answer_plain(crew, &search, files, out)
+        answer_plain(crew, team, &search, files, out)
     }
 }
 
 // Answers `nearest` without certificates.
-fn answer_plain<T: Threads + Sync, F: Files, S: Sink, G: Gate + Sync>(
+fn answer_plain<
+    T: Threads + Sync,
+    F: Files,
+    S: Sink,
+    G: Gate + Sync,
+    P: Fn(&Flat, &Tree, &[i16], Asking) -> Result<Outcome, NoMemory>,
+>(
     crew: &Crew<'_, T, G>,
+    team: &P,
     search: &Search<'_>,
     files: &mut F,
     out: &mut S,
 ) -> Result<(), Status>
-    requires { OptionsKeepLimits search.now.options.now }
+    requires limits { OptionsKeepLimits search.now.options.now }
+    requires team { IsTeam (λ rows. rows) (P.pre team.now) (P.post team.now) }
     ensures answers { let plan = pieces_plan search.now.series.now search.now.queries.now search.now.options.now
         (IsNearestPiece false search.now.options.now) in
         Concludes (Writes (F.held files.old) plan)
@@ -71,29 +90,36 @@ fn answer_plain<T: Threads + Sync, F: Files, S: Sink, G: Gate + Sync>(
     ensures kept { F.held files.new ≡ F.held files.old }
     ensures reliable { F.reliable files.old → (w : Which) → result ≢ Err (Status.ReadFault w) }
 {
-    let alloc = crew.alloc;
-    let k = search.options.k;
-    let queues = search.options.queues;
-    let piece_of = |base: &Ground, i: u32, query: &[i16]| -> Result<Vec<u8>, NoMemory>
-        requires { IsTreeFor base.now.series.rows base.now.tree × (length query.now ≡ base.now.series.rows.points)
-            × (0 < k) × (k ≤ MAX_BEST) × (1 ≤ queues) × (queues ≤ 64) }
-        ensures { IfOk result (λ text. text.items
-            ≡ query_text base.now.series.labels i (answer base.now.series.rows query.now k)) }
-    {
-        let pairs = nearest(alloc, &base.series.rows, &base.tree, query, k, queues)?;
-        query_text(alloc, i, &base.series.labels, &pairs)
+    let options = search.options;
+    let both = read_both(crew.alloc, files, search)?;
+    let tree = tree_of(crew, &both.series.rows, options)?;
+    let batch = Batch {
+        rows: &both.series.rows,
+        tree: &tree,
+        queries: &both.queries.rows,
+        asking: asking_of(options),
     };
-    answer_search(crew, search, &piece_of, files, out)
+    let telling = Telling::Nearest(&both.series.labels);
+    write_answers(crew, team, &batch, &telling, out)?;
+    Ok(())
 }
 
 // Answers `nearest` with certificates.
-fn answer_certified<T: Threads + Sync, F: Files, S: Sink, G: Gate + Sync>(
+fn answer_certified<
+    T: Threads + Sync,
+    F: Files,
+    S: Sink,
+    G: Gate + Sync,
+    P: Fn(&Flat, &Tree, &[i16], Asking) -> Result<Outcome, NoMemory>,
+>(
     crew: &Crew<'_, T, G>,
+    team: &P,
     search: &Search<'_>,
     files: &mut F,
     out: &mut S,
 ) -> Result<(), Status>
-    requires { OptionsKeepLimits search.now.options.now }
+    requires limits { OptionsKeepLimits search.now.options.now }
+    requires team { IsTeam (λ rows. rows) (P.pre team.now) (P.post team.now) }
     ensures answers { let plan = pieces_plan search.now.series.now search.now.queries.now search.now.options.now
         (IsNearestPiece true search.now.options.now) in
         Concludes (Writes (F.held files.old) plan)
@@ -105,28 +131,30 @@ fn answer_certified<T: Threads + Sync, F: Files, S: Sink, G: Gate + Sync>(
     let alloc = crew.alloc;
     let options = search.options;
     let piece_of = |base: &Ground, i: u32, query: &[i16]| -> Result<Vec<u8>, NoMemory>
-        requires { IsGround options.now base.now × OptionsKeepLimits options.now
+        requires { IsTeam (λ rows. rows) (P.pre team.now) (P.post team.now) × IsGround options.now base.now × OptionsKeepLimits options.now
             × (length query.now ≡ base.now.series.rows.points) }
         ensures { IfOk result (λ text. IsCertifiedPiece options.entry.now base.now.series i query.now text.items) }
-    { certified_piece(alloc, options, base, i, query) };
+    { certified_piece(alloc, team, options, base, i, query) };
     answer_search(crew, search, &piece_of, files, out)
 }
 
 // The piece of query i: its answers, and behind them the lines that certify them.
-fn certified_piece(
+fn certified_piece<P: Fn(&Flat, &Tree, &[i16], Asking) -> Result<Outcome, NoMemory>>(
     alloc: Global,
+    team: &P,
     options: &Options,
     base: &Ground,
     i: u32,
     query: &[i16],
 ) -> Result<Vec<u8>, NoMemory>
+    requires team { IsTeam (λ rows. rows) (P.pre team.now) (P.post team.now) }
     requires base { IsGround options.now base.now }
     requires limits { OptionsKeepLimits options.now }
     requires length { length query.now ≡ base.now.series.rows.points }
     ensures { IfOk result (λ text. IsCertifiedPiece options.now base.now.series i query.now text.items) }
 {
     let (rows, tree) = (&base.series.rows, &base.tree);
-    let outcome = searched(alloc, rows, tree, query, options.k, options.queues)?;
+    let outcome = team(rows, tree, query, asking_of(options))?;
     let mut text = query_text(alloc, i, &base.series.labels, &outcome.pairs)?;
     let lines = print(alloc, &tree.index, &outcome)?;
     text.extend_from_slice(&lines)?;

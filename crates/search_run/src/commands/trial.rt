@@ -1,29 +1,29 @@
 //! The command `trial`: a search over random walks that are all made from one number, and the lines that sum it up.
 //! Series and queries are drawn from one stream, the series first.
 
-ghost use Rattle.std.specs.Prelude.{◌≡◌, ◌≢◌, ◌<◌, ◌≤◌, length, IfOk};
+ghost use Rattle.std.specs.Prelude.{◌≢◌, ◌≡◌, IfOk};
 ghost use Rattle.command_words.specs.Limits.{OptionsKeepLimits};
-ghost use Rattle.series_core.specs.Answer.{answer};
-ghost use Rattle.series_core.specs.declared.best.TheConstants.{MAX_BEST};
 ghost use Rattle.search_run.specs.Traffic.{Reading, wrote_to};
 ghost use Rattle.search_run.specs.Commands.{trial_plan};
+ghost use Rattle.search_run.specs.Batches.{IsTeam};
 ghost use Rattle.search_run.specs.Ends.{Concludes, ended};
-ghost use Rattle.search_run.specs.Finding.{IsTreeFor};
 ghost use Rattle.search_run.specs.Plans.{HasSegments, Refuses, Writes};
 ghost use Rattle.search_run.specs.Trials.{KeepsTrialLimits, trial_text};
 ghost use Rattle.search_run.specs.declared.status.Status.{Status};
 ghost use Rattle.search_run.specs.declared.status.Which.{Which};
 
+use crate::batch::Batch;
 use crate::crew::Crew;
-use crate::finding::nearest;
+use crate::finding::{Asking, asking_of};
 use crate::input::lengths::check_segments;
 use crate::output::summary::{summary_of, summary_text};
 use crate::status::{Status, Which};
-use crate::tree::tree_of;
+use crate::tree::{Tree, tree_of};
 use command_words::Options;
 use outside::{Gate, NoMemory, Sink, write_whole};
+use query_core::Outcome;
 use random_walks::{generator, walks};
-use series_core::PairList;
+use series_core::Flat;
 use std::thread::Threads;
 
 /// What `trial` is asked for: `queries` walks among `count` walks of `length` values each, all from one seed.
@@ -42,8 +42,14 @@ struct Trial<'a> {
 }
 
 /// Answers `trial`: the four lines over the answers to so many queries.
-pub fn answer_trial<T: Threads + Sync, S: Sink, G: Gate + Sync>(
+pub fn answer_trial<
+    T: Threads + Sync,
+    S: Sink,
+    G: Gate + Sync,
+    P: Fn(&Flat, &Tree, &[i16], Asking) -> Result<Outcome, NoMemory>,
+>(
     crew: &Crew<'_, T, G>,
+    team: &P,
     seed: u64,
     count: u32,
     length: u32,
@@ -53,6 +59,7 @@ pub fn answer_trial<T: Threads + Sync, S: Sink, G: Gate + Sync>(
 ) -> Result<(), Status>
     requires trial { KeepsTrialLimits count length queries }
     requires options { OptionsKeepLimits options.now }
+    requires team { IsTeam (λ rows. rows) (P.pre team.now) (P.post team.now) }
     ensures answers { let plan = trial_plan seed count length queries options.now in (reading : Reading)
         → Concludes (Writes reading.held plan) (Refuses reading plan)
         (wrote_to S.written S.faults S.sure out.old out.new) (ended result) }
@@ -66,19 +73,21 @@ pub fn answer_trial<T: Threads + Sync, S: Sink, G: Gate + Sync>(
         queries,
         options,
     };
-    let text = text_of(crew, &trial)?;
+    let text = text_of(crew, team, &trial)?;
     write_whole(out, &text)?;
     Ok(())
 }
 
 // The whole text of a trial.
-fn text_of<T: Threads + Sync, G: Gate + Sync>(
-    crew: &Crew<'_, T, G>,
-    trial: &Trial<'_>,
-) -> Result<Vec<u8>, NoMemory>
+fn text_of<
+    T: Threads + Sync,
+    G: Gate + Sync,
+    P: Fn(&Flat, &Tree, &[i16], Asking) -> Result<Outcome, NoMemory>,
+>(crew: &Crew<'_, T, G>, team: &P, trial: &Trial<'_>) -> Result<Vec<u8>, NoMemory>
     requires trial { KeepsTrialLimits trial.now.count trial.now.length trial.now.queries }
     requires options { OptionsKeepLimits trial.now.options.now }
     requires segments { HasSegments trial.now.options.now.segments trial.now.length }
+    requires team { IsTeam (λ rows. rows) (P.pre team.now) (P.post team.now) }
     ensures { IfOk result (λ text. text.items ≡ trial_text trial.now.seed trial.now.count trial.now.length
         trial.now.queries trial.now.options.now.k) }
 {
@@ -86,21 +95,19 @@ fn text_of<T: Threads + Sync, G: Gate + Sync>(
     let series = walks(crew.alloc, &mut rng, trial.count, trial.length)?;
     let asked = walks(crew.alloc, &mut rng, trial.queries, trial.length)?;
     let tree = tree_of(crew, &series, trial.options)?;
-    let (alloc, rows, over) = (crew.alloc, &series, &tree);
-    let k = trial.options.k;
-    let queues = trial.options.queues;
-    let find = |query: &[i16]| -> Result<PairList, NoMemory>
-        requires { IsTreeFor rows.now over.now × (length query.now ≡ rows.now.points)
-            × (0 < k) × (k ≤ MAX_BEST) × (1 ≤ queues) × (queues ≤ 64) }
-        ensures { IfOk result (λ pairs. pairs ≡ answer rows.entry.now query.now k) }
-    { nearest(alloc, rows, over, query, k, queues) };
-    let summary = summary_of(&find, &asked)?;
+    let batch = Batch {
+        rows: &series,
+        tree: &tree,
+        queries: &asked,
+        asking: asking_of(trial.options),
+    };
+    let summary = summary_of(crew, team, &batch)?;
     summary_text(
         crew.alloc,
         trial.count,
         trial.length,
         trial.queries,
-        k,
+        trial.options.k,
         &summary,
     )
 }

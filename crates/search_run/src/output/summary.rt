@@ -1,16 +1,21 @@
 //! What a trial found, in three numbers: how many answers, and the sums of their distances and of their numbers.
 
-ghost use Rattle.std.specs.Prelude.{◌≡◌, ℤ, ◌+◌, ◌*◌, ◌^◌, ◌≤◌, List, ◌++◌, length, map, IfOk, OnOk};
+ghost use Rattle.std.specs.Prelude.{◌≡◌, ◌+◌, ◌*◌, ◌^◌, ◌≤◌, ◌++◌, length, IfOk, OnOk};
 ghost use Rattle.list_totals.specs.Totals.{total};
 ghost use Rattle.series_core.specs.declared.best.TheConstants.{MAX_BEST};
-ghost use Rattle.series_core.specs.declared.pair.Pair.{Pair};
-ghost use Rattle.search_run.specs.Trials.{FindsBy, counted, summary_lines, summed};
+ghost use Rattle.search_run.specs.Batches.{IsBatch, IsTeam};
+ghost use Rattle.search_run.specs.Trials.{answers_of, counted, summary_lines, summed};
 
-use crate::output::pieces::row_of;
+use crate::batch::Batch;
+use crate::crew::Crew;
+use crate::finding::Asking;
+use crate::tree::Tree;
 use itoa::Buffer;
 use outside::NoMemory;
-use series_core::{Pair, PairList, Rows};
+use query_core::Outcome;
+use series_core::{Pair, Rows};
 use std::alloc::Global;
+use std::thread::Threads;
 
 /// How many answers there are, and the sums of their distances and of their numbers.
 #[derive(Clone, Copy, Debug, PartialEq, Eq)]
@@ -52,20 +57,23 @@ impl Summary {
     }
 }
 
-/// The summary of what is found for at most 1000 queries, of each at most 1024 pairs.
-pub fn summary_of<Q: Rows, P: Fn(&[i16]) -> Result<PairList, NoMemory>>(
-    find: &P,
-    queries: &Q,
-) -> Result<Summary, NoMemory>
-    requires callable { (q : _) → length q.now ≡ (Q.collection queries.now).points → P.pre find.now q }
-    requires short { (q : _) (r : _) → P.post find.now q r → IfOk r (λ pairs. length pairs ≤ MAX_BEST) }
-    requires few { length (Q.collection queries.now).series ≤ 1000 }
-    ensures { (found : List ℤ → List Pair) → FindsBy (P.post find.now) found
-        → IfOk result (λ summary. summary ≡ summed (map found (Q.collection queries.now).series)) }
+/// The summary of the answers to at most 1000 queries.
+pub fn summary_of<
+    T: Threads + Sync,
+    R: Rows + Sync,
+    G,
+    P: Fn(&R, &Tree, &[i16], Asking) -> Result<Outcome, NoMemory>,
+>(crew: &Crew<'_, T, G>, team: &P, batch: &Batch<'_, R>) -> Result<Summary, NoMemory>
+    requires batch { IsBatch R.collection batch.now }
+    requires team { IsTeam R.collection (P.pre team.now) (P.post team.now) }
+    requires few { length batch.now.queries.now.series ≤ 1000 }
+    ensures { IfOk result (λ summary. summary
+        ≡ summed (answers_of (R.collection batch.now.rows.now) batch.now.asking.k batch.now.queries.now.series)) }
 {
     let mut summary = Summary::NONE;
-    for i in 0..queries.count() {
-        let pairs = find(row_of(queries, i))?;
+    let mut ahead = Vec::new(crew.alloc);
+    for i in 0..batch.queries.count() {
+        let pairs = batch.answer(crew, team, i, &mut ahead)?;
         summary.add(&pairs.items);
     }
     Ok(summary)

@@ -81,8 +81,8 @@ fn push_label(text: &mut Vec<u8>, labels: &Option<LabelList>, number: u32) -> Re
     Ok(())
 }
 
-// Appends a number in decimals.
-fn push_number(text: &mut Vec<u8>, n: u64) -> Result<(), NoMemory>
+/// Appends a number in decimals.
+pub fn push_number(text: &mut Vec<u8>, n: u64) -> Result<(), NoMemory>
     ensures { OnOk result (text.new.items ≡ text.old.items ++ decimal n) }
 {
     let mut buffer = Buffer::new();

@@ -6,6 +6,7 @@ use outside::{NoGate, NoMemory};
 use series_file::FileError;
 use std::alloc::Global;
 use std::process::Abort;
+use std::sync::Wait;
 use std::test::Fail;
 use std::thread::Threads;
 
@@ -113,7 +114,7 @@ const REFUSED: [Row; 10] = [
 ];
 
 // Runs words over a file `C` of these bytes, and compares the status and what was written.
-fn ends_with<H: Threads + Abort + Sync>(
+fn ends_with<H: Threads + Wait + Abort + Sync>(
     rt: &H,
     alloc: Global,
     line: &str,

@@ -4,6 +4,7 @@ use crate::{Status, run};
 use outside::{Gate, MemFiles, MemSink, NoGate, NoMemory};
 use std::alloc::Global;
 use std::process::Abort;
+use std::sync::Wait;
 use std::sync::atomic::{AtomicU64, Ordering};
 use std::test::Fail;
 use std::thread::Threads;
@@ -80,11 +81,12 @@ fn hold_long(alloc: Global, files: &mut MemFiles) -> Result<(), NoMemory> {
 }
 
 /// Holds files without a header: a few values, a longer series, and an odd number of bytes; and queries for windows of the
-/// longer series.
+/// longer series; three points.
 fn hold_raw(alloc: Global, files: &mut MemFiles) -> Result<(), NoMemory> {
     files.hold("long", b"\0\0\0\0\x0a\0\x0a\0\0\0")?;
     files.hold("ones", &spelled(alloc, 2, 1, &[1; 2])?)?;
     files.hold("wide", &spelled(alloc, 6, 1, &[1; 6])?)?;
+    files.hold("steps", b"\0\0\x05\0\x0a\0")?;
     files.hold("raw", b"\x01\0\x01\0\x01\0\x01\0")?;
     files.hold("seven", b"\x01\0\x01\0\x01\0\x01")?;
     files.hold("empty", b"")
@@ -190,7 +192,7 @@ pub fn files_of(
 }
 
 /// Runs the words of a line over the files of the tables and a certificate `C`, with this outside and gate.
-pub fn run_line<T: Threads + Sync, G: Gate + Sync>(
+pub fn run_line<T: Threads + Wait + Sync, G: Gate + Sync>(
     rt: &T,
     alloc: Global,
     line: &str,
@@ -208,7 +210,7 @@ pub fn run_line<T: Threads + Sync, G: Gate + Sync>(
 }
 
 /// Runs each row in pieces of so many bytes, and compares how it ends.
-pub fn end_as_they_should<H: Threads + Abort + Sync>(
+pub fn end_as_they_should<H: Threads + Wait + Abort + Sync>(
     rt: &H,
     alloc: Global,
     rows: &[Row],

@@ -1,5 +1,5 @@
 //! Searches for the nearest with the options of an index, as a table: words, and the status, the text and the line that they
-//! end with. Two workers meet at a gate.
+//! end with. Two workers meet at a gate as they build, and as they search together.
 
 use super::fixture::{Meeting, NO_COMMAND, Outside, Row, end_as_they_should, run_line};
 use crate::Status;
@@ -93,21 +93,36 @@ fn searches_end_as_they_should(rt: HostRuntime) -> Result<(), Fail> {
     end_as_they_should(&rt, rt.alloc(), &NEARESTS, 7)
 }
 
+// Words for two workers, how often each comes to a first turn, and the text.
+const MEETINGS: [(&str, u64, &str); 3] = [
+    ("nearest A Q --workers 2", 1, "query 0\n1 0 4\n"),
+    (
+        "nearest A Q --workers 2 --segments 2 --certificate",
+        2,
+        CERTIFIED,
+    ),
+    (
+        "nearest A Q --workers 2 --segments 2 --certificate --sealed",
+        2,
+        CERTIFIED,
+    ),
+];
+
+const CERTIFIED: &str = "query 0\n1 0 4\nstart 1 4\nqueue 0\nqueue 1\n\
+    leaf 0 word 0:1,0:1 bound 10\nleaf 1 word 1:1,1:1 scanned\n";
+
 #[test]
-fn two_workers_meet_as_they_build(rt: HostRuntime) -> Result<(), Fail> {
-    let gate = Meeting::new();
-    let line = "nearest A Q --workers 2";
-    let ended = run_line(&rt, rt.alloc(), line, b"", Outside::sound(16), &gate)?;
-    assert_eq!(rt; ended.status, Status::Done, "two workers");
-    assert_eq!(rt;
-        ended.out.written(),
-        b"query 0\n1 0 4\n".as_slice(),
-        "two workers"
-    );
-    assert_eq!(rt;
-        gate.counts(),
-        (1, 1, 0),
-        "each came once, and nobody waited in vain"
-    );
+fn two_workers_meet_as_they_build_and_as_they_search(rt: HostRuntime) -> Result<(), Fail> {
+    for (line, times, text) in MEETINGS {
+        let gate = Meeting::new();
+        let ended = run_line(&rt, rt.alloc(), line, b"", Outside::sound(16), &gate)?;
+        assert_eq!(rt; ended.status, Status::Done, "{line}");
+        assert_eq!(rt; ended.out.written(), text.as_bytes(), "{line}");
+        assert_eq!(rt;
+            gate.counts(),
+            (times, times, 0),
+            "{line}: nobody waits in vain"
+        );
+    }
     Ok(())
 }

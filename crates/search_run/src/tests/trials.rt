@@ -5,6 +5,7 @@ use crate::Status;
 use outside::NoGate;
 use std::alloc::Global;
 use std::process::Abort;
+use std::sync::Wait;
 use std::test::Fail;
 use std::thread::Threads;
 
@@ -57,7 +58,7 @@ const GREAT: &str =
     "series 100000 length 256 queries 20 k 10\nanswers 200\ntotal 1592776822\nnumbers 10230297\n";
 
 // A trial of these words ends with this text.
-fn ends_with<H: Threads + Abort + Sync>(
+fn ends_with<H: Threads + Wait + Abort + Sync>(
     rt: &H,
     alloc: Global,
     line: &str,
@@ -105,6 +106,16 @@ fn a_great_trial_by_eight_workers(rt: HostRuntime) -> Result<(), Fail> {
         &rt,
         rt.alloc(),
         "trial 7 100000 256 20 --k 10 --workers 8 --queues 4",
+        GREAT,
+    )
+}
+
+#[test]
+fn a_great_trial_over_sealed_runs(rt: HostRuntime) -> Result<(), Fail> {
+    ends_with(
+        &rt,
+        rt.alloc(),
+        "trial 7 100000 256 20 --k 10 --workers 8 --queues 4 --sealed",
         GREAT,
     )
 }

@@ -6,6 +6,7 @@ use crate::{CertFault, Status, Which};
 use certificate::Reject;
 use outside::NoGate;
 use std::alloc::Global;
+use std::sync::Wait;
 use std::test::Fail;
 use std::thread::Threads;
 
@@ -189,7 +190,7 @@ const UNREAD: [(&str, Status, &str); 4] = [
 ];
 
 // Runs the words over this certificate, in pieces of 16 bytes.
-fn run_over<T: Threads + Sync>(
+fn run_over<T: Threads + Wait + Sync>(
     rt: &T,
     alloc: Global,
     line: &str,

@@ -165,28 +165,31 @@ fn drawn_windows_are_those_of_a_plain_choice(rt: HostRuntime) -> Result<(), Fail
     for length in 1..=9usize {
         let series = &values[..values.len().min(3 * length)];
         let bytes = raw(alloc, series)?;
-        for case in 0..100u32 {
+        for number in 0..100u32 {
+            let workers = [1, 2, 5][number as usize % 3];
             let case = Case {
                 values: series,
                 length,
-                step: case as usize % 5 + 1,
-                apart: case / 5 % 4 + 1,
-                k: case / 20 + 1,
+                step: number as usize % 5 + 1,
+                apart: number / 5 % 4 + 1,
+                k: number / 20 + 1,
             };
-            let line = format!(in alloc;
-                "windows C C {} --raw {length} --apart {} --k {} --leaf 2 --workers {}",
-                case.step, case.apart, case.k, case.k
-            )?;
-            let ended = run_line(
-                &rt,
-                alloc,
-                line.as_str(),
-                &bytes,
-                Outside::sound(64),
-                &NoGate,
-            )?;
             let text = case.text(alloc)?;
-            assert_eq!(rt; ended.out.written(), text.as_bytes(), "{line}");
+            for form in ["", " --sealed"] {
+                let line = format!(in alloc;
+                    "windows C C {} --raw {length} --apart {} --k {} --leaf 2 --workers {workers}{form}",
+                    case.step, case.apart, case.k
+                )?;
+                let ended = run_line(
+                    &rt,
+                    alloc,
+                    line.as_str(),
+                    &bytes,
+                    Outside::sound(64),
+                    &NoGate,
+                )?;
+                assert_eq!(rt; ended.out.written(), text.as_bytes(), "{line}");
+            }
         }
     }
     Ok(())

@@ -1,15 +1,12 @@
-use Rattle.std.proofs.Common.{List, ap, ◌∙◌, arith}
-use Rattle.isax_word.specs.declared.word.Part.{Part}
-use Rattle.subtree_build.specs.Index.{leaf_at, no_leaf}
-use Rattle.certificate.specs.declared.block.LeafLine.{LeafLine}
-use Rattle.certificate.specs.declared.block.Said.{Said}
+use Rattle.std.proofs.Common.{List, ℕ, ap, ◌++◌, ◌∙◌, arith}
+use Rattle.search_machine.specs.declared.outcome.Fate.TheVariants.{Start}
+use Rattle.subtree_build.specs.Index.{no_leaf}
 use Rattle.certificate.proofs.PrintedText.{leaves_step}
 use Rattle.certificate.proofs.printing.push_leaves.Goals as goal
 
 pub loop-l-preserved : goal.loop-l-preserved
 loop-l-preserved c =
-    let printed : LeafLine = record { word = c.leaf_word.result.now; said = c.said_of.result } in
-    leaves_step c.args.text.now.items c.loop-l.text.items c.push_leaf.new.text.items c.args.index.now.leaves c.args.fates.now
-    c.loop-l.l no_leaf _ (omega arith) c.requires c.loop-l.invariant printed c.in_ok-push_leaf.ensures
-    (ap (λ (w : List Part). record { word = w; said = c.said_of.result }) c.leaf_word.ensures
-    ∙ ap (λ (s : Said). record { word = (leaf_at c.args.index.now.leaves c.loop-l.l).word; said = s }) c.said_of.ensures)
+    leaves_step c.args.text.now.items c.loop-l.text.items c.extend_from_slice.new.self.items c.put_leaf.new.tail
+    c.args.index.now.leaves c.args.fates.now c.loop-l.l no_leaf Start (omega arith) c.requires c.loop-l.invariant
+    c.put_leaf.ensures
+    (c.in_ok-extend_from_slice.ensures.items ∙ ap (λ (t : List ℕ). c.loop-l.text.items ++ t) c.bytes.ensures)

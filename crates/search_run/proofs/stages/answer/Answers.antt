@@ -50,3 +50,11 @@ returns-in-Windows-clause-answers g c =
     let writing = wrote_to g.S.Sink.written g.S.Sink.faults g.S.Sink.sure c.args.out.now c.answer_windows.new.out in
     subst (λ command. Answers reading writing command (ended c.answer_windows.result)) (sym c.in-Windows.is)
     c.answer_windows.ensures.answers
+
+pub returns-in-Discord-clause-answers : goal.returns-in-Discord-clause-answers
+returns-in-Discord-clause-answers g c =
+    let reading = read_from g.F.Files.held g.F.Files.faults g.F.Files.misses g.F.Files.blamed c.args.files.now
+    c.answer_discord.new.files in
+    let writing = wrote_to g.S.Sink.written g.S.Sink.faults g.S.Sink.sure c.args.out.now c.answer_discord.new.out in
+    subst (λ command. Answers reading writing command (ended c.answer_discord.result)) (sym c.in-Discord.is)
+    c.answer_discord.ensures.answers

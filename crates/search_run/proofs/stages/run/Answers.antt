@@ -1,53 +1,71 @@
+use Rattle.std.specs.Prelude.{map, string_bytes}
 use Rattle.std.proofs.Common.{subst, sym}
 use Rattle.search_run.specs.Commands.{CanAnswer, plan_of}
 use Rattle.search_run.specs.Ends.{Finishes, IsFaultless}
 use Rattle.search_run.specs.Plans.{HasFault}
 use Rattle.search_run.specs.Traffic.{read_from, wrote_to}
+use Rattle.search_run.specs.Verified.{Certifies}
+use Rattle.search_run.proofs.Certifies.{answers_certify, none_done, only_done}
 use Rattle.search_run.proofs.Concluding.{answer_ends, answers_cause, answers_exactly, answers_faultless, answers_finish, answers_not_usage}
 use Rattle.search_run.proofs.stages.run.Goals as goal
 
 pub returns-in-Ok-clause-ends : goal.returns-in-Ok-clause-ends
 returns-in-Ok-clause-ends g c =
-    let answered = c.answer_and_tell.ensures.answers in
-    answer_ends _ _ _ c.in-Ok.command c.answer_and_tell.result c.in-Ok.ensures.asks
-    (answers_not_usage _ _ c.in-Ok.command c.answer_and_tell.result answered) answered
+    let answered = c.answer_either.ensures.answers in
+    answer_ends _ _ _ c.in-Ok.command c.answer_either.result c.in-Ok.ensures.asks
+    (answers_not_usage _ _ c.in-Ok.command c.answer_either.result answered) answered
 
 pub returns-in-Ok-clause-complete : goal.returns-in-Ok-clause-complete
 returns-in-Ok-clause-complete g c command can =
     let reading = read_from g.F.Files.held g.F.Files.faults g.F.Files.misses g.F.Files.blamed c.args.files.now
-    c.answer_and_tell.new.files in
-    let writing = wrote_to g.S.Sink.written g.S.Sink.faults g.S.Sink.sure c.args.out.now c.answer_and_tell.new.out in
+    c.answer_either.new.files in
+    let writing = wrote_to g.S.Sink.written g.S.Sink.faults g.S.Sink.sure c.args.out.now c.answer_either.new.out in
     let same = c.in-Ok.ensures.same command can.0 in
     let able = subst (CanAnswer reading.held) (sym same) can.1 in
     subst
     (λ asked. Finishes reading.held asked reading.faults reading.later writing.faults writing.later
-    c.answer_and_tell.result)
+    c.answer_either.result)
     same
-    (answers_finish reading writing c.in-Ok.command c.answer_and_tell.result c.answer_and_tell.ensures.answers able)
+    (answers_finish reading writing c.in-Ok.command c.answer_either.result c.answer_either.ensures.answers able)
 
 pub returns-in-Ok-clause-valid : goal.returns-in-Ok-clause-valid
 returns-in-Ok-clause-valid g c command can faultless =
     let reading = read_from g.F.Files.held g.F.Files.faults g.F.Files.misses g.F.Files.blamed c.args.files.now
-    c.answer_and_tell.new.files in
-    let writing = wrote_to g.S.Sink.written g.S.Sink.faults g.S.Sink.sure c.args.out.now c.answer_and_tell.new.out in
+    c.answer_either.new.files in
+    let writing = wrote_to g.S.Sink.written g.S.Sink.faults g.S.Sink.sure c.args.out.now c.answer_either.new.out in
     let same = c.in-Ok.ensures.same command can.0 in
     let able = subst (CanAnswer reading.held) (sym same) can.1 in
-    answers_faultless reading writing c.in-Ok.command c.answer_and_tell.result c.answer_and_tell.ensures.answers able
+    answers_faultless reading writing c.in-Ok.command c.answer_either.result c.answer_either.ensures.answers able
     (subst (IsFaultless reading.held) (sym same) faultless)
 
 pub returns-in-Ok-clause-exact : goal.returns-in-Ok-clause-exact
 returns-in-Ok-clause-exact g c command can fault has =
     let reading = read_from g.F.Files.held g.F.Files.faults g.F.Files.misses g.F.Files.blamed c.args.files.now
-    c.answer_and_tell.new.files in
-    let writing = wrote_to g.S.Sink.written g.S.Sink.faults g.S.Sink.sure c.args.out.now c.answer_and_tell.new.out in
+    c.answer_either.new.files in
+    let writing = wrote_to g.S.Sink.written g.S.Sink.faults g.S.Sink.sure c.args.out.now c.answer_either.new.out in
     let same = c.in-Ok.ensures.same command can.0 in
     let able = subst (CanAnswer reading.held) (sym same) can.1 in
-    answers_exactly reading writing c.in-Ok.command c.answer_and_tell.result c.answer_and_tell.ensures.answers able fault
+    answers_exactly reading writing c.in-Ok.command c.answer_either.result c.answer_either.ensures.answers able fault
     (subst (λ asked. HasFault reading.held (plan_of asked) fault) (sym same) has)
 
 pub returns-in-Ok-clause-cause : goal.returns-in-Ok-clause-cause
 returns-in-Ok-clause-cause g c =
     let reading = read_from g.F.Files.held g.F.Files.faults g.F.Files.misses g.F.Files.blamed c.args.files.now
-    c.answer_and_tell.new.files in
-    let writing = wrote_to g.S.Sink.written g.S.Sink.faults g.S.Sink.sure c.args.out.now c.answer_and_tell.new.out in
-    answers_cause reading writing c.in-Ok.command c.answer_and_tell.result c.answer_and_tell.ensures.answers
+    c.answer_either.new.files in
+    let writing = wrote_to g.S.Sink.written g.S.Sink.faults g.S.Sink.sure c.args.out.now c.answer_either.new.out in
+    answers_cause reading writing c.in-Ok.command c.answer_either.result c.answer_either.ensures.answers
+
+pub returns-in-Ok-clause-certifies : goal.returns-in-Ok-clause-certifies
+returns-in-Ok-clause-certifies g c command asks =
+    let reading = read_from g.F.Files.held g.F.Files.faults g.F.Files.misses g.F.Files.blamed c.args.files.now
+    c.answer_either.new.files in
+    let writing = wrote_to g.S.Sink.written g.S.Sink.faults g.S.Sink.sure c.args.out.now c.answer_either.new.out in
+    subst (λ asked. Certifies reading.held asked writing c.answer_either.result) (c.in-Ok.ensures.same command asks)
+    (answers_certify reading writing c.in-Ok.command c.answer_either.result c.in-Ok.ensures.limits
+    c.answer_either.ensures.answers)
+
+pub returns-in-Err-clause-certifies : goal.returns-in-Err-clause-certifies
+returns-in-Err-clause-certifies g c command asks =
+    only_done (g.F.Files.held c.args.files.now) command
+    (wrote_to g.S.Sink.written g.S.Sink.faults g.S.Sink.sure c.args.out.now c.args.out.now) c.in-Err.status
+    (none_done (map string_bytes c.args.words.now) c.in-Err.status c.in-Err.ensures.refused)

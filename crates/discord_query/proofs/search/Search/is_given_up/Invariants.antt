@@ -1,5 +1,5 @@
--- The walk over the members needs nothing of those that were passed.
+-- The walk over the leaves needs nothing of those that were passed.
 use Rattle.discord_query.proofs.search.Search.is_given_up.Given as goal
 
-abbrev pub invariant-loop-member : goal.invariant-loop-member
-invariant-loop-member g l = Unit {0}
+abbrev pub invariant-loop-step : goal.invariant-loop-step
+invariant-loop-step g l = Unit {0}

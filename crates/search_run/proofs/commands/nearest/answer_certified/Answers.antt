@@ -13,4 +13,4 @@ returns-clause-answers g c =
     let o = c.args.search.now.options.now in
     search_concludes _ (IsNearestPiece true o)
     reading writing _ c.args.search.now.series.now c.args.search.now.queries.now o c.answer_search.ensures.answers
-    (λ at i q made met. search rules) (certified_exists o c.requires)
+    (λ at i q made met. search rules) (certified_exists o c.requires.limits)

@@ -1,11 +1,9 @@
-use Rattle.std.proofs.Common.{rules, ◌≡◌, ◌*◌, ◌∙◌, ap, subst, IfOk, arith, length}
+use Rattle.std.proofs.Common.{◌≡◌, ◌*◌, ◌∙◌, ap, subst, IfOk, arith, length}
 use Rattle.std.proofs.lemmas.List.FromFn.{length-map-range_with_len}
-use Rattle.series_core.specs.Answer.{answer}
 use Rattle.series_core.specs.Collection.{Collection}
-use Rattle.series_core.specs.declared.best.TheConstants.{MAX_BEST}
 use Rattle.random_walks.specs.Walks.{state_at, walk_number, walks_from}
 use Rattle.search_run.specs.Trials.{answers_of, summary_lines, summed, trial_queries, trial_series}
-use Rattle.search_run.proofs.Short.{few_found}
+use Rattle.search_run.specs.declared.finding.Asking.{Asking}
 use Rattle.search_run.proofs.commands.trial.text_of.Goals as goal
 
 pub summary_of-requires-clause-few : goal.summary_of-requires-clause-few
@@ -13,11 +11,6 @@ summary_of-requires-clause-few g c =
     let trial = c.args.trial.now in
     let size = length-map-range_with_len (walk_number trial.length c.walks.new.rng) 0 trial.queries in
     omega (arith, ap (λ (d : Collection). length d.series) c.in_ok-asked.ensures.walks, size, c.requires.trial.queries_limit)
-
-pub summary_of-requires-clause-short : goal.summary_of-requires-clause-short
-summary_of-requires-clause-short g c =
-    λ q r met. few_found c.in_ok-series.series q.now c.args.trial.now.options.now.k MAX_BEST r
-    c.requires.options.k.1 (search rules)
 
 pub returns : goal.returns
 returns g c =
@@ -29,7 +22,8 @@ returns g c =
     c.in_ok-asked.ensures.walks
     ∙ ap (λ x. walks_from trial.length x trial.queries) c.in_ok-series.ensures.moved
     ∙ ap (λ x. walks_from trial.length (state_at x (trial.count * trial.length)) trial.queries) c.generator-rng.ensures in
-    let summary = c.in_ok-summary.ensures (λ q. answer c.in_ok-series.series q k) (λ q r met. search rules)
+    let summary = c.in_ok-summary.ensures
+    ∙ ap (λ (a : Asking). summed (answers_of c.in_ok-series.series a.k c.in_ok-asked.asked.series)) c.asking_of.ensures.asking
     ∙ ap (λ (d : Collection). summed (answers_of d k c.in_ok-asked.asked.series)) series
     ∙ ap (λ (d : Collection). summed (answers_of (trial_series trial.seed trial.count trial.length) k d.series)) asked in
     subst

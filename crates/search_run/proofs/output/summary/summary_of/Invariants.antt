@@ -1,13 +1,14 @@
-use Rattle.std.proofs.Common.{◌≡◌, ◌*◌, ◌^◌, ◌≤◌, List, map, take}
-use Rattle.std.specs.Prelude.{ℤ}
-use Rattle.series_core.specs.declared.pair.Pair.{Pair}
-use Rattle.search_run.specs.Trials.{FindsBy, summed}
+use Rattle.std.proofs.Common.{◌≡◌, ◌*◌, ◌^◌, ◌≤◌, take}
+use Rattle.search_run.specs.Batches.{AreRight}
+use Rattle.search_run.specs.Trials.{answers_of, summed}
 use Rattle.search_run.proofs.output.summary.summary_of.Given as goal
 
 abbrev pub invariant-loop-i : goal.invariant-loop-i
 invariant-loop-i g l = record {
-  summed : (found : List ℤ → List Pair) → FindsBy (goal.P-post g l.find) found
-      → l.summary ≡ summed (map found (take l.i (g.Q.Rows.collection l.queries).series));
+  ahead : AreRight g.R.Rows.collection l.batch l.ahead.items;
+  summed :
+      l.summary
+      ≡ summed (answers_of (g.R.Rows.collection l.batch.rows.now) l.batch.asking.k (take l.i l.batch.queries.now.series));
   few : l.summary.answers ≤ l.i * 1024;
   near : l.summary.distances ≤ l.i * (1024 * 2 ^ 64);
   low : l.summary.numbers ≤ l.i * (1024 * 2 ^ 32);

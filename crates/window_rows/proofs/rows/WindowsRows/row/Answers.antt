@@ -1,5 +1,5 @@
 use Rattle.std.proofs.Common.{◌≡◌, ◌*◌, ◌+◌, ◌-◌, arith, length}
-use Rattle.window_rows.proofs.Places.{entry_fits, place_counted, window_at}
+use Rattle.window_rows.proofs.Places.{entry_fits, place_counted, place_grows, window_at}
 use Rattle.window_rows.proofs.rows.WindowsRows.row.Goals as goal
 
 pub offset_bounds-self-inside-start : goal.offset_bounds-self-inside-start
@@ -10,8 +10,8 @@ offset_bounds-self-inside-start c =
 
 pub slice_bounds-result-end : goal.slice_bounds-result-end
 slice_bounds-result-end c =
-    entry_fits _ _ c.self.inside.step c.args.i _ c.self.view_is c.self.invariant.some_step
-    c.requires
+    let fits = entry_fits _ _ c.self.inside.step c.args.i _ c.self.view_is c.self.invariant.some_step c.requires in
+    omega (arith, fits, place_grows c.args.i c.self.inside.step c.self.invariant.some_step)
 
 pub returns : goal.returns
 returns c =

@@ -1,7 +1,7 @@
 use Rattle.std.proofs.Common.{◌≡◌, ℕ, List, Option, Some, None, true, refl}
 use Rattle.std.specs.Prelude.{IfSome, is_some}
 use Rattle.std.specs.Option.{option_copied}
-use Rattle.certificate.proofs.checking.check_block.Goals as goal
+use Rattle.certificate.proofs.checking.check_lines.Goals as goal
 
 -- what holds where there are labels
 with_labels : (labels : Option (List ℕ)) (X : Type 0) → (is_some labels ≡ true → X) → IfSome labels (λ _. X)
