@@ -72,12 +72,7 @@ impl<'a, R: Rows> Task<'a, R> {
     }
 
     // The leaves that may have a member within the limit, each once, those of least bound first.
-    fn near_leaves(
-        &self,
-        alloc: Global,
-        index: &Index,
-        limit: u64,
-    ) -> Result<Vec<Entry>, NoMemory>
+    fn near_leaves(&self, alloc: Global, index: &Index, limit: u64) -> Result<Vec<Entry>, NoMemory>
         requires fits { IndexFits self.now.collection self.now.layout index.now }
         ensures { let g = search_over self.now index.now 1 1 in
             IfOk result (λ es. AreNear g limit (λ l. once_below l (length index.now.leaves)) es.items) }
@@ -103,7 +98,7 @@ impl<'a, R: Rows> Task<'a, R> {
         requires root { i < length index.now.roots }
         ensures { (looked : ℕ → ℕ) → AreNear (search_over self.now index.now 1 1) limit looked entries.old.items
             → IfOk result (λ _. AreNear (search_over self.now index.now 1 1) limit
-              (λ l. looked l + times l (leaf_numbers (node_at index.now i))) entries.new.items) }
+            (λ l. looked l + times l (leaf_numbers (node_at index.now i))) entries.new.items) }
     {
         search_law(self, index);
         if index.root_bound(self.view(), i) > limit {
@@ -128,7 +123,7 @@ impl<'a, R: Rows> Task<'a, R> {
         requires leaf { leaf < length index.now.leaves }
         ensures { (looked : ℕ → ℕ) → AreNear (search_over self.now index.now 1 1) limit looked entries.old.items
             → IfOk result (λ _. AreNear (search_over self.now index.now 1 1) limit
-              (λ l. looked l + one_if_same l leaf) entries.new.items) }
+            (λ l. looked l + one_if_same l leaf) entries.new.items) }
     {
         let bound = self.leaf_bound(index, leaf);
         if bound > limit {

@@ -42,8 +42,8 @@ returns g c =
     let enough : last ground ≤ c.args.limit = omega (arith, c.search_law.ensures.last 1 1, c.requires.limit) in
     let whole : (l : ℕ) → l < length ix.leaves → (0 < times l met) ⊎ IsFar ground c.args.limit l
     = λ l real. let one = once_below_yes l (length ix.leaves) real in
-        subst (λ (ls : List ℕ). (0 < times l ls) ⊎ IsFar ground c.args.limit l) all
-        (c.requires.near.whole l (omega arith)) in
+    subst (λ (ls : List ℕ). (0 < times l ls) ⊎ IsFar ground c.args.limit l) all
+    (c.requires.near.whole l (omega arith)) in
     answer_met ground fits met c.args.limit c.loop-entry.list.pairs c.loop-entry.invariant.size enough
     c.loop-entry.invariant.sound whole
     ∙ c.search_law.ensures.answer 1 1
