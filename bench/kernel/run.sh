@@ -10,7 +10,7 @@ outside: thiserror
 list_totals:
 series_core: list_totals outside
 simd_distance: series_core
-kernel_bench: series_core simd_distance anyhow
+kernel_bench: outside series_core simd_distance anyhow
 LINES
 cd "$work/repository/crates/kernel_bench"
 rt run >"$work/build.log" 2>&1 || { cat "$work/build.log"; exit 1; }

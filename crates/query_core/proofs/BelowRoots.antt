@@ -26,7 +26,7 @@ use Rattle.search_machine.proofs.Counts.{equal_counts, others_count}
 use Rattle.search_machine.proofs.Places.{get_map}
 
 -- a number from a on, of n, stands there once
-times_range : (x a n : ℕ) → a ≤ x → times x (range_with_len a n) ≡ once_below x (a + n)
+pub times_range : (x a n : ℕ) → a ≤ x → times x (range_with_len a n) ≡ once_below x (a + n)
 times_range x a zero low = grind (arith, nat_tests)
 times_range x a (suc n) low = ⊎_elim
     (λ (e : x ≡ a). first e)

@@ -16,7 +16,7 @@ use Rattle.query_core.specs.Questions.{leaf_series, Question, CanBeSearched, IsM
 
 module _ (c : Collection) (layout : Layout) (ix : IndexParts) (fits : Fits c layout ix) where
   -- past the last leaf there are no members
-  home_is_leaf : (l s : ℕ) → 0 < times s (leaf_series ix l) → l < length ix.leaves
+  pub home_is_leaf : (l s : ℕ) → 0 < times s (leaf_series ix l) → l < length ix.leaves
   home_is_leaf l s some = ⊎_elim
       (λ (h : l < length ix.leaves). h)
       (λ (h : length ix.leaves ≤ l). absurd (past h))

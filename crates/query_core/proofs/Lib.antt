@@ -18,4 +18,8 @@ pub mod OfIndex
 pub mod Meeting
 pub mod StartScan
 pub mod Advancing
+pub mod Ranges
+pub mod Nearest
+pub mod LeavesNear
+pub mod FarRoots
 pub mod Sends

@@ -34,7 +34,7 @@ distance_small a s is low =
     omega (arith, far, series.points, is.collection.length_limit)
 
 -- the bound of a leaf is at most the distance of each of its members
-bound_is_low : (a : Question) (ix : IndexParts) (l s : ℕ) → CanBeSearched a ix → l < length ix.leaves
+pub bound_is_low : (a : Question) (ix : IndexParts) (l s : ℕ) → CanBeSearched a ix → l < length ix.leaves
     → 0 < times s (leaf_series ix l)
     → leaf_bound (view_in a) ix l ≤ squared_distance (series_at a.collection s) a.query
 bound_is_low a ix l s searched real some =

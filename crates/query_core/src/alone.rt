@@ -13,7 +13,7 @@ use crate::task::Task;
 use crate::team::Team;
 use outside::NoMemory;
 use search_machine::Outcome;
-use series_core::{PairList, Rows};
+use series_core::Rows;
 use std::alloc::Global;
 use subtree_build::Index;
 
@@ -34,22 +34,6 @@ pub fn one_worker<R: Rows>(
     search_law(task, index);
     let team = finished(alloc, task, index, queues)?;
     team.ended(alloc)
-}
-
-/// The answer alone, by the same search: the k nearest rows, without what an outcome has for a certificate.
-pub fn one_worker_answer<R: Rows>(
-    alloc: Global,
-    task: &Task<'_, R>,
-    index: &Index,
-    queues: u32,
-) -> Result<PairList, NoMemory>
-    requires fits { IndexFits task.now.collection task.now.layout index.now }
-    requires queues { (1 ≤ queues) × (queues ≤ 64) }
-    ensures { IfOk result (λ ps. ps ≡ answer task.now.collection task.now.query task.now.k) }
-{
-    search_law(task, index);
-    let team = finished(alloc, task, index, queues)?;
-    team.merged(alloc)
 }
 
 // The team of one worker that has come to its end.

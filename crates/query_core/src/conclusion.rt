@@ -52,8 +52,8 @@ pub fn conclude<R: Rows>(
     })
 }
 
-/// The k smallest pairs of all lists.
-pub(crate) fn merged<R: Rows>(
+// The k smallest pairs of all lists.
+fn merged<R: Rows>(
     alloc: Global,
     task: &Task<'_, R>,
     workers: &[Worker<'_, R>],

@@ -1,16 +1,15 @@
 //! What a team ends with: it tells its queues' lines, and concludes with them.
 ghost use Rattle.std.specs.Prelude.{◌≡◌, IfOk, map};
-ghost use Rattle.series_core.specs.Pairs.{smallest};
 ghost use Rattle.search_machine.specs.Machine.{State};
 ghost use Rattle.search_machine.specs.Outcome.{line_of, outcome};
-ghost use Rattle.query_core.specs.Teams.{StandsAt, all_lists, searched};
+ghost use Rattle.query_core.specs.Teams.{StandsAt, searched};
 
-use crate::conclusion::{conclude, merged};
+use crate::conclusion::conclude;
 use crate::team::Team;
 use leaf_queues::Queue;
 use outside::NoMemory;
 use search_machine::{EntryList, LineList, Outcome, QueueLine};
-use series_core::{PairList, Rows};
+use series_core::Rows;
 use std::alloc::Global;
 
 impl<'a, R: Rows> Team<'a, R> {
@@ -27,13 +26,6 @@ impl<'a, R: Rows> Team<'a, R> {
             &self.workers,
             lines,
         )
-    }
-
-    /// The k smallest pairs of all lists.
-    pub(crate) fn merged(&self, alloc: Global) -> Result<PairList, NoMemory>
-        ensures { IfOk result (λ ps. ps ≡ smallest self.now.question.k (all_lists self.now.workers)) }
-    {
-        merged(alloc, self.task, &self.workers)
     }
 }
 

@@ -3,11 +3,15 @@
 //! Its worker makes one call a turn on what the workers share, whatever that is: here it is held by one thread.
 #![tactic(auto)]
 
+mod all_rows;
 mod alone;
+mod answer;
 mod conclusion;
 mod ended;
 mod first_leaf;
+mod first_limit;
 mod index_laws;
+mod near_leaves;
 mod one_thread;
 mod opening;
 mod playing;
@@ -20,7 +24,8 @@ mod turn;
 mod walk;
 mod worker;
 
-pub use alone::{one_worker, one_worker_answer};
+pub use alone::one_worker;
+pub use answer::one_worker_answer;
 pub use conclusion::conclude;
 pub use index_laws::{index_law, search_law};
 pub use one_thread::OneThread;

@@ -1,6 +1,6 @@
 //! Scanning members: each is passed over by the bound of its means where that is above the limit or above the k-th pair, and
 //! else measured. A row that is passed over is not read.
-ghost use Rattle.std.specs.Prelude.{◌≡◌, ℕ, ◌-◌, min};
+ghost use Rattle.std.specs.Prelude.{◌≡◌, ℕ, ◌-◌, ◌<◌, min, length};
 ghost use Rattle.std.specs.List.{All};
 ghost use Rattle.series_core.specs.Best.{IsBest};
 ghost use Rattle.series_core.specs.Order.{distance_at};
@@ -50,7 +50,24 @@ impl<'a, R: Rows> Task<'a, R> {
         if self.means().bound(means) > most {
             return most;
         }
-        let number = member.number;
+        self.measure(member.number, limit, most, list)
+    }
+
+    /// Adds the pair of a series where its distance is above neither the limit nor the k-th pair, which is where it is at most
+    /// `most`, and tells what is then the most.
+    pub(crate) fn measure(&self, number: u32, limit: u64, most: u64, list: &mut KBest) -> u64
+        requires series { number < length self.now.collection.series }
+        requires k { list.old.k ≡ self.now.k }
+        requires sound { IsBest list.old }
+        requires most { most ≡ min limit (distance_at (list.old.k - 1) list.old.pairs) }
+        ensures k { list.new.k ≡ self.now.k }
+        ensures sound { IsBest list.new }
+        ensures most { result ≡ min limit (distance_at (list.new.k - 1) list.new.pairs) }
+        ensures pairs { (ix : IndexParts) (workers queues : ℕ) → list.new.pairs
+            ≡ scan_one (search_over self.now ix workers queues) limit number list.old.pairs }
+    {
+        // for the fact that the task is a question
+        let _k = self.k();
         let row = self.rows.row(number);
         let Some(distance) = distance_within(row, self.query, most) else {
             return most;
@@ -61,7 +78,7 @@ impl<'a, R: Rows> Task<'a, R> {
 }
 
 // The most that the distance of a pair may be that is added: the limit or the distance of the k-th pair.
-fn most_to_add(limit: u64, list: &KBest) -> u64
+pub(crate) fn most_to_add(limit: u64, list: &KBest) -> u64
     ensures most { result ≡ min limit (distance_at (list.now.k - 1) list.now.pairs) }
     ensures sound { IsBest list.now }
 {

@@ -18,7 +18,7 @@ use Rattle.search_machine.proofs.PlainList.{Known, answer_near, has_plain, last_
 use Rattle.search_machine.proofs.Pools.{Best, Pool, ascending_still, best_of, has_either, has_joined}
 
 -- the pairs that a scan takes are those of members that are near
-near_has : (g : Ground) (v : ℕ) (ss : List ℕ) (p : Pair) → In p (near g v ss)
+pub near_has : (g : Ground) (v : ℕ) (ss : List ℕ) (p : Pair) → In p (near g v ss)
     → (0 < times p.number ss) × (p ≡ pair_of g p.number)
 near_has g v [] p = λ h. absurd h
 near_has g v (s ∷ ss) p =
@@ -38,7 +38,7 @@ near_has g v (s ∷ ss) p =
     later r = let more = r.0 in (omega arith, r.1)
 
 -- each member that is near has its pair there
-has_near : (g : Ground) (v : ℕ) (ss : List ℕ) (s : ℕ) → 0 < times s ss → g.distance s ≤ v
+pub has_near : (g : Ground) (v : ℕ) (ss : List ℕ) (s : ℕ) → 0 < times s ss → g.distance s ≤ v
     → In (pair_of g s) (near g v ss)
 has_near g v [] s member low = absurd (omega arith)
 has_near g v (t ∷ ts) s member low =
@@ -69,10 +69,10 @@ near_none g fits (s ∷ ss) real =
     (near_none g fits ss (λ t h. real t (omega arith)))
 
 -- members that are different series, none of them in the list
-record Fresh (g : Ground) (ss : List ℕ) (ps : List Pair) : Type 0 where
-  real : (s : ℕ) → 0 < times s ss → s < g.count
-  distinct : (s : ℕ) → times s ss ≤ 1
-  new : (p : Pair) → In p ps → times p.number ss ≡ 0
+pub record Fresh (g : Ground) (ss : List ℕ) (ps : List Pair) : Type 0 where
+  pub real : (s : ℕ) → 0 < times s ss → s < g.count
+  pub distinct : (s : ℕ) → times s ss ≤ 1
+  pub new : (p : Pair) → In p ps → times p.number ss ≡ 0
 
 -- one more member's pair is none of those of the other members and of the list
 new_near : (g : Ground) (v s : ℕ) (ss : List ℕ) (ps : List Pair) → Fresh g (s ∷ ss) ps
@@ -111,7 +111,7 @@ different_near g v (s ∷ ss) ps fresh up =
     (λ _. rest)
 
 -- the near members' pairs and those of the list are a pool
-scan_pool : (g : Ground) (v : ℕ) (ss : List ℕ) (ps : List Pair) → Fresh g ss ps → Known g ps
+pub scan_pool : (g : Ground) (v : ℕ) (ss : List ℕ) (ps : List Pair) → Fresh g ss ps → Known g ps
     → Pool g (near g v ss ++ ps)
 scan_pool g v ss ps fresh k = record {
   different = different_near g v ss ps fresh k.ascending;

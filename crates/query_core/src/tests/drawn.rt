@@ -1,14 +1,14 @@
 //! Random small collections with many equal distances: the pairs are those of a plain sort, whatever the schedule.
 ghost use Rattle.std.specs.Prelude.{◌≡◌, ◌*◌, ◌≤◌, IfOk, vec_len};
 
-use crate::{Fate, Outcome, Task, one_worker, replay};
+use crate::{Fate, Outcome, Task, one_worker, one_worker_answer, replay};
 use breakpoints::Table;
 use isax_word::Layout;
 use outside::{NoGate, NoMemory};
 use rand_xoshiro::SplitMix64;
 use rand_xoshiro::rand_core::{Rng, SeedableRng};
 use segment_sums::Cuts;
-use series_core::{Flat, Rows};
+use series_core::{Flat, Pair, Rows};
 use std::alloc::Global;
 use std::test::*;
 use std::thread::Threads;
@@ -82,7 +82,7 @@ fn plain_distance(x: &[i16], q: &[i16]) -> u64 {
 }
 
 /// The k nearest, by distance and then by number.
-fn plain_nearest(
+pub(crate) fn plain_nearest(
     alloc: Global,
     rows: &Flat,
     query: &[i16],
@@ -108,12 +108,17 @@ fn is_right(outcome: &Outcome, pairs: &[(u64, u32)], leaves: u32) -> bool {
     if outcome.fates.items.len() != leaves as usize || starts != leaves.min(1) {
         return false;
     }
-    for (pair, (distance, number)) in outcome.pairs.items.iter().zip(pairs) {
+    are_same(&outcome.pairs.items, pairs)
+}
+
+/// Whether the pairs are these.
+pub(crate) fn are_same(found: &[Pair], pairs: &[(u64, u32)]) -> bool {
+    for (pair, (distance, number)) in found.iter().zip(pairs) {
         if pair.distance != *distance || pair.number != *number {
             return false;
         }
     }
-    outcome.pairs.items.len() == pairs.len()
+    found.len() == pairs.len()
 }
 
 /// Drawn turns, and then each worker's turns until it is surely done.
@@ -173,12 +178,14 @@ fn agree<T: Threads + Sync>(
     let task = Task::new(rows, query, k, &layout);
     let nearest = plain_nearest(alloc, rows, query, k)?;
     let alone = one_worker(alloc, &task, &index, queues)?;
+    let answer = one_worker_answer(alloc, &task, &index, queues)?;
     let schedule = drawn_schedule(alloc, rng, shape, index.leaf_count())?;
     let Ok(played) = replay(alloc, &task, &index, workers, queues, &schedule) else {
         return Err(NoMemory);
     };
     let leaves = index.leaf_count();
-    Ok(is_right(&alone, &nearest, leaves) && is_right(&played, &nearest, leaves))
+    let same = are_same(&answer.items, &nearest);
+    Ok(same && is_right(&alone, &nearest, leaves) && is_right(&played, &nearest, leaves))
 }
 
 #[test]

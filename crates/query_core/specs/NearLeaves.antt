@@ -1,0 +1,29 @@
+-- The leaves that may have a member within a limit, as entries.
+use Rattle.std.specs.Prelude.{ℕ, ◌<◌, ◌≤◌, ◌⊎◌, List, map}
+use Rattle.std.specs.List.{All}
+use Rattle.list_totals.specs.Totals.{times}
+use Rattle.series_core.specs.declared.queue_words.Entry.{Entry}
+use Rattle.search_machine.specs.Ground.{Ground}
+
+-- the leaves of entries
+abbrev pub leaves_in : List Entry → List ℕ
+leaves_in es = map (λ e. e.leaf) es
+
+-- no member of leaf l is nearer than a bound
+abbrev pub IsBelowLeaf : Ground → ℕ → ℕ → Type 0
+IsBelowLeaf g l bound = (s : ℕ) → 0 < times s (g.members l) → bound ≤ g.distance s
+
+-- each member of leaf l is farther than v
+abbrev pub IsFar : Ground → ℕ → ℕ → Type 0
+IsFar g v l = (s : ℕ) → 0 < times s (g.members l) → v < g.distance s
+
+-- an entry of a leaf, none of whose members is nearer than the entry's bound
+pub record IsLeafEntry (g : Ground) (e : Entry) : Type 0 where
+  pub leaf : e.leaf < g.leaves
+  pub low : IsBelowLeaf g e.leaf e.bound
+
+-- entries of leaves that were looked at, each no more often than it was; one that is not among them is farther than v
+pub record AreNear (g : Ground) (v : ℕ) (looked : ℕ → ℕ) (es : List Entry) : Type 0 where
+  pub entries : All (IsLeafEntry g) es
+  pub once : (l : ℕ) → times l (leaves_in es) ≤ looked l
+  pub whole : (l : ℕ) → 0 < looked l → (0 < times l (leaves_in es)) ⊎ IsFar g v l

@@ -1,0 +1,47 @@
+//! The answer alone: a search by one worker that owes the pairs and nothing of the way to them. It takes no turns: a first limit
+//! is found, and then the leaves near enough are scanned, or all rows where means tell too little.
+ghost use Rattle.std.specs.Prelude.{◌≡◌, ◌≤◌, IfOk};
+ghost use Rattle.series_core.specs.Answer.{answer};
+ghost use Rattle.subtree_build.specs.Fits.{Fits as IndexFits};
+
+use crate::index_laws::search_law;
+use crate::task::Task;
+use outside::NoMemory;
+use series_core::{KBest, PairList, Rows};
+use std::alloc::Global;
+use subtree_build::Index;
+
+/// The answer alone, the k nearest rows, without what an outcome has for a certificate. One worker needs no queues, so
+/// it is the same for any number of them.
+pub fn one_worker_answer<R: Rows>(
+    alloc: Global,
+    task: &Task<'_, R>,
+    index: &Index,
+    queues: u32,
+) -> Result<PairList, NoMemory>
+    requires fits { IndexFits task.now.collection task.now.layout index.now }
+    requires queues { (1 ≤ queues) × (queues ≤ 64) }
+    ensures { IfOk result (λ ps. ps ≡ answer task.now.collection task.now.query task.now.k) }
+{
+    let _ = queues;
+    let list = task.nearest(alloc, index)?;
+    Ok(PairList {
+        items: list.pairs().to_vec(alloc)?,
+    })
+}
+
+impl<'a, R: Rows> Task<'a, R> {
+    // The list of the answer: by leaves where means tell series apart, and else by all rows.
+    fn nearest(&self, alloc: Global, index: &Index) -> Result<KBest, NoMemory>
+        requires fits { IndexFits self.now.collection self.now.layout index.now }
+        ensures { IfOk result (λ best. best.pairs ≡ answer self.now.collection self.now.query self.now.k) }
+    {
+        search_law(self, index);
+        let limit = self.first_limit(alloc, index)?;
+        if self.means_tell(index, limit) {
+            self.nearest_by_leaves(alloc, index, limit)
+        } else {
+            self.nearest_by_rows(alloc, limit)
+        }
+    }
+}

@@ -1,0 +1,145 @@
+//! The leaves that may have a member within a limit, each with its bound, and the answer by them.
+//! In which order they are scanned changes how many are passed over, and never what is found.
+ghost use Rattle.std.specs.Prelude.{◌≡◌, ℕ, ◌+◌, ◌<◌, ◌≤◌, ◌++◌, ◌∷◌, List, [], IfOk, length};
+ghost use Rattle.list_totals.specs.Totals.{once_below, one_if_same, times};
+ghost use Rattle.series_core.specs.Answer.{answer};
+ghost use Rattle.subtree_build.specs.Fits.{Fits as IndexFits};
+ghost use Rattle.subtree_build.specs.Outline.{leaf_numbers};
+ghost use Rattle.subtree_build.specs.Start.{node_at};
+ghost use Rattle.search_machine.specs.Sound.{ListSound};
+ghost use Rattle.query_core.specs.NearLeaves.{AreNear, IsBelowLeaf, IsLeafEntry};
+ghost use Rattle.query_core.specs.Questions.{last_of, search_over};
+
+use crate::index_laws::search_law;
+use crate::scan::distance_of_worst;
+use crate::task::Task;
+use outside::NoMemory;
+use series_core::{Entry, KBest, Rows};
+use std::alloc::Global;
+use subtree_build::Index;
+
+impl<'a, R: Rows> Task<'a, R> {
+    /// The list of the answer, by the leaves that may have a member within the limit.
+    pub(crate) fn nearest_by_leaves(
+        &self,
+        alloc: Global,
+        index: &Index,
+        limit: u64,
+    ) -> Result<KBest, NoMemory>
+        requires fits { IndexFits self.now.collection self.now.layout index.now }
+        requires limit { last_of self.now ≤ limit }
+        ensures { IfOk result (λ best. best.pairs ≡ answer self.now.collection self.now.query self.now.k) }
+    {
+        let entries = self.near_leaves(alloc, index, limit)?;
+        let mut list = KBest::new(alloc, self.k())?;
+        self.scan_leaves(index, &entries, limit, &mut list);
+        Ok(list)
+    }
+
+    // Scans the leaves of these entries into an empty list. One whose bound is above the k-th pair so far is passed over.
+    fn scan_leaves(&self, index: &Index, entries: &[Entry], limit: u64, list: &mut KBest)
+        requires fits { IndexFits self.now.collection self.now.layout index.now }
+        requires limit { last_of self.now ≤ limit }
+        requires near { let g = search_over self.now index.now 1 1 in
+            AreNear g limit (λ l. once_below l (length index.now.leaves)) entries.now }
+        requires list { list.old ≡ record { k = self.now.k; pairs = [] } }
+        ensures { list.new.pairs ≡ answer self.now.collection self.now.query self.now.k }
+    {
+        search_law(self, index);
+        for entry in entries {
+            self.scan_entry(index, entry, limit, list);
+        }
+    }
+
+    // Scans the leaf of an entry where the entry's bound is not above the k-th pair so far.
+    fn scan_entry(&self, index: &Index, entry: &Entry, limit: u64, list: &mut KBest)
+        requires fits { IndexFits self.now.collection self.now.layout index.now }
+        requires limit { last_of self.now ≤ limit }
+        requires entry { IsLeafEntry (search_over self.now index.now 1 1) entry.now }
+        requires k { list.old.k ≡ self.now.k }
+        ensures k { list.new.k ≡ self.now.k }
+        ensures size { length list.old.pairs ≤ self.now.k → length list.new.pairs ≤ self.now.k }
+        ensures met { (met : List ℕ) → times entry.now.leaf met ≡ 0
+            → ListSound (search_over self.now index.now 1 1) met list.old.pairs
+            → ListSound (search_over self.now index.now 1 1) (met ++ entry.now.leaf ∷ []) list.new.pairs }
+    {
+        search_law(self, index);
+        if entry.bound > distance_of_worst(list) {
+            return;
+        }
+        let members = index.leaf_members(entry.leaf);
+        self.scan(members, index.leaf_means(entry.leaf), limit, list);
+    }
+
+    // The leaves that may have a member within the limit, each once, those of least bound first.
+    fn near_leaves(&self, alloc: Global, index: &Index, limit: u64) -> Result<Vec<Entry>, NoMemory>
+        requires fits { IndexFits self.now.collection self.now.layout index.now }
+        ensures { let g = search_over self.now index.now 1 1 in
+            IfOk result (λ es. AreNear g limit (λ l. once_below l (length index.now.leaves)) es.items) }
+    {
+        search_law(self, index);
+        let mut entries = Vec::new(alloc);
+        for i in 0..index.root_count() {
+            self.add_leaves(index, i, limit, &mut entries)?;
+        }
+        entries.sort_unstable_by_key(|entry| entry.bound);
+        Ok(entries)
+    }
+
+    // Adds the leaves below root child number `i` whose bound is not above the limit.
+    fn add_leaves(
+        &self,
+        index: &Index,
+        i: u32,
+        limit: u64,
+        entries: &mut Vec<Entry>,
+    ) -> Result<(), NoMemory>
+        requires fits { IndexFits self.now.collection self.now.layout index.now }
+        requires root { i < length index.now.roots }
+        ensures { (looked : ℕ → ℕ) → AreNear (search_over self.now index.now 1 1) limit looked entries.old.items
+            → IfOk result (λ _. AreNear (search_over self.now index.now 1 1) limit
+            (λ l. looked l + times l (leaf_numbers (node_at index.now i))) entries.new.items) }
+    {
+        search_law(self, index);
+        if index.root_bound(self.view(), i) > limit {
+            return Ok(());
+        }
+        let (first, end) = index.root_leaves(i);
+        for leaf in first..end {
+            self.add_leaf(index, leaf, limit, entries)?;
+        }
+        Ok(())
+    }
+
+    // Adds the leaf where its bound is not above the limit.
+    fn add_leaf(
+        &self,
+        index: &Index,
+        leaf: u32,
+        limit: u64,
+        entries: &mut Vec<Entry>,
+    ) -> Result<(), NoMemory>
+        requires fits { IndexFits self.now.collection self.now.layout index.now }
+        requires leaf { leaf < length index.now.leaves }
+        ensures { (looked : ℕ → ℕ) → AreNear (search_over self.now index.now 1 1) limit looked entries.old.items
+            → IfOk result (λ _. AreNear (search_over self.now index.now 1 1) limit
+            (λ l. looked l + one_if_same l leaf) entries.new.items) }
+    {
+        let bound = self.leaf_bound(index, leaf);
+        if bound > limit {
+            return Ok(());
+        }
+        entries.push(Entry { bound, leaf })?;
+        Ok(())
+    }
+
+    // A bound that is above the distance of no member of the leaf.
+    fn leaf_bound(&self, index: &Index, leaf: u32) -> u64
+        requires fits { IndexFits self.now.collection self.now.layout index.now }
+        requires leaf { leaf < length index.now.leaves }
+        ensures { IsBelowLeaf (search_over self.now index.now 1 1) leaf result }
+    {
+        search_law(self, index);
+        self.view().bound_word(index.leaf_word(leaf))
+    }
+}

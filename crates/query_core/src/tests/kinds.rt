@@ -1,0 +1,120 @@
+//! Small collections of every kind of data, of lengths below and above 128: the answer alone is that of a plain sort.
+use crate::tests::drawn::{are_same, plain_nearest};
+use crate::{Task, one_worker_answer};
+use breakpoints::Table;
+use isax_word::Layout;
+use outside::{NoGate, NoMemory};
+use rand_xoshiro::SplitMix64;
+use rand_xoshiro::rand_core::{Rng, SeedableRng};
+use segment_sums::Cuts;
+use series_core::{Flat, Rows};
+use std::alloc::Global;
+use std::test::*;
+use std::thread::Threads;
+use subtree_build::{Settings, build};
+
+/// What the values of a series are like.
+#[derive(Clone, Copy, Debug)]
+enum Kind {
+    Walk,
+    Noise,
+    Resonance,
+    Constant,
+}
+
+/// The value after these two.
+fn next_value(kind: Kind, rng: &mut SplitMix64, last: i32, before: i32) -> i32 {
+    let drawn = (rng.next_u32() >> 16) as i32 - 32768;
+    let value = match kind {
+        Kind::Walk => last.wrapping_add(drawn / 128),
+        Kind::Noise => drawn,
+        Kind::Resonance => {
+            let swing = last
+                .wrapping_mul(1900)
+                .wrapping_sub(before.wrapping_mul(1000));
+            (swing / 1024).wrapping_add(drawn / 16)
+        }
+        Kind::Constant => last,
+    };
+    value.clamp(-32768, 32767)
+}
+
+/// So many series of so many values.
+fn values_of(
+    alloc: Global,
+    rng: &mut SplitMix64,
+    kind: Kind,
+    count: u32,
+    length: u32,
+) -> Result<Vec<i16>, NoMemory> {
+    let mut values = Vec::new(alloc);
+    for _series in 0..count {
+        let mut before = 0;
+        let mut last = (rng.next_u32() % 7) as i32 * 1000;
+        for _place in 0..length {
+            let value = next_value(kind, rng, last, before);
+            before = last;
+            last = value;
+            values.push(value.clamp(-32768, 32767) as i16)?;
+        }
+    }
+    Ok(values)
+}
+
+/// Whether the answers to each of the last two series, by an index of the others, are those of a plain sort.
+fn agree<T: Threads + Sync>(
+    rt: &T,
+    alloc: Global,
+    values: Vec<i16>,
+    length: u32,
+    k: u32,
+) -> Result<bool, NoMemory> {
+    if length < 1 || length > 65536 || k < 1 || k > 1024 {
+        return Err(NoMemory);
+    }
+    let n = length as usize;
+    if values.len() % n != 0 || values.len() > 16777216 {
+        return Err(NoMemory);
+    }
+    let rows = Flat::from_values(length, values);
+    let layout = Layout {
+        cuts: Cuts::new(length, length.min(16)),
+        table: Table::Bent,
+    };
+    let settings = Settings {
+        layout,
+        leaf_size: 8,
+    };
+    let index = build(rt, alloc, &rows, &settings, 1, &NoGate)?;
+    for number in 0..rows.count().min(3) {
+        let mut query = rows.row(number).to_vec(alloc)?;
+        for value in &mut query {
+            *value = value.wrapping_add(3);
+        }
+        if query.len() != n {
+            return Err(NoMemory);
+        }
+        let task = Task::new(&rows, &query, k, &layout);
+        let found = one_worker_answer(alloc, &task, &index, 1)?;
+        if !are_same(&found.items, &plain_nearest(alloc, &rows, &query, k)?) {
+            return Ok(false);
+        }
+    }
+    Ok(true)
+}
+
+#[test]
+fn every_kind_of_data(rt: HostRuntime) -> Result<(), Fail> {
+    let alloc = rt.alloc();
+    let mut rng = SplitMix64::seed_from_u64(5);
+    for kind in [Kind::Walk, Kind::Noise, Kind::Resonance, Kind::Constant] {
+        for (length, k) in [(1, 2), (5, 1), (100, 40), (130, 10), (260, 3)] {
+            let values = values_of(alloc, &mut rng, kind, 60, length)?;
+            assert!(rt;
+                agree(&rt, alloc, values, length, k)?,
+                "{k} of 60 series of {length} values, {kind:?}"
+            );
+        }
+    }
+    Ok(())
+}
