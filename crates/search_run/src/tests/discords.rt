@@ -7,7 +7,12 @@ use std::test::Fail;
 
 // Words, and the status, the text and the line of their run.
 const DISCORDS: [Row; 14] = [
-    ("discord A --k 2", Status::Done, "1 2 400 0\n2 0 200 3\n", ""),
+    (
+        "discord A --k 2",
+        Status::Done,
+        "1 2 400 0\n2 0 200 3\n",
+        "",
+    ),
     ("discord A2", Status::Done, "1 2 400 0\n", ""),
     (
         "discord steps --raw 1 --workers 1",
