@@ -4,7 +4,6 @@ pub mod Digits
 pub mod Fronts
 pub mod Seen
 pub mod Numbers
-pub mod SmallNumbers
 pub mod PartTexts
 pub mod PrintedText
 pub mod Certified

@@ -97,7 +97,13 @@ fn check_missed<R: Rows>(
     ensures { refusal_of result ≡ block_misses (R.collection rows.now) k b query.now block.now }
 {
     if missed {
-        check_misses(rows, b, query, last_answer(rows, k, block.pairs()), block.pairs())
+        check_misses(
+            rows,
+            b,
+            query,
+            last_answer(rows, k, block.pairs()),
+            block.pairs(),
+        )
     } else {
         Ok(())
     }

@@ -78,26 +78,4 @@ impl LineText {
         let mut buffer = Buffer::new();
         self.push(buffer.format(n));
     }
-
-    /// Appends a number of one byte in decimals, digit by digit.
-    #[tactic(auto, using(crate::proofs::SmallNumbers::one_digit_text, crate::proofs::SmallNumbers::two_digits_text, crate::proofs::SmallNumbers::three_digits_text))]
-    pub fn push_small(&mut self, n: u8)
-        requires { length self.old + 3 ≤ ROOM }
-        ensures text { self.new ≡ self.old ++ decimal n }
-        ensures limit { length self.new ≤ length self.old + 3 }
-    {
-        let tens = n / 10;
-        if tens >= 10 {
-            self.push_byte(b'0' + tens / 10);
-            self.push_byte(b'0' + tens % 10);
-            self.push_byte(b'0' + n % 10);
-            return;
-        }
-        if tens > 0 {
-            self.push_byte(b'0' + tens);
-            self.push_byte(b'0' + n % 10);
-            return;
-        }
-        self.push_byte(b'0' + n);
-    }
 }

@@ -21,7 +21,7 @@ loop-put-preserved c =
       text = parts_step c.args.tail.now c.loop-put.tail c.put_part.new.tail c.args.word.now
           (segments - 1 - c.loop-put.put) (segments - c.loop-put.put) no_part
           (omega (arith, c.segments-segments.ensures.value)) (omega arith) c.loop-put.invariant.text c.put_part.ensures.text
-      ∙ ap (λ n. parts_text (drop n c.args.word.now) ++ c.args.tail.now) place;
+          ∙ ap (λ n. parts_text (drop n c.args.word.now) ++ c.args.tail.now) place;
       room = omega arith;
     }
 

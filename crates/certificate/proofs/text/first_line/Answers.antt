@@ -8,7 +8,8 @@ use Rattle.certificate.proofs.text.first_line.Goals as goal
 pub returns-in-Some-clause-lines : goal.returns-in-Some-clause-lines
 returns-in-Some-clause-lines c =
     let text = c.args.text.now in
-    cut_line text c.in-Some.i (omega (arith, c.in-Some.ensures.0.high)) (λ k below feed. c.in-Some.ensures.0.before k (omega arith) below (eq-eqb (get_or text k 0) 10 feed))
+    cut_line text c.in-Some.i (omega (arith, c.in-Some.ensures.0.high))
+    (λ k below feed. c.in-Some.ensures.0.before k (omega arith) below (eq-eqb (get_or text k 0) 10 feed))
     (eqb-true (get_or text c.in-Some.i 0) 10 c.in-Some.ensures.1)
     ∙ ap (λ (t : List ℕ). t ∷ lines_of (drop (c.in-Some.i + 1) text)) (sym c.split_at.ensures.front)
     ∙ ap (λ (t : List ℕ). c.split_at.result.0.now ∷ lines_of t) (sym c.split_at.ensures.back)
