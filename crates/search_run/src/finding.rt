@@ -98,7 +98,7 @@ pub fn sealed<T: Threads + Sync, R: Rows + Sync, G: Gate + Sync>(
     )
 }
 
-/// The same over queues with locks: the workers of a team may wait for one another.
+/// The same where a command may wait: the place of a search over queues with locks. Until there is one it goes by sealed runs.
 pub fn locked<T: Threads + Wait + Sync, R: Rows + Sync, G: Gate + Sync>(
     crew: &Crew<'_, T, G>,
     rows: &R,
