@@ -1,0 +1,82 @@
+-- Searchers over locked queues before, in and after a part, and the histories of the queues.
+use Rattle.std.specs.Prelude.{◌≡◌, ℕ, ◌+◌, ◌<◌, ◌∷◌, List, [], Option, None, Vec, Some, length, map, slice_get, slice_index_or}
+use Rattle.std.specs.Global.{Global}
+use Rattle.claim_word.specs.Passes.{Pass}
+use Rattle.best_word.specs.Passes.{Best}
+use Rattle.leaf_queues.specs.PlainQueue.{PlainQueue}
+use Rattle.turn_lock.specs.History.{calls_by}
+use Rattle.turn_lock.specs.Passes.{IsNewPass, callers_of, opening_of}
+use Rattle.queue_histories.specs.Histories.{History, Leads}
+use Rattle.queue_histories.specs.Callers.{CalledBelow}
+use Rattle.query_core.specs.Working.{Working}
+use Rattle.live_query.specs.declared.searcher.Searcher.{Searcher}
+use Rattle.live_query.specs.LockHands.{LockKept, QueueLock, QueuePass, calls_of}
+use Rattle.live_query.specs.LockKnowing.{LocksOn}
+
+-- a row of passes
+abbrev pub Row : Type 0
+Row = Vec QueuePass Global
+
+-- the first pass was taken from each of these rows
+pub record AreFronts (old : List Row) (fronts : List QueuePass) (new : List Row) : Type 0 where
+  pub count : length fronts ≡ length old
+  pub same : length new ≡ length old
+  pub each : (j : ℕ) (p : QueuePass) (rest : Row) (row : Row) → slice_get old j ≡ Some row
+      → slice_get fronts j ≡ Some p → slice_get new j ≡ Some rest → row.items ≡ p ∷ rest.items
+
+-- the passes of a lock with the numbers from n on, so many as callers
+pub record DealtFrom (lock : QueueLock) (n : ℕ) (row : List QueuePass) : Type 0 where
+  pub count : n + length row ≡ callers_of lock
+  pub each : (j : ℕ) (p : QueuePass) → slice_get row j ≡ Some p → IsNewPass lock (n + j) p
+
+-- a row of passes for each lock
+pub record AreDealt (locks : List QueueLock) (n : ℕ) (rows : List Row) : Type 0 where
+  pub count : length rows ≡ length locks
+  pub each : (m : ℕ) (k : QueueLock) (row : Row) → slice_get locks m ≡ Some k → slice_get rows m ≡ Some row
+      → DealtFrom k n row.items
+
+-- the passes in row i have the number i
+abbrev pub AreNumbered : List Row → Type 0
+AreNumbered rows =
+    (i m : ℕ) (row : Row) (p : QueuePass) → slice_get rows i ≡ Some row → slice_get row.items m ≡ Some p
+    → p.number ≡ i
+
+-- the calls of pass m in row i, where there is one
+abbrev pub calls_in_row : Option Row → ℕ → History
+calls_in_row None m = []
+calls_in_row (Some row) m = calls_of (slice_get row.items m)
+
+abbrev pub calls_in : List Row → ℕ → ℕ → History
+calls_in rows i m = calls_in_row (slice_get rows i) m
+
+-- locks round these queues, for so many callers
+pub record AreRound (queues : List PlainQueue) (callers : ℕ) (locks : List QueueLock) : Type 0 where
+  pub openings : map opening_of locks ≡ queues
+  pub each : (m : ℕ) (k : QueueLock) → slice_get locks m ≡ Some k → callers_of k ≡ callers
+
+-- one history of calls leads from a queue to what it is later; it has calls of so many callers alone, and those of each are these
+pub record WentBy (callers : ℕ) (calls : ℕ → History) (q r : PlainQueue) : Type 0 where
+  pub log : History
+  pub leads : Leads q log r
+  pub callers_only : CalledBelow callers log
+  pub own : (i : ℕ) → i < callers → calls_by i log ≡ calls i
+
+-- what a searcher keeps between the parts: its pass of the claims, the bound word, and what no limit is below
+pub record Held : Type 0 where
+  pub claim : Pass
+  pub best : Best
+  pub floor : ℕ
+
+-- a searcher between the parts, and one in a part
+abbrev pub Between : Type 0
+Between = Searcher Working Held
+
+abbrev pub Locking : Type 0
+Locking = Searcher Working LockKept
+
+-- each searcher at its place, before some turns and after them
+abbrev pub AllLocksOn : List Locking → List Locking → Type 0
+AllLocksOn old new =
+    (i : ℕ) (d : Locking) → i < length old
+    → LocksOn (slice_index_or old i d).worker (slice_index_or old i d).hand
+    (slice_index_or new i d).worker (slice_index_or new i d).hand
