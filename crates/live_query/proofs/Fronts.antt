@@ -1,5 +1,5 @@
 -- Taking the first pass of each row, row by row (`fronts_more`).
-use Rattle.std.proofs.Common.{◌≡◌, ℕ, zero, suc, ◌+◌, ◌<◌, ◌≤◌, ◌⊎◌, List, [], ◌∷◌, ◌++◌, Some, length, set, refl, sym, ap, ◌∙◌, subst, inl, inr, ⊎_elim, length-append, arith}
+use Rattle.std.proofs.Common.{◌≡◌, ℕ, zero, suc, ◌+◌, ◌<◌, ◌≤◌, ◌⊎◌, List, [], ◌∷◌, ◌++◌, Some, length, set, refl, sym, ap, ◌∙◌, subst, inl, inr, ⊎_elim, length-append, get_or, take, drop, arith}
 use Rattle.std.specs.Prelude.{slice_get}
 use Rattle.std.proofs.lemmas.Option.{none-some, same_Some, slice_get_within}
 use Rattle.search_machine.proofs.Places.{get_set_other, get_set_same}
@@ -22,7 +22,7 @@ none_taken rows = record {
 }
 
 -- what stands at a place of a list with one more
-at_push : {X : Type 0} (xs : List X) (x y : X) (j : ℕ) → slice_get (xs ++ x ∷ []) j ≡ Some y
+pub at_push : {X : Type 0} (xs : List X) (x y : X) (j : ℕ) → slice_get (xs ++ x ∷ []) j ≡ Some y
     → (slice_get xs j ≡ Some y) ⊎ ((j ≡ length xs) × (x ≡ y))
 at_push [] x y zero e = inr (refl, same_Some x y e)
 at_push [] x y (suc j) e = absurd (none-some y e)
@@ -64,3 +64,14 @@ fronts_more old fronts new p row rest f at is = record {
 pub fronts_all : (old : List Row) (fronts : List QueuePass) (new : List Row) → FrontsTo old fronts new
     → length fronts ≡ length old → AreFronts old fronts new
 fronts_all old fronts new f count = record { count = count; same = f.same; each = f.each }
+
+-- a row whose first pass was taken
+pub front_rest : (xs : List QueuePass) (p : QueuePass) (ys : List QueuePass) → 0 < length xs → p ≡ get_or xs 0 p
+    → ys ≡ take 0 xs ++ drop 1 xs → xs ≡ p ∷ ys
+front_rest [] p ys low v e = absurd (omega arith)
+front_rest (x ∷ xs) p ys low v e =
+    ap (λ (z : QueuePass). z ∷ xs) (sym v) ∙ ap (λ (zs : List QueuePass). p ∷ zs) (sym (e ∙ rest x xs))
+  where
+    rest : (x : QueuePass) (xs : List QueuePass) → take 0 (x ∷ xs) ++ drop 1 (x ∷ xs) ≡ xs
+    rest x [] = refl
+    rest x (y ∷ ys) = refl

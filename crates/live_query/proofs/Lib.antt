@@ -20,3 +20,5 @@ pub mod LockTies
 pub mod LockTurns
 pub mod LockSends
 pub mod Fronts
+pub mod LockRows
+pub mod LockColumns
