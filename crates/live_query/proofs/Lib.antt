@@ -22,3 +22,4 @@ pub mod LockSends
 pub mod Fronts
 pub mod LockRows
 pub mod LockColumns
+pub mod LockGather

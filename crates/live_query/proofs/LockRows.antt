@@ -88,12 +88,13 @@ module _ (ks : List QueueLock) (n : ℕ) (old : List Row) (fronts : List QueuePa
         };
   }
 
-  -- while there are callers without passes, each row has one
-  pub rows_some : (callers : ℕ) → ((m : ℕ) (k : QueueLock) → slice_get ks m ≡ Some k → callers_of k ≡ callers) → n < callers
-      → (j : ℕ) (row : Row) → slice_get old j ≡ Some row → 0 < length row.items
-  rows_some callers each more j row at =
-      let low = slice_get_within old j row at in
-      let k = get_some ks j (let a = d.count in omega arith) in
-      let a = (d.each j k.0 row k.1 at).count in
-      let b = each j k.0 k.1 in
-      omega arith
+-- while there are callers without passes, each row has one
+pub rows_some : (ks : List QueueLock) (n : ℕ) (rows : List Row) → AreDealt ks n rows → (callers : ℕ)
+    → ((m : ℕ) (k : QueueLock) → slice_get ks m ≡ Some k → callers_of k ≡ callers) → n < callers
+    → (j : ℕ) (row : Row) → slice_get rows j ≡ Some row → 0 < length row.items
+rows_some ks n rows d callers each more j row at =
+    let low = slice_get_within rows j row at in
+    let k = get_some ks j (let a = d.count in omega arith) in
+    let a = (d.each j k.0 row k.1 at).count in
+    let b = each j k.0 k.1 in
+    omega arith

@@ -8,6 +8,7 @@ pub mod LockKnowing
 pub mod Efforts
 -- What the fill part leaves, the runs that are sealed, and what the drain part makes of them.
 pub mod Resting
+pub mod Holding
 pub mod Marked
 pub mod Parts
 pub mod LockParts

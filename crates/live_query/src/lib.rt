@@ -11,6 +11,7 @@ mod fill_part;
 mod filling;
 mod lines;
 mod lock_hand;
+mod locked_part;
 mod locking;
 mod locks;
 mod marked;
