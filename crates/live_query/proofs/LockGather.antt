@@ -167,6 +167,9 @@ module _ (claims : Counter) (best : Best) (queues : List PlainQueue) (team : Lis
         row_count = sym (length-map rows (λ (row : Row). row.items)) ∙ ap (λ (l : List (List QueuePass)). length l) passes
             ∙ length-map later (λ (e : Locking). e.hand.passes)
 
+        pub team_rows : length rows ≡ length team
+        team_rows = row_count ∙ len ∙ eq.count
+
         -- the row of a searcher is its passes
         row_is : (i : ℕ) (e : Locking) (row : Row) → slice_get later i ≡ Some e → slice_get rows i ≡ Some row
             → row.items ≡ e.hand.passes
