@@ -23,3 +23,4 @@ pub mod Fronts
 pub mod LockRows
 pub mod LockColumns
 pub mod LockGather
+pub mod LockedClose

@@ -11,6 +11,7 @@ mod fill_part;
 mod filling;
 mod lines;
 mod lock_hand;
+mod locked;
 mod locked_part;
 mod locking;
 mod locks;
@@ -22,6 +23,7 @@ mod sealed;
 mod search;
 mod searcher;
 
+pub use locked::nearest;
 pub use sealed::nearest_sealed;
 
 #[cfg(test)]
