@@ -554,7 +554,7 @@ module _ (a : Question) (ix : IndexParts) (m : ℕ) (best : Best) (counter : Cou
                   placed = refl;
                   capacity = refl;
                   own = λ d h. absurd (⊎_elim (λ (w : ⊥). w) (λ (t : ⊥). t) h);
-                }) into (λ l. put_once l) first_leads.legal x old)
+                }) into (λ l. let p = put_once l in omega arith) first_leads.legal x old)
                 (λ (new : In x second.log).
                 let pop = drain_pops x new in
                 let told : ToPut e ≡ ToPop pop.0 = sym is ∙ pop.1 in
