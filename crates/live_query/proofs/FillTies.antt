@@ -31,7 +31,7 @@ abbrev pub IsReal : ℕ → Phase → Type 0
 IsReal n (Give l) = l < n
 IsReal n _ = Unit {0}
 
-get_here : {X : Type 0} (xs : List X) (i : ℕ) (y : X) → i < length xs → slice_get (set xs i y) i ≡ Some y
+pub get_here : {X : Type 0} (xs : List X) (i : ℕ) (y : X) → i < length xs → slice_get (set xs i y) i ≡ Some y
 get_here [] i y low = absurd (omega arith)
 get_here (x ∷ xs) zero y low = refl
 get_here (x ∷ xs) (suc i) y low = get_here xs i y (omega arith)

@@ -7,11 +7,11 @@ use Rattle.live_query.specs.DrainHands.{DrainKept}
 use Rattle.live_query.specs.Knowing.{FillsOn, DrainsOn}
 
 -- a worker is where it is
-same_place : (w : Working) → IsOf w.question w.index w.queues w.number w
+pub same_place : (w : Working) → IsOf w.question w.index w.queues w.number w
 same_place w = record { question = refl; index = refl; number = refl; queues = refl }
 
 -- a place that is kept twice is kept
-place_on : (w v u : Working) → IsOf w.question w.index w.queues w.number v → IsOf v.question v.index v.queues v.number u
+pub place_on : (w v u : Working) → IsOf w.question w.index w.queues w.number v → IsOf v.question v.index v.queues v.number u
     → IsOf w.question w.index w.queues w.number u
 place_on w v u first second = record {
   question = second.question ∙ first.question;

@@ -13,3 +13,14 @@ pub mod FillGather
 pub mod RunQueues
 pub mod DrainGather
 pub mod SealedClose
+pub mod LastReplies
+pub mod LockPasses
+pub mod Agreeing
+pub mod LockTies
+pub mod LockTurns
+pub mod LockSends
+pub mod Fronts
+pub mod LockRows
+pub mod LockColumns
+pub mod LockGather
+pub mod LockedClose

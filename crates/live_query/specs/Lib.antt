@@ -1,13 +1,17 @@
 -- What the hands of running workers hold, and what each call did to them.
 pub mod FillHands
 pub mod DrainHands
+pub mod LockHands
 -- What a worker and its hand know together, and how much is left for them to do.
 pub mod Knowing
+pub mod LockKnowing
 pub mod Efforts
 -- What the fill part leaves, the runs that are sealed, and what the drain part makes of them.
 pub mod Resting
+pub mod Holding
 pub mod Marked
 pub mod Parts
+pub mod LockParts
 -- The definitions of the crates below that the public clauses cite.
 pub use Rattle.search_machine.specs.Closes
 pub use Rattle.search_machine.specs.Legal

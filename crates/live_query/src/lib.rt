@@ -10,12 +10,20 @@ mod fill_hand;
 mod fill_part;
 mod filling;
 mod lines;
+mod lock_hand;
+mod locked;
+mod locked_part;
+mod locking;
+mod locks;
 mod marked;
 mod opening;
+mod part;
+mod queue_calls;
 mod sealed;
 mod search;
 mod searcher;
 
+pub use locked::nearest;
 pub use sealed::nearest_sealed;
 
 #[cfg(test)]

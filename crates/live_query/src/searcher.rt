@@ -2,6 +2,7 @@
 ghost use Rattle.std.specs.Prelude.{◌≡◌, ◌↔◌, Some, true, slice_get};
 
 use best_word::WordPass;
+use claim_word::ClaimPass;
 use std::marker::Model;
 
 /// A worker of a search with its hand on what the workers share, its number, and how many turns it has taken.
@@ -24,6 +25,28 @@ pub struct Rested {
     pub seen: WordPass,
     /// For each leaf whether it put the leaf.
     pub marks: Vec<bool>,
+}
+
+/// What a searcher over locked queues keeps between the parts.
+#[derive(Drop)]
+pub struct Holding {
+    /// Its pass of the claims.
+    pub claim: ClaimPass,
+    /// Whether that has ended.
+    pub ended: bool,
+    /// Its pass of the bound word.
+    pub seen: WordPass,
+}
+
+impl Model for Holding {
+    ghost use Rattle.std.specs.Prelude.{◌≡◌};
+    ghost use Rattle.live_query.specs.Holding.{Held};
+
+    ghost Value = { Held };
+
+    ghost view = { λ h. record { claim = h.claim; best = h.seen.best; floor = h.seen.floor } };
+
+    ghost invariant = { λ h. h.ended ≡ h.claim.ended };
 }
 
 impl Model for Rested {

@@ -1,4 +1,5 @@
 //! Searches by several workers: worked rows, rows that are watched, gates, and random small collections.
+mod forms;
 mod gates;
 mod plain;
 mod watched;

@@ -98,7 +98,7 @@ pub fn sealed<T: Threads + Sync, R: Rows + Sync, G: Gate + Sync>(
     )
 }
 
-/// The same where a command may wait: the place of a search over queues with locks. Until there is one it goes by sealed runs.
+/// The same over queues with locks, where a command may wait.
 pub fn locked<T: Threads + Wait + Sync, R: Rows + Sync, G: Gate + Sync>(
     crew: &Crew<'_, T, G>,
     rows: &R,
@@ -120,7 +120,7 @@ pub fn locked<T: Threads + Wait + Sync, R: Rows + Sync, G: Gate + Sync>(
     if workers == 1 {
         return one_worker(crew.alloc, &task, &tree.index, queues);
     }
-    nearest_sealed(
+    live_query::nearest(
         crew.rt,
         crew.alloc,
         &task,

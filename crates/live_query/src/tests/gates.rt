@@ -1,6 +1,6 @@
 //! Gates that watch the workers: each worker's turns are counted without a gap over both parts, and two workers come to their
 //! first turn side by side.
-use crate::nearest_sealed;
+use super::forms::{Form, searched};
 use breakpoints::Table;
 use isax_word::Layout;
 use outside::{Gate, NoGate};
@@ -76,21 +76,28 @@ fn two_workers_come_side_by_side_and_count_their_turns(rt: HostRuntime) -> Resul
     let index = build(&rt, alloc, &rows, &settings, 1, &NoGate)?;
     let query = [0, 0];
     let task = Task::new(&rows, &query, 3, &layout);
-    let gate = Meeting::of_two();
-    let outcome = nearest_sealed(&rt, alloc, &task, &index, 2, 2, &gate)?;
-    assert_eq!(rt; outcome.pairs.items.len(), 3);
-    assert_eq!(rt;
-        gate.ran_out.load(Ordering::SeqCst),
-        0,
-        "each worker waited for the other"
-    );
-    assert_eq!(rt;
-        gate.gaps.load(Ordering::SeqCst),
-        0,
-        "no turn was left out or counted twice"
-    );
-    // each claims at the least once, and reads and pops once for each queue
-    assert!(rt; gate.taken(0) >= 5, "worker 0 took {} turns", gate.taken(0));
-    assert!(rt; gate.taken(1) >= 5, "worker 1 took {} turns", gate.taken(1));
+    for locked in [false, true] {
+        let form = Form {
+            workers: 2,
+            queues: 2,
+            locked,
+        };
+        let gate = Meeting::of_two();
+        let outcome = searched(&rt, alloc, &task, &index, &gate, form)?;
+        assert_eq!(rt; outcome.pairs.items.len(), 3);
+        assert_eq!(rt;
+            gate.ran_out.load(Ordering::SeqCst),
+            0,
+            "each worker waited for the other"
+        );
+        assert_eq!(rt;
+            gate.gaps.load(Ordering::SeqCst),
+            0,
+            "no turn was left out or counted twice"
+        );
+        // each claims at the least once, and reads and pops once for each queue
+        assert!(rt; gate.taken(0) >= 5, "worker 0 took {} turns", gate.taken(0));
+        assert!(rt; gate.taken(1) >= 5, "worker 1 took {} turns", gate.taken(1));
+    }
     Ok(())
 }

@@ -1,7 +1,7 @@
 //! Random small collections with many equal distances: the pairs are those of a plain sort, by any number of workers over any number of queues.
 ghost use Rattle.std.specs.Prelude.{◌≡◌, ◌*◌, ◌≤◌, IfOk, vec_len};
 
-use crate::nearest_sealed;
+use super::forms::{Form, searched};
 use breakpoints::Table;
 use isax_word::Layout;
 use outside::{NoGate, NoMemory};
@@ -11,6 +11,7 @@ use rand_xoshiro::rand_core::{Rng, SeedableRng};
 use segment_sums::Cuts;
 use series_core::{Flat, Rows};
 use std::alloc::Global;
+use std::sync::Wait;
 use std::test::*;
 use std::thread::Threads;
 use subtree_build::{Settings, build};
@@ -126,8 +127,8 @@ fn is_right(outcome: &Outcome, pairs: &[(u64, u32)], leaves: u32) -> bool {
     outcome.pairs.items.len() == pairs.len()
 }
 
-/// Whether a search finds what a plain sort finds.
-fn agrees<T: Threads + Sync>(
+/// Whether a search without locks and one over locked queues find what a plain sort finds.
+fn agrees<T: Threads + Wait + Sync>(
     rt: &T,
     alloc: Global,
     rows: &Flat,
@@ -153,9 +154,19 @@ fn agrees<T: Threads + Sync>(
     let settings = Settings { layout, leaf_size };
     let index = build(rt, alloc, rows, &settings, 1, &NoGate)?;
     let task = Task::new(rows, query, k, &layout);
-    let nearest = plain_nearest(alloc, rows, query, k)?;
-    let outcome = nearest_sealed(rt, alloc, &task, &index, workers, queues, &NoGate)?;
-    Ok(is_right(&outcome, &nearest, index.leaf_count()))
+    let wanted = plain_nearest(alloc, rows, query, k)?;
+    for locked in [false, true] {
+        let form = Form {
+            workers,
+            queues,
+            locked,
+        };
+        let outcome = searched(rt, alloc, &task, &index, &NoGate, form)?;
+        if !is_right(&outcome, &wanted, index.leaf_count()) {
+            return Ok(false);
+        }
+    }
+    Ok(true)
 }
 
 #[test]

@@ -2,15 +2,18 @@
 //! for too: cut series are never asked for, and two workers really search side by side.
 ghost use Rattle.std.specs.Prelude.{◌≡◌};
 
-use crate::nearest_sealed;
+use super::forms::{Form, searched};
 use breakpoints::Table;
 use isax_word::Layout;
 use outside::NoGate;
-use query_core::Task;
+use query_core::{Outcome, Task};
 use segment_sums::Cuts;
 use series_core::{Flat, Pair, Rows};
+use std::alloc::Global;
+use std::sync::Wait;
 use std::sync::atomic::{AtomicU64, Ordering};
 use std::test::*;
+use std::thread::Threads;
 use subtree_build::{Settings, build};
 
 /// How often one hold looks for the other.
@@ -78,9 +81,18 @@ impl Rows for Watched {
     }
 }
 
-#[test]
-fn cut_leaves_are_not_asked_for(rt: HostRuntime) -> Result<(), Fail> {
-    let alloc = rt.alloc();
+/// The search by two workers over two queues for the k nearest to (0,0) among three watched series of two values, and the rows
+/// that were watched. With `held`, those who ask for one of two rows wait for those who ask for the other.
+fn watched_search<T: Threads + Wait + Sync>(
+    rt: &T,
+    alloc: Global,
+    k: u32,
+    held: bool,
+    locked: bool,
+) -> Result<(Outcome, Watched), Fail> {
+    if k < 1 || k > 3 {
+        return Err(Fail::new("no such search"));
+    }
     let flat = Flat::from_values(2, [0, 0, 0, 20000, 300, 0].to_vec(alloc)?);
     let layout = Layout {
         cuts: Cuts::new(2, 2),
@@ -90,56 +102,47 @@ fn cut_leaves_are_not_asked_for(rt: HostRuntime) -> Result<(), Fail> {
         layout,
         leaf_size: 1,
     };
-    let index = build(&rt, alloc, &flat, &settings, 2, &NoGate)?;
-    let rows = Watched::over(flat, false);
-    let task = Task::new(&rows, &[0, 0], 1, &layout);
-    let outcome = nearest_sealed(&rt, alloc, &task, &index, 2, 2, &NoGate)?;
-    let pairs = [Pair {
-        distance: 0,
-        number: 0,
-    }];
-    assert_eq!(rt; outcome.pairs.items.as_slice(), pairs.as_slice());
-    assert_eq!(rt; rows.times(0), 1, "series 0 is asked for");
-    assert_eq!(rt; rows.times(1), 0, "series 1 is cut");
-    assert_eq!(rt; rows.times(2), 0, "series 2 is cut");
+    let index = build(rt, alloc, &flat, &settings, 2, &NoGate)?;
+    let rows = Watched::over(flat, held);
+    let query = [0, 0];
+    let task = Task::new(&rows, &query, k, &layout);
+    let form = Form {
+        workers: 2,
+        queues: 2,
+        locked,
+    };
+    let outcome = searched(rt, alloc, &task, &index, &NoGate, form)?;
+    Ok((outcome, rows))
+}
+
+const fn pair(distance: u64, number: u32) -> Pair {
+    Pair { distance, number }
+}
+
+#[test]
+fn cut_leaves_are_not_asked_for(rt: HostRuntime) -> Result<(), Fail> {
+    let pairs = [pair(0, 0)];
+    for locked in [false, true] {
+        let (outcome, rows) = watched_search(&rt, rt.alloc(), 1, false, locked)?;
+        assert_eq!(rt; outcome.pairs.items.as_slice(), pairs.as_slice(), "locked {locked}");
+        assert_eq!(rt; rows.times(0), 1, "series 0 is asked for, locked {locked}");
+        assert_eq!(rt; rows.times(1), 0, "series 1 is cut, locked {locked}");
+        assert_eq!(rt; rows.times(2), 0, "series 2 is cut, locked {locked}");
+    }
     Ok(())
 }
 
 #[test]
 fn two_workers_search_side_by_side(rt: HostRuntime) -> Result<(), Fail> {
-    let alloc = rt.alloc();
-    let flat = Flat::from_values(2, [0, 0, 0, 20000, 300, 0].to_vec(alloc)?);
-    let layout = Layout {
-        cuts: Cuts::new(2, 2),
-        table: Table::Flat,
-    };
-    let settings = Settings {
-        layout,
-        leaf_size: 1,
-    };
-    let index = build(&rt, alloc, &flat, &settings, 2, &NoGate)?;
-    let rows = Watched::over(flat, true);
-    let task = Task::new(&rows, &[0, 0], 3, &layout);
-    let outcome = nearest_sealed(&rt, alloc, &task, &index, 2, 2, &NoGate)?;
-    let pairs = [
-        Pair {
-            distance: 0,
-            number: 0,
-        },
-        Pair {
-            distance: 90000,
-            number: 2,
-        },
-        Pair {
-            distance: 400000000,
-            number: 1,
-        },
-    ];
-    assert_eq!(rt; outcome.pairs.items.as_slice(), pairs.as_slice());
-    assert_eq!(rt;
-        rows.ran_out.load(Ordering::SeqCst),
-        0,
-        "each row waited for the other"
-    );
+    let pairs = [pair(0, 0), pair(90000, 2), pair(400000000, 1)];
+    for locked in [false, true] {
+        let (outcome, rows) = watched_search(&rt, rt.alloc(), 3, true, locked)?;
+        assert_eq!(rt; outcome.pairs.items.as_slice(), pairs.as_slice(), "locked {locked}");
+        assert_eq!(rt;
+            rows.ran_out.load(Ordering::SeqCst),
+            0,
+            "each row waited for the other, locked {locked}"
+        );
+    }
     Ok(())
 }

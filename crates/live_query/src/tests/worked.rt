@@ -1,5 +1,5 @@
 //! A small search as worked by hand: its whole outcome, whatever the number of workers.
-use crate::nearest_sealed;
+use super::forms::{Form, searched};
 use breakpoints::Table;
 use isax_word::Layout;
 use outside::NoGate;
@@ -7,9 +7,20 @@ use query_core::{Fate, Outcome, Start, Task};
 use segment_sums::Cuts;
 use series_core::{Entry, Flat, Pair};
 use std::alloc::Global;
+use std::sync::Wait;
 use std::test::*;
 use std::thread::Threads;
 use subtree_build::{Settings, build};
+
+/// How many workers search, and whether over locked queues.
+const WAYS: [(u32, bool); 6] = [
+    (1, false),
+    (2, false),
+    (8, false),
+    (1, true),
+    (2, true),
+    (8, true),
+];
 
 const fn pair(distance: u64, number: u32) -> Pair {
     Pair { distance, number }
@@ -23,12 +34,13 @@ fn is_line(outcome: &Outcome, number: usize, taken: &[Entry], kept: u64) -> bool
     }
 }
 
-/// The search of `(0,0) (0,20000) (300,0)` for the k nearest to (0,0), in leaves of one, over two queues.
-fn three_points<T: Threads + Sync>(
+/// The search of `(0,0) (0,20000) (300,0)` for the k nearest to (0,0), in leaves of one, over two queues, with locks or without.
+fn three_points<T: Threads + Wait + Sync>(
     rt: &T,
     alloc: Global,
     k: u32,
     workers: u32,
+    locked: bool,
 ) -> Result<Outcome, Fail> {
     if k < 1 || k > 3 || workers < 1 || workers > 64 {
         return Err(Fail::new("no such search"));
@@ -45,7 +57,12 @@ fn three_points<T: Threads + Sync>(
     let index = build(rt, alloc, &rows, &settings, 1, &NoGate)?;
     let query = [0, 0];
     let task = Task::new(&rows, &query, k, &layout);
-    Ok(nearest_sealed(rt, alloc, &task, &index, workers, 2, &NoGate)?)
+    let form = Form {
+        workers,
+        queues: 2,
+        locked,
+    };
+    Ok(searched(rt, alloc, &task, &index, &NoGate, form)?)
 }
 
 #[test]
@@ -53,23 +70,23 @@ fn one_leaf_is_scanned_and_two_are_cut(rt: HostRuntime) -> Result<(), Fail> {
     let pairs = [pair(0, 0)];
     let start = Start { leaf: 0, limit: 0 };
     let fates = [Fate::Start, Fate::Bound(65536), Fate::Bound(268435456)];
-    for workers in [1, 2, 8] {
-        let outcome = three_points(&rt, rt.alloc(), 1, workers)?;
+    for (workers, locked) in WAYS {
+        let outcome = three_points(&rt, rt.alloc(), 1, workers, locked)?;
         assert_eq!(rt;
             outcome.pairs.items.as_slice(),
             pairs.as_slice(),
-            "{workers} workers"
+            "{workers} workers, locked {locked}"
         );
-        assert_eq!(rt; outcome.start, Some(start), "{workers} workers");
-        assert_eq!(rt; outcome.lines.items.len(), 2, "{workers} workers");
+        assert_eq!(rt; outcome.start, Some(start), "{workers} workers, locked {locked}");
+        assert_eq!(rt; outcome.lines.items.len(), 2, "{workers} workers, locked {locked}");
         assert!(rt;
             is_line(&outcome, 0, &[], 0) && is_line(&outcome, 1, &[], 0),
-            "{workers} workers: {outcome:?}"
+            "{workers} workers, locked {locked}: {outcome:?}"
         );
         assert_eq!(rt;
             outcome.fates.items.as_slice(),
             fates.as_slice(),
-            "{workers} workers"
+            "{workers} workers, locked {locked}"
         );
     }
     Ok(())
@@ -80,25 +97,25 @@ fn each_leaf_is_taken_from_its_queue(rt: HostRuntime) -> Result<(), Fail> {
     let pairs = [pair(0, 0), pair(90000, 2), pair(400000000, 1)];
     let fates = [Fate::Start, Fate::Queue(1), Fate::Queue(0)];
     let entries = [(268435456, 2), (65536, 1)];
-    for workers in [1, 2, 8] {
-        let outcome = three_points(&rt, rt.alloc(), 3, workers)?;
+    for (workers, locked) in WAYS {
+        let outcome = three_points(&rt, rt.alloc(), 3, workers, locked)?;
         assert_eq!(rt;
             outcome.pairs.items.as_slice(),
             pairs.as_slice(),
-            "{workers} workers"
+            "{workers} workers, locked {locked}"
         );
         assert_eq!(rt;
             outcome.fates.items.as_slice(),
             fates.as_slice(),
-            "{workers} workers"
+            "{workers} workers, locked {locked}"
         );
-        assert_eq!(rt; outcome.lines.items.len(), 2, "{workers} workers");
+        assert_eq!(rt; outcome.lines.items.len(), 2, "{workers} workers, locked {locked}");
         for (line, (bound, leaf)) in outcome.lines.items.iter().zip(entries) {
             let taken = [Entry { bound, leaf }];
             assert_eq!(rt;
                 line.taken.items.as_slice(),
                 taken.as_slice(),
-                "{workers} workers"
+                "{workers} workers, locked {locked}"
             );
         }
     }

@@ -1,0 +1,145 @@
+//! What a worker over locked queues shares: root children to claim, the bound word, and the queues, each under a lock of its own.
+//! It has one pass of each lock, and each put and pop is one call at the queue that it names.
+ghost use Rattle.std.specs.Prelude.{◌≡◌};
+ghost use Rattle.live_query.specs.LockHands.{AreOwn, lock_over};
+
+use crate::queue_calls::{pop_from, put_into};
+use best_word::{BestWord, WordPass};
+use claim_word::{ClaimPass, Claims};
+use leaf_queues::Queue;
+use query_core::Shared;
+use series_core::{Entry, PopReply, PutReply};
+use std::marker::Model;
+use std::sync::Wait;
+use turn_lock::{TurnLock, TurnPass};
+
+/// The hand of a worker over locked queues.
+#[derive(Drop)]
+pub struct LockHand<'a, W> {
+    rt: &'a W,
+    claims: &'a Claims,
+    word: &'a BestWord,
+    claim: ClaimPass,
+    seen: WordPass,
+    ended: bool,
+    locks: &'a [TurnLock<Queue>],
+    passes: Vec<TurnPass<Queue>>,
+}
+
+impl<'a, W> Model for LockHand<'a, W> {
+    ghost use Rattle.std.specs.Prelude.{◌≡◌};
+    ghost use Rattle.live_query.specs.LockHands.{LockKept, AreOwn};
+
+    ghost Value = { LockKept };
+
+    ghost view = { λ h. record {
+      claim = h.claim;
+      best = h.word.now;
+      floor = h.seen.floor;
+      locks = h.locks.now;
+      passes = h.passes.items;
+    } };
+
+    ghost invariant = { λ h. (h.claim.claims ≡ h.claims.now) × (h.seen.best ≡ h.word.now) × (h.ended ≡ h.claim.ended) × AreOwn h.locks.now h.passes.items };
+}
+
+impl<'a, W> LockHand<'a, W> {
+    /// A hand over these locks with these passes. It has ended its claims where `ended` says so.
+    pub fn new(
+        rt: &'a W,
+        claims: &'a Claims,
+        word: &'a BestWord,
+        claim: ClaimPass,
+        ended: bool,
+        seen: WordPass,
+        locks: &'a [TurnLock<Queue>],
+        passes: Vec<TurnPass<Queue>>,
+    ) -> LockHand<'a, W>
+        requires claim { claim.claims ≡ claims.now }
+        requires ended { ended ≡ claim.ended }
+        requires seen { seen.best ≡ word.now }
+        requires own { AreOwn locks.now passes.items }
+        ensures { result ≡ lock_over claim word.now seen.floor locks.now passes.items }
+    {
+        LockHand {
+            rt,
+            claims,
+            word,
+            claim,
+            seen,
+            ended,
+            locks,
+            passes,
+        }
+    }
+
+    /// Its pass of the claims and whether that has ended, its pass of the bound word, and its passes of the locks.
+    pub fn into_parts(self) -> (ClaimPass, bool, WordPass, Vec<TurnPass<Queue>>)
+        ensures claim { result.0 ≡ self.entry.claim }
+        ensures ended { result.1 ≡ self.entry.claim.ended }
+        ensures seen { (result.2.best ≡ self.entry.best) × (result.2.floor ≡ self.entry.floor) }
+        ensures passes { result.3.items ≡ self.entry.passes }
+        ensures own { AreOwn self.entry.locks result.3.items }
+    {
+        let LockHand {
+            claim,
+            ended,
+            seen,
+            passes,
+            ..
+        } = self;
+        (claim, ended, seen, passes)
+    }
+}
+
+impl<'a, W: Wait> Shared for LockHand<'a, W> {
+    ghost use Rattle.live_query.specs.LockHands.{LockDid};
+
+    ghost floor = { λ h. h.floor };
+
+    ghost roots = { λ h. h.claim.claims.count };
+
+    ghost did = { LockDid };
+
+    /// After a draw that gave none, a claim takes no step.
+    fn claim(&mut self) -> Option<u64> {
+        if self.ended {
+            return None;
+        }
+        match self.claims.draw(&mut self.claim) {
+            Some(number) => Some(number),
+            None => {
+                self.ended = true;
+                None
+            }
+        }
+    }
+
+    fn read(&mut self) -> u64 {
+        self.word.read(&mut self.seen)
+    }
+
+    fn offer(&mut self, v: u64) -> u64 {
+        self.word.offer(&mut self.seen, v)
+    }
+
+    /// A put that names no queue takes no step.
+    fn put(&mut self, queue: u32, entry: Entry) -> PutReply {
+        let queue = queue as usize;
+        if queue >= self.passes.len() {
+            return PutReply::Filled(0);
+        }
+        let locks = self.locks;
+        put_into(self.rt, &locks[queue], &mut self.passes[queue], entry)
+    }
+
+    /// A pop that names no queue takes no step.
+    fn pop(&mut self, queue: u32, limit: u64) -> PopReply {
+        let queue = queue as usize;
+        if queue >= self.passes.len() {
+            return PopReply::Closed(limit);
+        }
+        let locks = self.locks;
+        pop_from(self.rt, &locks[queue], &mut self.passes[queue], limit)
+    }
+}
