@@ -520,11 +520,14 @@ module _ (a : Question) (ix : IndexParts) (m : ℕ) (best : Best) (counter : Cou
                 (in_front x (calls_by x.caller first.log) (calls_by x.caller second.log) (of_caller x first.log i)) in
                 let p = (agrees.members x.caller y.0 y.1).puts x put.0 there put.1 in
                 let right = (stands x.caller y.0 y.1).puts p.0 p.1 in
-                let same = ap (λ (e : Entry). e.leaf) p.3 in
-                (put.0, put.1, record {
-                  real = subst (λ (l : ℕ). l < g.leaves) same (below_real g fits y.0.own p.0.entry.leaf right.below);
-                  queue = ap (queue_of g) (sym same) ∙ sym right.queue ∙ p.2;
-                })
+                let same = ap (λ (e : Entry). e.leaf) p.3 in (
+                  put.0,
+                  put.1,
+                  record {
+                    real = subst (λ (l : ℕ). l < g.leaves) same (below_real g fits y.0.own p.0.entry.leaf right.below);
+                    queue = ap (queue_of g) (sym same) ∙ sym right.queue ∙ p.2;
+                  },
+                )
 
             -- each leaf is put once at most
             put_once : (l : ℕ) → total (puts_at l) first.log ≤ 1

@@ -90,7 +90,13 @@ fn equip<'a, 'b, T, R: Rows>(
 fn unequip<'a, 'b, T, R: Rows>(
     alloc: Global,
     team: Vec<Locking<'a, 'b, R, T>>,
-) -> Result<(Vec<Vec<TurnPass<Queue>>>, Vec<Searcher<Worker<'a, R>, Holding>>), NoMemory>
+) -> Result<
+    (
+        Vec<Vec<TurnPass<Queue>>>,
+        Vec<Searcher<Worker<'a, R>, Holding>>,
+    ),
+    NoMemory,
+>
     ensures team { IfOk result (λ r. r.1.items ≡ map holding team.entry.items) }
     ensures rows { IfOk result (λ r. map (λ (row : Row). row.items) r.0.items ≡ map (λ c. c.hand.passes) team.entry.items) }
     ensures own { (locks : List QueueLock) → All (λ c. c.hand.locks ≡ locks) team.entry.items

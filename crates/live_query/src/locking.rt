@@ -116,7 +116,12 @@ fn work_row<'a, 'b, T: Threads + Wait + Sync, R: Rows + Sync, G: Gate + Sync>(
     ensures goes_on { AllLocksOn team.old team.new }
 {
     let workers = team.len();
-    thread::for_each_mut(rt, team, workers, &|_, searcher| searcher.work(rt, gate, part));
+    thread::for_each_mut(
+        rt,
+        team,
+        workers,
+        &|_, searcher| searcher.work(rt, gate, part),
+    );
 }
 
 /// All take the turns of a part, each in a thread of its own; a worker alone starts none.

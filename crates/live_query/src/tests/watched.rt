@@ -124,7 +124,11 @@ fn cut_leaves_are_not_asked_for(rt: HostRuntime) -> Result<(), Fail> {
     let pairs = [pair(0, 0)];
     for locked in [false, true] {
         let (outcome, rows) = watched_search(&rt, rt.alloc(), 1, false, locked)?;
-        assert_eq!(rt; outcome.pairs.items.as_slice(), pairs.as_slice(), "locked {locked}");
+        assert_eq!(rt;
+            outcome.pairs.items.as_slice(),
+            pairs.as_slice(),
+            "locked {locked}"
+        );
         assert_eq!(rt; rows.times(0), 1, "series 0 is asked for, locked {locked}");
         assert_eq!(rt; rows.times(1), 0, "series 1 is cut, locked {locked}");
         assert_eq!(rt; rows.times(2), 0, "series 2 is cut, locked {locked}");
@@ -137,7 +141,11 @@ fn two_workers_search_side_by_side(rt: HostRuntime) -> Result<(), Fail> {
     let pairs = [pair(0, 0), pair(90000, 2), pair(400000000, 1)];
     for locked in [false, true] {
         let (outcome, rows) = watched_search(&rt, rt.alloc(), 3, true, locked)?;
-        assert_eq!(rt; outcome.pairs.items.as_slice(), pairs.as_slice(), "locked {locked}");
+        assert_eq!(rt;
+            outcome.pairs.items.as_slice(),
+            pairs.as_slice(),
+            "locked {locked}"
+        );
         assert_eq!(rt;
             rows.ran_out.load(Ordering::SeqCst),
             0,

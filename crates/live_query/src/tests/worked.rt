@@ -77,8 +77,16 @@ fn one_leaf_is_scanned_and_two_are_cut(rt: HostRuntime) -> Result<(), Fail> {
             pairs.as_slice(),
             "{workers} workers, locked {locked}"
         );
-        assert_eq!(rt; outcome.start, Some(start), "{workers} workers, locked {locked}");
-        assert_eq!(rt; outcome.lines.items.len(), 2, "{workers} workers, locked {locked}");
+        assert_eq!(rt;
+            outcome.start,
+            Some(start),
+            "{workers} workers, locked {locked}"
+        );
+        assert_eq!(rt;
+            outcome.lines.items.len(),
+            2,
+            "{workers} workers, locked {locked}"
+        );
         assert!(rt;
             is_line(&outcome, 0, &[], 0) && is_line(&outcome, 1, &[], 0),
             "{workers} workers, locked {locked}: {outcome:?}"
@@ -109,7 +117,11 @@ fn each_leaf_is_taken_from_its_queue(rt: HostRuntime) -> Result<(), Fail> {
             fates.as_slice(),
             "{workers} workers, locked {locked}"
         );
-        assert_eq!(rt; outcome.lines.items.len(), 2, "{workers} workers, locked {locked}");
+        assert_eq!(rt;
+            outcome.lines.items.len(),
+            2,
+            "{workers} workers, locked {locked}"
+        );
         for (line, (bound, leaf)) in outcome.lines.items.iter().zip(entries) {
             let taken = [Entry { bound, leaf }];
             assert_eq!(rt;

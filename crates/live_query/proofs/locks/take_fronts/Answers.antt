@@ -52,5 +52,12 @@ pub returns : goal.returns
 returns c =
     let was = c.loop-j.invariant in
     fronts_all c.args.rows.now.items c.loop-j.fronts.items c.loop-j.rows.items was.taken
-    (omega (arith, c.loop-j-test.false, c.loop-j.auto.j-end, c.len-j-end.ensures, was.count, c.loop-j.fronts.ok.0,
-    c.args.rows.now.ok.0))
+    (omega (
+      arith,
+      c.loop-j-test.false,
+      c.loop-j.auto.j-end,
+      c.len-j-end.ensures,
+      was.count,
+      c.loop-j.fronts.ok.0,
+      c.args.rows.now.ok.0,
+    ))

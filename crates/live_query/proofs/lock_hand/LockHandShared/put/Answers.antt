@@ -12,14 +12,13 @@ invariant_of-self g c =
     let passes = c.self.inside.passes in
     let lock = c.index-locks-queue.result in
     let low : c.args.queue < length c.self.inside.locks.now =
-    omega (arith, c.if-queue-len.false, c.len.ensures, passes.ok.0, own.count) in
-    (
+    omega (arith, c.if-queue-len.false, c.len.ensures, passes.ok.0, own.count) in (
       c.self.invariant.0,
       c.self.invariant.1,
       c.self.invariant.2,
       own_set c.self.inside.locks.now passes.items c.args.queue lock c.put_into.new.pass own
-      (slice_get-get_or c.self.inside.locks.now c.args.queue lock low ∙ ap Some (sym c.index-locks-queue.is))
-      c.put_into.ensures.pass,
+          (slice_get-get_or c.self.inside.locks.now c.args.queue lock low ∙ ap Some (sym c.index-locks-queue.is))
+          c.put_into.ensures.pass,
     )
 
 pub returns-clause-did : goal.returns-clause-did
