@@ -1,6 +1,6 @@
 //! The search for the k nearest rows by several workers, each in a thread of its own (MESSI, Peng, Fatourou, Palpanas, ICDE 2020).
 //! A search has two parts: in the fill part the workers claim root children and put leaves, in the drain part they take the
-//! leaves that were put. Between the parts all workers have returned, and the queues that the first part filled are closed.
+//! leaves that were put. Between the parts all workers have returned, so that no leaf is put while others are taken.
 #![tactic(auto)]
 
 mod drain_hand;
