@@ -22,4 +22,5 @@ pub mod Ranges
 pub mod Nearest
 pub mod LeavesNear
 pub mod FarRoots
+pub mod BelowMeans
 pub mod Sends

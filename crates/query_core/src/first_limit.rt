@@ -30,8 +30,7 @@ impl<'a, R: Rows> Task<'a, R> {
             if list.worst().is_some() {
                 return Ok(distance_of_worst(&list));
             }
-            let means = index.leaf_means(leaf);
-            self.scan(index.leaf_members(leaf), means, NONE, &mut list);
+            self.scan_leaf(index, leaf, NONE, &mut list);
         }
         Ok(distance_of_worst(&list))
     }

@@ -11,6 +11,7 @@ mod ended;
 mod first_leaf;
 mod first_limit;
 mod index_laws;
+mod leaf_scan;
 mod near_leaves;
 mod one_thread;
 mod opening;

@@ -67,8 +67,7 @@ impl<'a, R: Rows> Task<'a, R> {
         if entry.bound > distance_of_worst(list) {
             return;
         }
-        let members = index.leaf_members(entry.leaf);
-        self.scan(members, index.leaf_means(entry.leaf), limit, list);
+        self.scan_leaf(index, entry.leaf, limit, list);
     }
 
     // The leaves that may have a member within the limit, each once, those of least bound first.
@@ -140,6 +139,6 @@ impl<'a, R: Rows> Task<'a, R> {
         ensures { IsBelowLeaf (search_over self.now index.now 1 1) leaf result }
     {
         search_law(self, index);
-        self.view().bound_word(index.leaf_word(leaf))
+        self.means().bound_box(index.leaf_box(leaf))
     }
 }

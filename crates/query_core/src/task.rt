@@ -1,12 +1,13 @@
 //! The task of a search: which rows are searched, for what query, and how many pairs are wanted.
 ghost use Rattle.std.specs.Prelude.{◌≡◌, ◌<◌, ◌≤◌, length};
+ghost use Rattle.mean_bound.specs.Finer.{finer_view};
 ghost use Rattle.mean_bound.specs.MeanBound.{mean_view_of};
 ghost use Rattle.query_core.specs.Questions.{IsQuestion, view_in, last_of};
 
 use best_word::Floor;
 use isax_word::Layout;
 use lower_bound::QueryView;
-use mean_bound::MeanView;
+use mean_bound::{FinerCuts, FinerView, MeanView};
 use series_core::{MAX_BEST, Rows, values_fit};
 use std::marker::Model;
 
@@ -18,6 +19,7 @@ pub struct Task<'a, R: Rows> {
     k: u32,
     view: QueryView,
     means: MeanView,
+    finer: FinerView,
 }
 
 impl<'a, R: Rows> Model for Task<'a, R> {
@@ -25,6 +27,7 @@ impl<'a, R: Rows> Model for Task<'a, R> {
     ghost use Rattle.query_core.specs.Questions.{Question, IsQuestion};
     ghost use Rattle.lower_bound.specs.Bound.{view_of};
     ghost use Rattle.mean_bound.specs.MeanBound.{mean_view_of};
+    ghost use Rattle.mean_bound.specs.Finer.{finer_view};
 
     ghost Value = { Question };
 
@@ -40,7 +43,8 @@ impl<'a, R: Rows> Model for Task<'a, R> {
       query = t.query.now;
       k = t.k;
       layout = t.view.layout;
-    }) × (t.view ≡ view_of t.view.layout t.query.now) × (t.means ≡ mean_view_of t.view.layout.cuts t.query.now) };
+    }) × (t.view ≡ view_of t.view.layout t.query.now) × (t.means ≡ mean_view_of t.view.layout.cuts t.query.now)
+        × (t.finer ≡ finer_view t.view.layout.cuts.row_length t.query.now) };
 }
 
 /// The distance of the last pair of the answer, or `NONE` where there are fewer than k series: no limit falls below it.
@@ -72,6 +76,7 @@ impl<'a, R: Rows> Task<'a, R> {
             k,
             view: QueryView::new(layout, query),
             means: MeanView::new(&layout.cuts, query),
+            finer: FinerView::new(&FinerCuts::new(layout.cuts.length()), query),
         }
     }
 
@@ -89,6 +94,14 @@ impl<'a, R: Rows> Task<'a, R> {
         ensures question { IsQuestion self.now }
     {
         &self.means
+    }
+
+    /// The query as bounds by finer means see it.
+    pub(crate) fn finer(&self) -> &FinerView
+        ensures finer { result.now ≡ finer_view self.now.layout.cuts.row_length self.now.query }
+        ensures question { IsQuestion self.now }
+    {
+        &self.finer
     }
 
     /// The query as bounds see it.

@@ -1,16 +1,12 @@
 -- One leaf more was scanned, and the k-th pair of a list is no nearer than the last of the answer.
-use Rattle.std.proofs.Common.{◌≡◌, ◌+◌, ◌-◌, ◌<◌, ◌≤◌, ◌++◌, ◌∷◌, [], ℕ, List, All, length, ap, sym, subst, ◌∙◌, arith}
+use Rattle.std.proofs.Common.{◌≡◌, ◌-◌, ◌++◌, ◌∷◌, [], ℕ, List, ap, sym, subst, ◌∙◌, arith}
 use Rattle.std.specs.List.{range_with_len}
-use Rattle.list_totals.specs.Totals.{times}
 use Rattle.series_core.specs.Order.{distance_at}
 use Rattle.series_core.specs.declared.distance.TheConstants.{NONE}
-use Rattle.isax_word.specs.declared.member.Member.{Member}
-use Rattle.subtree_build.specs.Members.{numbers_of}
-use Rattle.search_machine.specs.Ground.{last, scan, worst}
+use Rattle.search_machine.specs.Ground.{scan, worst}
 use Rattle.search_machine.specs.Sound.{ListSound}
 use Rattle.search_machine.proofs.PlainList.{last_none}
-use Rattle.query_core.specs.Questions.{IsMemberOf, leaf_series, search_over}
-use Rattle.query_core.proofs.Homes.{leaf_is_members}
+use Rattle.query_core.specs.Questions.{leaf_series, search_over}
 use Rattle.query_core.proofs.Nearest.{next_scanned, worst_enough}
 use Rattle.query_core.proofs.Ranges.{none_at_end, range_next}
 use Rattle.query_core.proofs.task.Task.first_limit.Goals as goal
@@ -20,12 +16,6 @@ returns-in_default g c =
     let ground = search_over c.args.self.now c.args.index.now 1 1 in
     let fits = c.search_law.ensures.fits 1 1 (omega arith) (omega arith) in
     record { limit = omega (arith, last_none ground fits, c.search_law.ensures.last 1 1) }
-
-pub scan-requires-clause-members : goal.scan-requires-clause-members
-scan-requires-clause-members g c =
-    let a = c.args.self.now in
-    subst (λ (ms : List Member). All (IsMemberOf a) ms) (sym c.leaf_members.ensures)
-    (leaf_is_members a c.args.index.now c.loop-leaf.leaf c.search_law.ensures.searches (omega arith))
 
 pub loop-leaf-preserved : goal.loop-leaf-preserved
 loop-leaf-preserved g c =
@@ -37,15 +27,14 @@ loop-leaf-preserved g c =
     let leaf = c.loop-leaf.leaf in
     let met = range_with_len first (leaf - first) in
     let was = c.loop-leaf.list.pairs in
-    let scanned : c.scan.new.list.pairs ≡ scan ground NONE (leaf_series ix leaf) was
-    = c.scan.ensures.pairs ix 1 1
-    ∙ ap (λ (ms : List Member). scan ground NONE (numbers_of ms) was) c.leaf_members.ensures in
+    let scanned : c.scan_leaf.new.list.pairs ≡ scan ground NONE (leaf_series ix leaf) was
+    = c.scan_leaf.ensures.pairs in
     let next = next_scanned ground fits met leaf NONE was (omega arith) (none_at_end first leaf (omega arith))
     (last_none ground fits) c.loop-leaf.invariant.sound in
     record {
-      k = c.scan.ensures.k;
+      k = c.scan_leaf.ensures.k;
       sound =
-          subst (λ (ls : List ℕ). ListSound ground ls c.scan.new.list.pairs) (sym (range_next first leaf (omega arith)))
+          subst (λ (ls : List ℕ). ListSound ground ls c.scan_leaf.new.list.pairs) (sym (range_next first leaf (omega arith)))
           (subst (ListSound ground (met ++ leaf ∷ [])) (sym scanned) next);
     }
 

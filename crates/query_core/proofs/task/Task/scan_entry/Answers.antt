@@ -1,14 +1,10 @@
 -- The leaf is scanned, or passed over.
-use Rattle.std.proofs.Common.{◌≡◌, ◌<◌, ◌≤◌, ◌-◌, ◌++◌, ◌∷◌, [], ℕ, List, All, length, ap, sym, subst, ◌∙◌, arith}
+use Rattle.std.proofs.Common.{◌≡◌, ◌<◌, ◌≤◌, ◌-◌, ◌++◌, ◌∷◌, [], List, length, ap, sym, subst, ◌∙◌, arith}
 use Rattle.series_core.specs.Order.{distance_at}
 use Rattle.series_core.specs.declared.pair.Pair.{Pair}
-use Rattle.isax_word.specs.declared.member.Member.{Member}
-use Rattle.subtree_build.specs.Index.{leaf_at}
-use Rattle.subtree_build.specs.Members.{numbers_of}
 use Rattle.search_machine.specs.Ground.{last, scan, worst}
 use Rattle.search_machine.specs.Sound.{ListSound}
-use Rattle.query_core.specs.Questions.{IsMemberOf, leaf_series, search_over}
-use Rattle.query_core.proofs.Homes.{leaf_is_members}
+use Rattle.query_core.specs.Questions.{leaf_series, search_over}
 use Rattle.query_core.proofs.Nearest.{next_passed, next_scanned, scan_size, worst_enough}
 use Rattle.query_core.proofs.task.Task.scan_entry.Goals as goal
 
@@ -24,19 +20,12 @@ returns-then-entry-distance_of_worst-clause-met g c met unmet sound =
     let far : last ground < entry.bound = omega (arith, least, kth, c.if-entry-distance_of_worst.true) in
     next_passed ground fits met entry.leaf entry.bound list.pairs c.requires.entry.low far sound
 
-pub scan-requires-clause-members : goal.scan-requires-clause-members
-scan-requires-clause-members g c =
-    let a = c.args.self.now in
-    let ix = c.args.index.now in
-    subst (λ (ms : List Member). All (IsMemberOf a) ms) (sym c.leaf_members-members.ensures)
-    (leaf_is_members a ix c.args.entry.now.leaf c.search_law.ensures.searches c.requires.entry.leaf)
-
 pub returns-clause-size : goal.returns-clause-size
 returns-clause-size g c was =
     let a = c.args.self.now in
     let ground = search_over a c.args.index.now 1 1 in
-    subst (λ (ps : List Pair). length ps ≤ a.k) (sym (c.scan.ensures.pairs c.args.index.now 1 1))
-    (scan_size ground c.args.limit (numbers_of c.leaf_members-members.result.now) c.args.list.now.pairs)
+    subst (λ (ps : List Pair). length ps ≤ a.k) (sym c.scan_leaf.ensures.pairs)
+    (scan_size ground c.args.limit (leaf_series c.args.index.now c.args.entry.now.leaf) c.args.list.now.pairs)
 
 pub returns-clause-met : goal.returns-clause-met
 returns-clause-met g c met unmet sound =
@@ -46,9 +35,8 @@ returns-clause-met g c met unmet sound =
     let fits = c.search_law.ensures.fits 1 1 (omega arith) (omega arith) in
     let leaf = c.args.entry.now.leaf in
     let old = c.args.list.now.pairs in
-    let scanned : c.scan.new.list.pairs ≡ scan ground c.args.limit (leaf_series ix leaf) old
-    = c.scan.ensures.pairs ix 1 1
-    ∙ ap (λ (ms : List Member). scan ground c.args.limit (numbers_of ms) old) c.leaf_members-members.ensures in
+    let scanned : c.scan_leaf.new.list.pairs ≡ scan ground c.args.limit (leaf_series ix leaf) old
+    = c.scan_leaf.ensures.pairs in
     let enough : last ground ≤ c.args.limit = omega (arith, c.search_law.ensures.last 1 1, c.requires.limit) in
     subst (ListSound ground (met ++ leaf ∷ [])) (sym scanned)
     (next_scanned ground fits met leaf c.args.limit old c.requires.entry.leaf unmet enough sound)

@@ -1,0 +1,74 @@
+-- Bounds by means are at most the distances: that of the box of a leaf's means for each of its members (`box_is_below`), and that
+-- of a member's finer means (`finer_is_below`).
+use Rattle.std.proofs.Common.{◌≡◌, ◌<◌, ◌≤◌, ℕ, [], length, sym, subst, ◌∙◌, arith}
+use Rattle.std.specs.Prelude.{slice_index_or}
+use Rattle.std.proofs.lemmas.List.{get_or-map, length-map}
+use Rattle.list_totals.specs.Totals.{times}
+use Rattle.list_totals.proofs.Places.{times_contains}
+use Rattle.series_core.specs.Distance.{squared_distance}
+use Rattle.mean_bound.proofs.BelowDistances.{mean_bound_below}
+use Rattle.mean_bound.proofs.Boxes.{box_below}
+use Rattle.mean_bound.proofs.Parts.{finer_below}
+use Rattle.mean_bound.specs.Boxes.{box_bound, box_of}
+use Rattle.mean_bound.specs.Finer.{finer_bound, finer_view}
+use Rattle.mean_bound.specs.MeanBound.{mean_bound, mean_view_of}
+use Rattle.isax_word.specs.declared.member.Member.{Member}
+use Rattle.subtree_build.specs.Index.{IndexParts, leaf_at}
+use Rattle.subtree_build.specs.Means.{all_means, finer_of, means_at, means_of}
+use Rattle.subtree_build.specs.Members.{numbers_of, series_at}
+use Rattle.subtree_build.proofs.Meaning.{means_of_leaf}
+use Rattle.query_core.specs.Questions.{CanBeSearched, IsQuestion, Question, leaf_series}
+use Rattle.query_core.proofs.Homes.{member_is_real}
+
+-- the bound of a series by its means
+means_are_below : (a : Question) (s : ℕ) → IsQuestion a → s < length a.collection.series → (m : Member) → m.number ≡ s
+    → mean_bound (mean_view_of a.layout.cuts a.query) (means_of a.collection a.layout m)
+    ≤ squared_distance (series_at a.collection s) a.query
+means_are_below a s is real m number =
+    let series = series_at a.collection s in
+    let whole = is.collection.each s [] real in
+    let long : length series ≡ a.layout.cuts.row_length = whole.points ∙ is.points in
+    let below = mean_bound_below a.layout.cuts series a.query is.cuts long is.query whole.values is.values in
+    subst (λ n. mean_bound (mean_view_of a.layout.cuts a.query) (means_of a.collection a.layout (record { number = n; full = m.full }))
+    ≤ squared_distance series a.query) (sym number) below
+
+-- the bound of the box of a leaf's means
+pub box_is_below : (a : Question) (ix : IndexParts) (l s : ℕ) → CanBeSearched a ix → l < length ix.leaves
+    → 0 < times s (leaf_series ix l)
+    → box_bound (mean_view_of a.layout.cuts a.query) (box_of (means_at ix.means l))
+    ≤ squared_distance (series_at a.collection s) a.query
+box_is_below a ix l s searched real some =
+    let c = a.collection in
+    let view = mean_view_of a.layout.cuts a.query in
+    let members = (leaf_at ix.leaves l).members in
+    let own : means_at ix.means l ≡ all_means c a.layout members = means_of_leaf c a.layout ix l searched.fits real in
+    let place = times_contains s (numbers_of members) some in
+    let none : Member = record { number = s; full = [] } in
+    let inside : place.0 < length members =
+    omega (arith, place.1, length-map members (λ (m : Member). m.number)) in
+    let m = slice_index_or members place.0 none in
+    let number : m.number ≡ s =
+    sym (get_or-map (λ (m : Member). m.number) members place.0 none s inside) ∙ place.2 in
+    let there : slice_index_or (all_means c a.layout members) place.0 [] ≡ means_of c a.layout m
+    = get_or-map (means_of c a.layout) members place.0 none [] inside in
+    let boxed = box_below view (all_means c a.layout members) place.0
+    (omega (arith, length-map members (means_of c a.layout))) in
+    let low : mean_bound view (slice_index_or (all_means c a.layout members) place.0 [])
+    ≤ squared_distance (series_at c s) a.query
+    = subst (λ ms. mean_bound view ms ≤ squared_distance (series_at c s) a.query) (sym there)
+    (means_are_below a s searched.question (member_is_real c a.layout ix searched.fits l s real some) m number) in
+    subst (λ ms. box_bound view (box_of ms) ≤ squared_distance (series_at c s) a.query) (sym own)
+    (omega (arith, boxed, low))
+
+-- the bound of a series by its finer means
+pub finer_is_below : (a : Question) (m : Member) → IsQuestion a → m.number < length a.collection.series
+    → finer_bound (finer_view a.layout.cuts.row_length a.query) (finer_of a.collection m)
+    ≤ squared_distance (series_at a.collection m.number) a.query
+finer_is_below a m is real =
+    let series = series_at a.collection m.number in
+    let whole = is.collection.each m.number [] real in
+    let some = is.collection.some_point in
+    let below = finer_below a.collection.points series a.query some is.collection.length_limit whole.points
+    (is.query ∙ sym is.points) whole.values is.values in
+    subst (λ n. finer_bound (finer_view n a.query) (finer_of a.collection m) ≤ squared_distance series a.query)
+    is.points below

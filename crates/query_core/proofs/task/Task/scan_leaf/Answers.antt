@@ -1,0 +1,92 @@
+-- One member more was scanned; its finer means stand behind those of the members before it.
+use Rattle.std.proofs.Common.{◌≡◌, ◌∙◌, ◌+◌, ◌*◌, ◌<◌, ◌≤◌, ℕ, List, length, take, drop, ap, sym, subst, arith}
+use Rattle.std.specs.List.{All}
+use Rattle.std.proofs.Math.Nat.{mul-le-mul_right}
+use Rattle.std.proofs.lemmas.List.Elements.{All-get_or}
+use Rattle.std.proofs.lemmas.List.FromFn.{length-map-range_with_len}
+use Rattle.isax_word.specs.declared.member.Member.{Member}
+use Rattle.mean_bound.specs.Finer.{finer_view, part_count, part_view}
+use Rattle.mean_bound.specs.MeanBound.{View}
+use Rattle.subtree_build.specs.Index.{IndexParts, leaf_at}
+use Rattle.subtree_build.specs.Means.{all_finer, finer_at}
+use Rattle.subtree_build.specs.Fits.{Fits as IndexFits}
+use Rattle.subtree_build.proofs.Meaning.{finer_of_leaf, finer_of_one, length_finer}
+use Rattle.query_core.specs.Questions.{IsMemberOf, IsQuestion, Question}
+use Rattle.query_core.proofs.Homes.{leaf_is_members}
+use Rattle.query_core.proofs.Meeting.{scan_more}
+use Rattle.query_core.proofs.task.Task.scan_leaf.Goals as goal
+
+-- what stands for one member lies within what stands for all
+within : (i n count long : ℕ) → i < count → long ≡ count * n → i * n + n ≤ long
+within i n count long inside is =
+    let low : (i + 1) * n ≤ count * n = mul-le-mul_right n (omega (arith, inside)) in
+    omega (arith, low, is)
+
+-- the finer means of a leaf are those of its members
+own_finer : (a : Question) (ix : IndexParts) (l : ℕ) (members : List Member) (finer : List (List ℕ))
+    → IndexFits a.collection a.layout ix → l < length ix.leaves → members ≡ (leaf_at ix.leaves l).members
+    → finer ≡ finer_at ix.finer l → finer ≡ all_finer a.collection members
+own_finer a ix l members finer fits real are is =
+    is ∙ finer_of_leaf a.collection a.layout ix l fits real ∙ ap (all_finer a.collection) (sym are)
+
+-- there are as many parts as the query has
+same_parts : (a : Question) (views : List View) (parts : ℕ) → IsQuestion a → parts ≡ length views
+    → views ≡ finer_view a.layout.cuts.row_length a.query → parts ≡ part_count a.collection.points
+same_parts a views parts question count are =
+    count
+    ∙ ap (λ (vs : List View). length vs) are
+    ∙ length-map-range_with_len (part_view a.layout.cuts.row_length a.query) 0 (part_count a.layout.cuts.row_length)
+    ∙ ap part_count (sym question.points)
+
+pub of_member-own-requires : goal.of_member-own-requires
+of_member-own-requires g c =
+    let a = c.args.self.now in
+    let members = c.leaf_members-members.result.now in
+    let finer = c.leaf_finer-finer.result.now in
+    let own = own_finer a c.args.index.now c.args.leaf members finer c.requires.fits c.requires.leaf
+    c.leaf_members-members.ensures c.leaf_finer-finer.ensures in
+    let parts = same_parts a c.finer.result.now c.parts-parts.result c.finer.ensures.question
+    c.parts-parts.ensures.count c.finer.ensures.finer in
+    let long : length finer ≡ length members * c.parts-parts.result
+    = ap (λ (ms : List (List ℕ)). length ms) own ∙ length_finer a.collection members
+    ∙ ap (λ n. length members * n) (sym parts) in
+    within c.loop-i.i c.parts-parts.result (length members) (length finer) c.loop-i-test.true long
+
+pub meet_finely-most-requires-clause-member : goal.meet_finely-most-requires-clause-member
+meet_finely-most-requires-clause-member g c =
+    let a = c.args.self.now in
+    let ix = c.args.index.now in
+    let i = c.loop-i.i in
+    let m = c.index-members-i.result in
+    let all = leaf_is_members a ix c.args.leaf c.search_law.ensures.searches c.requires.leaf in
+    let are = c.leaf_members-members.ensures in
+    let P : List Member → Type 0 = λ ms. All (IsMemberOf a) ms in
+    let own : All (IsMemberOf a) c.leaf_members-members.result.now = subst P (sym are) all in
+    subst (IsMemberOf a) (sym c.index-members-i.is)
+    (All-get_or (IsMemberOf a) c.leaf_members-members.result.now i m c.loop-i-test.true own)
+
+pub meet_finely-most-requires-clause-finer : goal.meet_finely-most-requires-clause-finer
+meet_finely-most-requires-clause-finer g c =
+    let a = c.args.self.now in
+    let members = c.leaf_members-members.result.now in
+    let finer = c.leaf_finer-finer.result.now in
+    let i = c.loop-i.i in
+    let n = c.parts-parts.result in
+    let own = own_finer a c.args.index.now c.args.leaf members finer c.requires.fits c.requires.leaf
+    c.leaf_members-members.ensures c.leaf_finer-finer.ensures in
+    let parts = same_parts a c.finer.result.now n c.finer.ensures.question c.parts-parts.ensures.count c.finer.ensures.finer in
+    c.of_member-own.ensures
+    ∙ ap (λ (ms : List (List ℕ)). take n (drop (i * n) ms)) own
+    ∙ ap (λ k. take k (drop (i * k) (all_finer a.collection members))) parts
+    ∙ finer_of_one a.collection members i c.index-members-i.result c.loop-i-test.true c.index-members-i.is
+
+pub loop-i-preserved : goal.loop-i-preserved
+loop-i-preserved g c = record {
+  k = c.meet_finely-most.ensures.k;
+  sound = c.meet_finely-most.ensures.sound;
+  most = c.meet_finely-most.ensures.most;
+  pairs = scan_more c.args.self.now c.leaf_members-members.result.now c.loop-i.i c.index-members-i.result
+      c.args.limit c.args.list.now.pairs c.loop-i.list.pairs c.meet_finely-most.new.list.pairs c.args.index.now 1 1
+      c.loop-i-test.true c.index-members-i.is
+      c.loop-i.invariant.pairs (c.meet_finely-most.ensures.pairs c.args.index.now 1 1);
+}

@@ -1,0 +1,81 @@
+//! Scanning a leaf for the answer alone: a member is passed over by its means, or else by its finer means, or else measured.
+ghost use Rattle.std.specs.Prelude.{◌≡◌, ℕ, ◌+◌, ◌-◌, ◌*◌, ◌<◌, ◌≤◌, min, length, take, drop};
+ghost use Rattle.series_core.specs.Best.{IsBest};
+ghost use Rattle.series_core.specs.Order.{distance_at};
+ghost use Rattle.subtree_build.specs.Fits.{Fits as IndexFits};
+ghost use Rattle.subtree_build.specs.Index.{IndexParts};
+ghost use Rattle.subtree_build.specs.Means.{finer_of, means_of};
+ghost use Rattle.search_machine.specs.Ground.{scan, scan_one};
+ghost use Rattle.query_core.specs.Questions.{search_over, IsMemberOf, leaf_series};
+
+use crate::index_laws::search_law;
+use crate::scan::most_to_add;
+use crate::task::Task;
+use isax_word::Member;
+use mean_bound::Means;
+use series_core::{KBest, Rows};
+use subtree_build::Index;
+
+impl<'a, R: Rows> Task<'a, R> {
+    /// Scans a leaf with this limit into a list, which then has the k smallest of its pairs and of the members' pairs with a
+    /// distance not above the limit.
+    pub(crate) fn scan_leaf(&self, index: &Index, leaf: u32, limit: u64, list: &mut KBest)
+        requires fits { IndexFits self.now.collection self.now.layout index.now }
+        requires leaf { leaf < length index.now.leaves }
+        requires k { list.old.k ≡ self.now.k }
+        ensures k { list.new.k ≡ self.now.k }
+        ensures pairs { list.new.pairs
+            ≡ scan (search_over self.now index.now 1 1) limit (leaf_series index.now leaf) list.old.pairs }
+    {
+        search_law(self, index);
+        let members = index.leaf_members(leaf);
+        let means = index.leaf_means(leaf);
+        let finer = index.leaf_finer(leaf);
+        let parts = self.finer().parts() as usize;
+        let mut most = most_to_add(limit, list);
+        for i in 0..members.len() {
+            let own = of_member(finer, parts, i);
+            most = self.meet_finely(&members[i], &means[i], own, limit, most, list);
+        }
+    }
+
+    // Adds the member's pair where its distance is at most `most`, and tells what is then the most.
+    fn meet_finely(
+        &self,
+        member: &Member,
+        means: &Means,
+        finer: &[Means],
+        limit: u64,
+        most: u64,
+        list: &mut KBest,
+    ) -> u64
+        requires member { IsMemberOf self.now member.now }
+        requires means { means.now ≡ means_of self.now.collection self.now.layout member.now }
+        requires finer { finer.now ≡ finer_of self.now.collection member.now }
+        requires k { list.old.k ≡ self.now.k }
+        requires sound { IsBest list.old }
+        requires most { most ≡ min limit (distance_at (list.old.k - 1) list.old.pairs) }
+        ensures k { list.new.k ≡ self.now.k }
+        ensures sound { IsBest list.new }
+        ensures most { result ≡ min limit (distance_at (list.new.k - 1) list.new.pairs) }
+        ensures pairs { (ix : IndexParts) (workers queues : ℕ) → list.new.pairs
+            ≡ scan_one (search_over self.now ix workers queues) limit member.now.number list.old.pairs }
+    {
+        if self.means().bound(means) > most {
+            return most;
+        }
+        if self.finer().bound(finer) > most {
+            return most;
+        }
+        self.measure(member.number, limit, most, list)
+    }
+}
+
+// The finer means of member `i` among those of all, with so many parts a member.
+fn of_member(finer: &[Means], parts: usize, i: usize) -> &[Means]
+    requires { i * parts + parts ≤ length finer.now }
+    ensures { result.now ≡ take parts (drop (i * parts) finer.now) }
+{
+    let first = i * parts;
+    &finer[first..first + parts]
+}
