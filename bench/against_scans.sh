@@ -3,23 +3,11 @@
 # The program is proved and built in a scratch repository outside; both run in turn, three times, and of each line the
 # least time is printed.
 here="$1"
-crates="$2"
-dependencies="$3"
 source "$(dirname "${BASH_SOURCE[0]}")/scratch.sh"
-program="$work/repository/crates/timed"
-mkdir -p "$program/src"
-copy_crates $crates
-for crate in $crates; do
-    grep "^$crate:" "$top/crates.txt" >> "$work/repository/crates.txt"
-done
-echo "timed: $dependencies" >> "$work/repository/crates.txt"
-cp "$top/HANDLES" "$work/repository/"
-cp "$here/main.rt.txt" "$program/src/main.rt"
-cd "$program"
-rt run >"$work/build.log" 2>&1 || { cat "$work/build.log"; exit 1; }
+build_timed "$2" "$3"
 for round in 1 2 3; do
     "$work/baseline" >>"$work/times"
-    out/timed >>"$work/times"
+    "$timed" >>"$work/times"
 done
 # a line is 'name: microseconds (checksum)'
 awk -F'[:(]' '{ time = $2 + 0; if (!($1 in least) || time < least[$1]) least[$1] = time; checks[$1] = $3 }

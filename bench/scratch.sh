@@ -1,5 +1,5 @@
 # For the scripts beside, which set `here` and then read this: the C program is built in a scratch folder outside, which goes
-# with the script, and `copy_crates` copies crates into a repository in it.
+# with the script; `copy_crates` copies crates into a repository in it, and `build_timed` proves and builds a program over them.
 set -eu
 top="$(cd "$(dirname "${BASH_SOURCE[0]}")/.." && pwd)"
 work="$(mktemp -d)"
@@ -11,4 +11,19 @@ copy_crates() {
         mkdir -p "$work/repository/crates/$crate"
         cp -r "$top/crates/$crate/src" "$top/crates/$crate/specs" "$top/crates/$crate/proofs" "$work/repository/crates/$crate/"
     done
+}
+
+# The program main.rt.txt beside the script, over the crates CRATES, of which it uses DEPENDENCIES: build_timed CRATES DEPENDENCIES.
+build_timed() {
+    local program="$work/repository/crates/timed"
+    mkdir -p "$program/src"
+    copy_crates $1
+    for crate in $1; do
+        grep "^$crate:" "$top/crates.txt" >> "$work/repository/crates.txt"
+    done
+    echo "timed: $2" >> "$work/repository/crates.txt"
+    cp "$top/HANDLES" "$work/repository/"
+    cp "$here/main.rt.txt" "$program/src/main.rt"
+    (cd "$program" && rt run >"$work/build.log" 2>&1) || [ -x "$program/out/timed" ] || { cat "$work/build.log"; exit 1; }
+    timed="$program/out/timed"
 }

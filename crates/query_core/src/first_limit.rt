@@ -6,6 +6,7 @@ ghost use Rattle.query_core.specs.Questions.{last_of};
 use crate::index_laws::search_law;
 use crate::scan::distance_of_worst;
 use crate::task::Task;
+use mean_bound::Means;
 use outside::NoMemory;
 use series_core::{KBest, NONE, Rows};
 use std::alloc::Global;
@@ -47,11 +48,25 @@ impl<'a, R: Rows> Task<'a, R> {
             if leaf >= leaves {
                 break;
             }
-            for means in index.leaf_means(leaf) {
+            let finer = index.leaf_finer(leaf);
+            for (place, means) in index.leaf_means(leaf).iter().enumerate() {
                 members = members.wrapping_add(1);
-                near = near.wrapping_add(u64::from(self.means().bound(means) <= limit));
+                near = near.wrapping_add(u64::from(self.may_be_near(means, finer, place, limit)));
             }
         }
         near <= members / 4
+    }
+
+    // Whether neither the means nor the finer means of the member at a place of a leaf lie above the limit.
+    fn may_be_near(&self, means: &Means, finer: &[Means], place: usize, limit: u64) -> bool {
+        if self.means().bound(means) > limit {
+            return false;
+        }
+        let parts = self.finer().parts() as usize;
+        let first = place.saturating_mul(parts);
+        match finer.get(first..first.saturating_add(parts)) {
+            Some(own) if own.len() == parts => self.finer().bound(own) <= limit,
+            _ => true,
+        }
     }
 }

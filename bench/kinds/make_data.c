@@ -1,0 +1,88 @@
+// Makes the collections that are searched: make_data KIND DATA QUERIES ROWS POINTS COUNT [SOUND [SOUND OF QUERIES]]. Both files
+// hold 16-bit values, low byte first, series after series, COUNT series of them as queries.
+#include <stdint.h>
+#include <stdio.h>
+#include <stdlib.h>
+#include <string.h>
+#include <math.h>
+
+static uint64_t state = 7;
+
+static uint32_t drawn(uint32_t below) {
+    state = state * 6364136223846793005u + 1442695040888963407u;
+    return (uint32_t)((state >> 33) % below);
+}
+
+static int16_t held(double value) {
+    return (int16_t)(value > 32767 ? 32767 : value < -32768 ? -32768 : lrint(value));
+}
+
+// Sums of steps from -100 to 100.
+static void walk(int16_t *to, size_t points) {
+    int value = 0;
+    for (size_t k = 0; k < points; k++) {
+        value += (int)drawn(201) - 100;
+        value = value > 30000 ? 30000 : value < -30000 ? -30000 : value;
+        to[k] = (int16_t)value;
+    }
+}
+
+// What rings after noise: a filter of the second order of random pitch and damping.
+static void resonance(int16_t *to, size_t points) {
+    double pitch = 0.05 + 2.5 * drawn(1000000) / 1e6, damping = 0.9 + 0.099 * drawn(1000000) / 1e6;
+    double a = 2 * damping * cos(pitch), b = -damping * damping, one = 0, two = 0, gain = 2000 * (1 - damping) * 10;
+    for (size_t k = 0; k < points + 200; k++) {
+        double next = a * one + b * two + gain * (drawn(2001) / 1000.0 - 1);
+        two = one;
+        one = next;
+        if (k >= 200) to[k - 200] = held(next);
+    }
+}
+
+static void noise(int16_t *to, size_t points) {
+    for (size_t k = 0; k < points; k++) to[k] = (int16_t)((int)drawn(65536) - 32768);
+}
+
+static void written(const char *name, const int16_t *values, size_t count) {
+    FILE *f = fopen(name, "wb");
+    if (!f || fwrite(values, 2, count, f) != count || fclose(f)) exit(1);
+}
+
+// Windows of a recording, by a step of 64 values. Returns how many there are, at most so many.
+static size_t windows(const char *sound, int16_t *to, size_t rows, size_t points, size_t step) {
+    FILE *f = fopen(sound, "rb");
+    if (!f) exit(1);
+    fseek(f, 0, SEEK_END);
+    size_t count = (size_t)ftell(f) / 2, made = 0;
+    int16_t *values = malloc(2 * count);
+    rewind(f);
+    if (fread(values, 2, count, f) != count) exit(1);
+    for (size_t at = 0; made < rows && at + points <= count; at += step, made++) memcpy(to + made * points, values + at, 2 * points);
+    free(values);
+    fclose(f);
+    return made;
+}
+
+int main(int words, char **word) {
+    if (words < 7) return 2;
+    const char *kind = word[1];
+    size_t rows = strtoul(word[4], 0, 10), points = strtoul(word[5], 0, 10), count = strtoul(word[6], 0, 10);
+    int16_t *values = malloc(2 * (rows + count) * points), *queries = values + rows * points;
+    if (!values) return 1;
+    if (!strcmp(kind, "sound")) {
+        rows = windows(word[7], values, rows, points, 64);
+        queries = malloc(2 * count * points);
+        count = windows(word[8], queries, count, points, 44100);
+    } else {
+        void (*make)(int16_t *, size_t) = !strcmp(kind, "resonances") ? resonance : !strcmp(kind, "noise") ? noise : walk;
+        for (size_t i = 0; i < rows + count; i++) make(values + i * points, points);
+    }
+    if (!strcmp(kind, "members"))
+        for (size_t j = 0; j < count; j++) {
+            const int16_t *member = values + (size_t)drawn((uint32_t)rows) * points;
+            for (size_t k = 0; k < points; k++) queries[j * points + k] = held(member[k] + (int)drawn(101) - 50);
+        }
+    written(word[2], values, rows * points);
+    written(word[3], queries, count * points);
+    return 0;
+}

@@ -1,0 +1,42 @@
+#!/usr/bin/env bash
+# Times searches by one worker over data of several kinds, and plain C scans beside it: run.sh [KIND..]. The kind `sound` wants
+# SOUND and QUERIES in the environment, two files of 16-bit values, low byte first.
+here="$(cd "$(dirname "${BASH_SOURCE[0]}")" && pwd)"
+source "$here/../scratch.sh"
+build_timed \
+    "outside list_totals series_core claim_word worker_team best_word breakpoints segment_sums isax_word lower_bound
+    mean_bound simd_distance block_list turn_lock leaf_queues search_machine summary_phase subtree_build query_core" \
+    "outside series_core breakpoints segment_sums isax_word subtree_build query_core anyhow"
+gcc -O3 -march=native -o "$work/make_data" "$here/make_data.c" -lm
+for length in 8 1024; do
+    gcc -O3 -march=native "-DPOINTS=$length" -o "$work/baseline$length" "$here/baseline.c"
+done
+cp "$work/baseline" "$work/baseline256"
+
+# Three rounds over a collection that make_data makes: kind ROWS LENGTH QUERIES K.
+kind() {
+    "$work/make_data" "$1" "$work/data" "$work/queries" "$2" "$3" "$4" ${SOUND:-} ${QUERIES:-}
+    : >"$work/times"
+    for round in 1 2 3; do
+        "$work/baseline$3" "$1 $2 x $3" "$work/data" "$work/queries" "$5" >>"$work/times"
+        "$timed" "$1 $2 x $3" "$work/data" "$work/queries" "$3" "$5" >>"$work/times"
+    done
+    # a line is 'name: microseconds (checksum)'
+    awk -F'[:(]' '{ time = $2 + 0; if (!($1 in least) || time < least[$1]) least[$1] = time; checks[$1] = $3 }
+        END { for (line in least) { print line ": " least[line] " (" checks[line];
+            if (line ~ /search$/) own = least[line]; else if (line !~ /build$/ && (!best || least[line] < best)) best = least[line] }
+            printf "    the best scan takes %.2f times as long\n", best / own }' "$work/times" | sort -r
+}
+
+[ $# -gt 0 ] || set -- walks long members resonances noise short ${SOUND:+sound}
+for wanted in "$@"; do
+    case "$wanted" in
+        walks) kind walks 500000 256 20 10 ;;
+        long) kind walks 100000 1024 20 10 ;;
+        members) kind members 500000 256 100 1 ;;
+        resonances) kind resonances 100000 256 20 10 ;;
+        sound) kind sound 400000 256 20 10 ;;
+        noise) kind noise 200000 256 10 10 ;;
+        short) kind walks 16777216 8 20 10 ;;
+    esac
+done
