@@ -1,12 +1,13 @@
 -- Means in the order of all members: cut by the places of leaves they are those of the leaves (`means_are_own`), what holds of
 -- the members of all leaves holds of all members (`all_cut`), and one more stands behind (`map_push`); the means of a leaf
--- of an index that fits are those of its members (`means_of_leaf`), one by one (`means_of_one`); and so for finer means.
+-- of an index that fits are those of its members (`means_of_leaf`), one by one (`means_of_one`); and so for finer means; and tables by them are tables (`tables_are`).
 use Rattle.std.proofs.Common.{◌≡◌, ℕ, ◌+◌, ◌-◌, ◌*◌, ◌/◌, ◌%◌, ◌<◌, List, [], ◌∷◌, ◌++◌, length, take, drop, map, get_or, refl, sym, ap, ◌∙◌, subst, arith, All}
-use Rattle.std.proofs.lemmas.List.{take-append-drop, take-map, drop-map, map-append, take_more, take_all, take-append-le, length-drop, get_or-map, ext_get_or}
+use Rattle.std.proofs.lemmas.List.{length-map, take-append-drop, take-map, drop-map, map-append, take_more, take_all, take-append-le, length-drop, get_or-map, ext_get_or}
 use Rattle.std.proofs.lemmas.List.FromFn.{length-map-range_with_len, get_or-map-range_with_len}
 use Rattle.std.proofs.Math.Nat.{mod-lt}
 use Rattle.std.proofs.lemmas.List.Elements.{All-nil, All-append, All-head, All-tail}
 use Rattle.series_core.specs.Collection.{Collection}
+use Rattle.mean_bound.proofs.Parts.{part_few}
 use Rattle.mean_bound.specs.Finer.{part_count, part_means}
 use Rattle.isax_word.specs.declared.layout.Layout.{Layout}
 use Rattle.isax_word.specs.declared.member.Member.{Member}
@@ -18,7 +19,8 @@ use Rattle.subtree_build.specs.Grown.{cut_leaves, members_in}
 use Rattle.subtree_build.specs.Fits.{Fits}
 use Rattle.subtree_build.specs.Index.{IndexParts, leaf_at, no_leaf}
 use Rattle.subtree_build.specs.Means.{means_of, all_means, leaf_means, means_at, finer_of, all_finer, leaf_finer, finer_at}
-use Rattle.subtree_build.specs.Places.{leaves_seen, means_seen, finer_seen}
+use Rattle.subtree_build.specs.declared.tables.Tables.{Tables}
+use Rattle.subtree_build.specs.Places.{leaves_seen, means_seen, finer_seen, AreTables, AreTablesOf}
 use Rattle.subtree_build.specs.Members.{series_at}
 use Rattle.subtree_build.proofs.Flattened.{length_pieces, drop_pieces, take_pieces, in_pieces, first_piece, drop_at, above_none}
 
@@ -146,3 +148,21 @@ finer_of_one c members i m inside item =
     ap (take n) (drop_pieces (finer_of c) n (finer_long c) i members)
     ∙ ap (λ (ms : List Member). take n (all_finer c ms)) (drop_at members i m inside item)
     ∙ first_piece (finer_of c) n (finer_long c) m (drop (i + 1) members)
+
+-- the tables of the members and places are tables beside them
+pub tables_are : (rows : Collection) (layout : Layout) (members : List Member) (places : List LeafPlace) (t : Tables)
+    → AreTablesOf rows layout members places t → AreTables members places t
+tables_are rows layout members places t are = record {
+  means_each = ap (λ (ms : List (List ℕ)). length ms) are.means ∙ length-map members (means_of rows layout);
+  few_parts = omega (arith, are.parts, part_few rows.points);
+  finer_each = ap (λ (ms : List (List ℕ)). length ms) are.finer ∙ length_finer rows members
+      ∙ ap (λ n. length members * n) (sym are.parts);
+  boxes_are = are.boxes;
+}
+
+-- the slices that were handed on are the lists
+pub own_tables : (rows : Collection) (layout : Layout) (members lent : List Member) (places shown : List LeafPlace) (t : Tables)
+    → AreTablesOf rows layout lent shown t → lent ≡ members → shown ≡ places → AreTablesOf rows layout members places t
+own_tables rows layout members lent places shown t are same_members same_places =
+    subst (λ (ps : List LeafPlace). AreTablesOf rows layout members ps t) same_places
+    (subst (λ (ms : List Member). AreTablesOf rows layout ms shown t) same_members are)

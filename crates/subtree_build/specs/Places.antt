@@ -1,6 +1,6 @@
 -- Where an index keeps things: the members of each leaf in the row of all members, and the leaves below each root child.
-use Rattle.std.specs.Prelude.{◌≡◌, ℕ, ◌+◌, ◌-◌, ◌*◌, ◌≤◌, List, [], ◌∷◌, Some, length, map, take, drop, slice_get, slice_index}
-use Rattle.std.specs.List.{All, range_with_len}
+use Rattle.std.specs.Prelude.{◌≡◌, ℕ, ◌+◌, ◌-◌, ◌*◌, ◌^◌, ◌<◌, ◌≤◌, List, [], ◌∷◌, Some, length, map, take, drop, slice_get, slice_index}
+use Rattle.std.specs.List.{All, range_with_len, flat_map}
 use Rattle.series_core.specs.Collection.{Collection}
 use Rattle.mean_bound.specs.Boxes.{Box, box_of}
 use Rattle.mean_bound.specs.Finer.{part_count}
@@ -51,6 +51,10 @@ pub record IsPlace (count : ℕ) (p : LeafPlace) : Type 0 where
 -- all of these places do
 abbrev pub ArePlaces : List Member → List LeafPlace → Type 0
 ArePlaces members places = All (IsPlace (length members)) places
+
+-- the members of the leaves at places are all of these, in their order
+abbrev pub AreAllSeen : List Member → List LeafPlace → Type 0
+AreAllSeen members places = (flat_map (λ x. x.members) (leaves_seen members places) ≡ members) × (length members < 2 ^ 32)
 
 -- the tables beside the members: the means of each, so many finer ones, and the box of each place's means
 pub record AreTables (members : List Member) (places : List LeafPlace) (t : Tables) : Type 0 where
