@@ -1,3 +1,4 @@
-//! Discords: worked rows, and random small collections against a plain slow definition.
+//! Discords: worked rows, random small collections against a plain slow definition, and rows that are watched.
 mod plain;
 mod rows;
+mod watched;

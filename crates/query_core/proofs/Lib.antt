@@ -23,4 +23,5 @@ pub mod Nearest
 pub mod LeavesNear
 pub mod FarRoots
 pub mod BelowMeans
+pub mod Different
 pub mod Sends

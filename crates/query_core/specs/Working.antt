@@ -1,12 +1,15 @@
 -- A worker as its own code keeps it: with one mark a leaf in place of the list of the leaves that it scanned.
-use Rattle.std.specs.Prelude.{◌≡◌, ℕ, zero, suc, ◌<◌, ◌≤◌, List, [], Option, Bool, true, false, not, length, slice_index_or}
+use Rattle.std.specs.Prelude.{◌≡◌, ℕ, zero, suc, ◌<◌, ◌≤◌, List, [], Option, Bool, true, false, not, length, map, nat_eq, slice_index_or}
+use Rattle.std.specs.List.{IsDistinct}
 use Rattle.list_totals.specs.Totals.{times}
 use Rattle.list_totals.specs.Standing.{In}
 use Rattle.series_core.specs.Order.{Ascending}
 use Rattle.series_core.specs.Best.{Best}
+use Rattle.series_core.specs.Distance.{squared_distance}
 use Rattle.series_core.specs.declared.pair.Pair.{Pair}
 use Rattle.lower_bound.specs.Bound.{View}
 use Rattle.subtree_build.specs.Index.{IndexParts}
+use Rattle.subtree_build.specs.Members.{series_at}
 use Rattle.subtree_build.specs.Start.{start_leaf_of}
 use Rattle.search_machine.specs.declared.phase.Phase.{Phase}
 use Rattle.search_machine.specs.declared.phase.Phase.TheVariants.{Claim, Look, Give, Late, Aim, Pop, Offer, Done}
@@ -50,6 +53,13 @@ pub record IsFound (g : Ground) (marks : List Bool) (ps : List Pair) : Type 0 wh
   pub known : (p : Pair) → In p ps → (p.number < g.count) × (p ≡ pair_of g p.number)
   pub from : (p : Pair) (l : ℕ) → In p ps → 0 < times p.number (g.members l)
       → is_marked marks l ≡ true
+
+-- the pairs ascend, each is of a series of the collection with its distance, and no two are of one series
+pub record HoldsSeries (a : Question) (ps : List Pair) : Type 0 where
+  pub ascending : Ascending ps
+  pub known : (p : Pair) → In p ps → (p.number < length a.collection.series)
+      × (p.distance ≡ squared_distance (series_at a.collection p.number) a.query)
+  pub different : IsDistinct nat_eq (map (λ p. p.number) ps)
 
 -- a queue at a place of a round, where there is one
 abbrev pub OnwardInRange : ℕ → Onward → Type 0

@@ -1,5 +1,6 @@
 //! A search by a schedule: each entry is one turn of that worker.
 ghost use Rattle.std.specs.Prelude.{◌≡◌, ◌≤◌, ◌≢◌, ℕ, IfOk, IfErr, IfNone, IfSome, Err};
+ghost use Rattle.series_core.specs.Answer.{answer};
 ghost use Rattle.subtree_build.specs.Fits.{Fits as IndexFits};
 ghost use Rattle.search_machine.specs.Ground.{Fits, enough_turns};
 ghost use Rattle.search_machine.specs.Legal.{Legal};
@@ -35,7 +36,7 @@ pub enum ReplayError {
 }
 
 /// The search for the answer by 1 to 64 workers over 1 to 64 queues, turn by turn as the schedule names them; an entry for a
-/// worker that is done changes nothing. Stranger and Unfinished come exactly where they say, and a schedule that names each
+/// worker that is done changes nothing. Its pairs are the answer: the k nearest rows. Stranger and Unfinished come exactly where they say, and a schedule that names each
 /// worker `8 * leaves + workers + 2 * workers * queues` times is never Unfinished.
 pub fn replay<R: Rows>(
     alloc: Global,
@@ -52,6 +53,7 @@ pub fn replay<R: Rows>(
     ensures outcome { let g = search_over task.now index.now workers queues in
         IfOk result (λ o. o ≡ outcome g (played g schedule.now)) }
     ensures legal { IfOk result (λ o. Legal (search_over task.now index.now workers queues) o) }
+    ensures answer { IfOk result (λ o. o.pairs ≡ answer task.now.collection task.now.query task.now.k) }
     ensures refused { IfErr result (λ e. Refuses (search_over task.now index.now workers queues) schedule.now e) }
     ensures enough { let g = search_over task.now index.now workers queues in
         NamesEach g (enough_turns g) schedule.now → (i : ℕ) → result ≢ Err (ReplayError.Unfinished i) }

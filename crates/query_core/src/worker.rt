@@ -6,7 +6,7 @@ ghost use Rattle.search_machine.specs.Basics.{start_of};
 ghost use Rattle.search_machine.specs.declared.phase.Phase.TheVariants.{Done};
 ghost use Rattle.search_machine.specs.Workers.{fills};
 ghost use Rattle.query_core.specs.Questions.{search_over};
-ghost use Rattle.query_core.specs.Working.{AreOpeningMarks, IsOf, Shows, opened_list, opens_as};
+ghost use Rattle.query_core.specs.Working.{AreOpeningMarks, HoldsSeries, IsOf, Shows, opened_list, opens_as};
 
 use crate::stage::Stage;
 use crate::task::Task;
@@ -130,9 +130,10 @@ impl<'a, R: Rows> Worker<'a, R> {
         }
     }
 
-    /// Lends its list.
+    /// Lends its list, whose pairs are of different series.
     pub fn list(&self) -> &KBest
-        ensures { result.now ≡ record { k = self.now.question.k; pairs = self.now.list } }
+        ensures list { result.now ≡ record { k = self.now.question.k; pairs = self.now.list } }
+        ensures series { HoldsSeries self.now.question self.now.list }
     {
         &self.list
     }

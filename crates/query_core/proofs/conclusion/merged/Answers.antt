@@ -11,7 +11,7 @@ loop-worker-preserved g c = record {
   pairs =
       c.merge.ensures.pairs
       ∙ ap (λ (k : ℕ). smallest k (c.list.result.now.pairs ++ c.loop-worker.best.pairs)) c.loop-worker.invariant.k
-      ∙ ap (λ (b : Best). smallest c.args.task.now.k (b.pairs ++ c.loop-worker.best.pairs)) c.list.ensures
+      ∙ ap (λ (b : Best). smallest c.args.task.now.k (b.pairs ++ c.loop-worker.best.pairs)) c.list.ensures.list
       ∙ merge_next c.args.task.now.k c.args.workers.now c.loop-worker.worker-index
       c.worker-item.result c.loop-worker.best.pairs
       (slice_get_read c.args.workers.now _ c.loop-worker.worker-index _ refl c.loop-worker-test.true

@@ -67,3 +67,7 @@ returns-in-Ok-ended-clause-legal g c =
     (all_done c.play.new.team
     (played (search_over c.args.task.now c.args.index.now c.args.workers c.args.queues) c.args.schedule.now)
     stands c.in_default-first_busy.ensures))
+
+pub returns-in-Ok-ended-clause-answer : goal.returns-in-Ok-ended-clause-answer
+returns-in-Ok-ended-clause-answer g c =
+    (returns-in-Ok-ended-clause-legal g c).pairs ∙ c.search_law.ensures.answer c.args.workers c.args.queues
