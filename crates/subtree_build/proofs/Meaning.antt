@@ -18,7 +18,7 @@ use Rattle.subtree_build.specs.Division.{leaf_with}
 use Rattle.subtree_build.specs.Grown.{cut_leaves, members_in}
 use Rattle.subtree_build.specs.Fits.{Fits}
 use Rattle.subtree_build.specs.Index.{IndexParts, leaf_at, no_leaf}
-use Rattle.subtree_build.specs.Means.{means_of, all_means, leaf_means, means_at, finer_of, all_finer, leaf_finer, finer_at}
+use Rattle.subtree_build.specs.Means.{means_of, all_means, leaf_means, means_at, finer_of, finer_points, all_finer, leaf_finer, finer_at}
 use Rattle.subtree_build.specs.declared.tables.Tables.{Tables}
 use Rattle.subtree_build.specs.Places.{leaves_seen, means_seen, finer_seen, AreTables, AreTablesOf}
 use Rattle.subtree_build.specs.Members.{series_at}
@@ -97,33 +97,33 @@ means_there c layout members i m inside item =
     ap (means_of c layout) item ∙ sym (get_or-map (means_of c layout) members i m [] inside)
 
 -- a member has a `Means` for each part
-finer_long : (c : Collection) (m : Member) → length (finer_of c m) ≡ part_count c.points
-finer_long c m = length-map-range_with_len (part_means c.points (series_at c m.number)) 0 (part_count c.points)
+finer_long : (c : Collection) (m : Member) → length (finer_of c m) ≡ part_count (finer_points c)
+finer_long c m = length-map-range_with_len (part_means (finer_points c) (series_at c m.number)) 0 (part_count (finer_points c))
 
 -- so all of them together have so many
 pub length_finer : (c : Collection) (members : List Member)
-    → length (all_finer c members) ≡ length members * part_count c.points
-length_finer c members = length_pieces (finer_of c) (part_count c.points) (finer_long c) members
+    → length (all_finer c members) ≡ length members * part_count (finer_points c)
+length_finer c members = length_pieces (finer_of c) (part_count (finer_points c)) (finer_long c) members
 
 -- the finer means at a place are those of a part of a member
 pub finer_there : (c : Collection) (members : List Member) (i : ℕ) (m : Member)
-    → i < length members * part_count c.points → m ≡ get_or members (i / part_count c.points) m
-    → part_means c.points (series_at c m.number) (i % part_count c.points) ≡ get_or (all_finer c members) i []
+    → i < length members * part_count (finer_points c) → m ≡ get_or members (i / part_count (finer_points c)) m
+    → part_means (finer_points c) (series_at c m.number) (i % part_count (finer_points c)) ≡ get_or (all_finer c members) i []
 finer_there c members i m low item =
-    let n = part_count c.points in
+    let n = part_count (finer_points c) in
     let some : 0 < n = above_none (length members) n i low in
-    ap (λ (x : Member). part_means c.points (series_at c x.number) (i % n)) item
-    ∙ sym (get_or-map-range_with_len (part_means c.points (series_at c (get_or members (i / n) m).number)) 0 n (i % n)
+    ap (λ (x : Member). part_means (finer_points c) (series_at c x.number) (i % n)) item
+    ∙ sym (get_or-map-range_with_len (part_means (finer_points c) (series_at c (get_or members (i / n) m).number)) 0 n (i % n)
     (i % n) [] (mod-lt i some) (omega arith))
     ∙ sym (in_pieces (finer_of c) n (finer_long c) members i m [] low)
 
 -- the finer means of all members, cut by places, are those of the leaves at the places
 pub finer_are_own : (c : Collection) (members : List Member) (finer : List (List ℕ)) (places : List LeafPlace)
     → finer ≡ all_finer c members
-    → finer_seen (part_count c.points) finer places ≡ map (leaf_finer c) (leaves_seen members places)
+    → finer_seen (part_count (finer_points c)) finer places ≡ map (leaf_finer c) (leaves_seen members places)
 finer_are_own c members finer [] are = refl
 finer_are_own c members finer (p ∷ places) are =
-    let n = part_count c.points in
+    let n = part_count (finer_points c) in
     let count = p.end - p.first in
     let here : take (count * n) (drop (p.first * n) finer) ≡ all_finer c (take count (drop p.first members))
     = ap (λ (ms : List (List ℕ)). take (count * n) (drop (p.first * n) ms)) are
@@ -142,9 +142,9 @@ finer_of_leaf c layout ix l fits real =
 -- and those of each of them stand behind those of the members before it
 pub finer_of_one : (c : Collection) (members : List Member) (i : ℕ) (m : Member) → i < length members
     → m ≡ get_or members i m
-    → take (part_count c.points) (drop (i * part_count c.points) (all_finer c members)) ≡ finer_of c m
+    → take (part_count (finer_points c)) (drop (i * part_count (finer_points c)) (all_finer c members)) ≡ finer_of c m
 finer_of_one c members i m inside item =
-    let n = part_count c.points in
+    let n = part_count (finer_points c) in
     ap (take n) (drop_pieces (finer_of c) n (finer_long c) i members)
     ∙ ap (λ (ms : List Member). take n (all_finer c ms)) (drop_at members i m inside item)
     ∙ first_piece (finer_of c) n (finer_long c) m (drop (i + 1) members)
@@ -154,7 +154,7 @@ pub tables_are : (rows : Collection) (layout : Layout) (members : List Member) (
     → AreTablesOf rows layout members places t → AreTables members places t
 tables_are rows layout members places t are = record {
   means_each = ap (λ (ms : List (List ℕ)). length ms) are.means ∙ length-map members (means_of rows layout);
-  few_parts = omega (arith, are.parts, part_few rows.points);
+  few_parts = omega (arith, are.parts, part_few (finer_points rows));
   finer_each = ap (λ (ms : List (List ℕ)). length ms) are.finer ∙ length_finer rows members
       ∙ ap (λ n. length members * n) (sym are.parts);
   boxes_are = are.boxes;

@@ -5,7 +5,7 @@ use Rattle.series_core.specs.Collection.{Collection}
 use Rattle.mean_bound.specs.Boxes.{Box, box_of}
 use Rattle.mean_bound.specs.Finer.{part_count}
 use Rattle.isax_word.specs.declared.layout.Layout.{Layout}
-use Rattle.subtree_build.specs.Means.{all_finer, all_means}
+use Rattle.subtree_build.specs.Means.{all_finer, all_means, finer_points}
 use Rattle.isax_word.specs.declared.member.Member.{Member}
 use Rattle.subtree_build.specs.declared.leaf.GrownLeaf.{GrownLeaf}
 use Rattle.subtree_build.specs.declared.leaf.LeafPlace.{LeafPlace}
@@ -67,7 +67,7 @@ pub record AreTables (members : List Member) (places : List LeafPlace) (t : Tabl
 pub record AreTablesOf (c : Collection) (layout : Layout) (members : List Member) (places : List LeafPlace) (t : Tables)
     : Type 0 where
   pub means : t.means.items ≡ all_means c layout members
-  pub parts : t.parts ≡ part_count c.points
+  pub parts : t.parts ≡ part_count (finer_points c)
   pub finer : t.finer.items ≡ all_finer c members
   pub boxes : t.boxes.items ≡ boxes_seen t.means.items places
 

@@ -3,7 +3,7 @@ ghost use Rattle.std.specs.Prelude.{◌≡◌, ◌<◌, ◌≤◌, ◌^◌, All,
 ghost use Rattle.subtree_build.specs.Places.{boxes_seen, AreTables, AreTablesOf, IsPlace};
 
 use crate::leaf::LeafPlace;
-use crate::means::{finer_of_all, means_of_all};
+use crate::means::{finer_length, finer_of_all, means_of_all};
 use isax_word::Layout;
 use mean_bound::{FinerCuts, MeanBox, Means};
 use outside::NoMemory;
@@ -38,7 +38,7 @@ pub(crate) fn tables_of<H: Threads + Sync, R: Rows + Sync>(
     requires some { 1 ≤ workers }
     ensures { IfOk result (AreTablesOf (R.collection rows.now) layout.now members.now places.now) }
 {
-    let cuts = FinerCuts::new(layout.cuts.length());
+    let cuts = FinerCuts::new(finer_length(rows));
     let means = means_of_all(rt, alloc, rows, layout, members, workers)?;
     let finer = finer_of_all(rt, alloc, rows, &cuts, members, workers)?;
     let boxes = boxes_of(alloc, means.as_slice(), places)?;
