@@ -27,7 +27,7 @@ use Rattle.live_query.specs.DrainHands.{DrainTied, given_of}
 use Rattle.live_query.specs.Knowing.{DrainServes, DrainsBy, DrainsOn}
 use Rattle.live_query.specs.Parts.{AllFilled, Draining, HasFilled, Resting, draining}
 use Rattle.live_query.specs.Resting.{Kept}
-use Rattle.live_query.proofs.FillGather.{search_at}
+use Rattle.live_query.proofs.Openers.{search_at}
 use Rattle.live_query.proofs.Places.{all_from, all_map, by_place}
 
 -- a fresh visit of a run

@@ -1,8 +1,11 @@
 -- Each turn in the fill part leaves less to do.
-use Rattle.std.proofs.Common.{◌≡◌, ℕ, zero, suc, ◌+◌, ◌*◌, ◌<◌, ◌≤◌, List, [], ◌∷◌, None, Some, Option, true, length, drop, ltb, eqb, sym, refl, ap, ◌∙◌, subst, arith}
+use Rattle.std.proofs.Common.{◌≡◌, ℕ, zero, suc, ◌+◌, ◌*◌, ◌<◌, ◌≤◌, ◌-◌, List, [], ◌∷◌, None, Some, Option, true, length, drop, take, min, ltb, eqb, sym, refl, ap, ◌∙◌, subst, ⊎_elim, arith}
 use Rattle.std.specs.Prelude.{slice_get, not, ◌&&◌, nat_le}
 use Rattle.std.proofs.lemmas.Bool.{cond_both, true≢false}
+use Rattle.std.proofs.Math.Nat.{mul-le-mul_right}
+use Rattle.std.proofs.lemmas.List.{drop-drop, take-append-drop}
 use Rattle.list_totals.specs.Totals.{total}
+use Rattle.list_totals.proofs.Totals.{total_append}
 use Rattle.series_core.specs.declared.queue_words.PutReply.TheVariants.{Placed, Filled}
 use Rattle.search_machine.specs.declared.calls.Reply.{Reply}
 use Rattle.search_machine.specs.declared.calls.Reply.TheVariants.{Claimed, Seen, Offered, PutTold}
@@ -10,14 +13,15 @@ use Rattle.search_machine.specs.declared.phase.Phase.{Phase}
 use Rattle.search_machine.specs.declared.phase.Phase.TheVariants.{Claim, Look, Give, Late, Aim, Pop, Offer, Done}
 use Rattle.search_machine.specs.declared.phase.Onward.TheVariants.{Look as ToLook, Aim as ToAim}
 use Rattle.search_machine.specs.Ground.{Ground, scan}
-use Rattle.search_machine.specs.Workers.{Worker, after_reply, fills, after_claim, after_late, improves, in_phase, is_new, scanned_by, skip, stopped, without}
+use Rattle.search_machine.specs.Workers.{Worker, after_reply, fills, after_claim, after_late, improves, in_phase, is_new, leaves_below, scanned_by, skip, stopped, without}
 use Rattle.search_machine.specs.Calls.{call_in}
 use Rattle.query_core.specs.Turning.{Turns, search_of}
 use Rattle.query_core.specs.Working.{IsOf, Working}
 use Rattle.search_machine.proofs.Opening.{remove}
 use Rattle.search_machine.proofs.Places.{get_some, total_drop}
+use Rattle.live_query.specs.RootClaims.{DidClaim, Drawn, GivesFirst, GivesNext, Roots}
 use Rattle.live_query.specs.FillHands.{FillKept, FillDid}
-use Rattle.live_query.specs.Efforts.{phase_left, own_left, root_left, roots_left, fill_left}
+use Rattle.live_query.specs.Efforts.{phase_left, own_left, root_left, roots_left, fill_left, undrawn}
 use Rattle.live_query.specs.Knowing.{FillServes, FillKnows}
 use Rattle.live_query.proofs.FillKnowing.{same_search}
 
@@ -60,14 +64,64 @@ stopped_left : (w : Worker) (ls : List ℕ) → of (stopped w ls) ≤ 1 + 5 * le
 stopped_left w [] = omega arith
 stopped_left w (l ∷ ls) = omega arith
 
-claim_left : (g : Ground) (w : Worker) (n met : ℕ) (o : Option (List ℕ)) → slice_get g.roots n ≡ o → n < length g.roots
-    → met ≤ n → of (after_claim g w o) + total root_left (drop (suc n) g.roots) < 1 + total root_left (drop met g.roots)
-claim_left g w n met None e low le =
+-- a stretch and all behind it
+cut : (f : List ℕ → ℕ) (xs : List (List ℕ)) (i j : ℕ) → i ≤ j
+    → total f (take (j - i) (drop i xs)) + total f (drop j xs) ≡ total f (drop i xs)
+cut f xs i j le =
+    let e = total_append f (take (j - i) (drop i xs)) (drop (j - i) (drop i xs)) in
+    let a = ap (total f) (take-append-drop (j - i) (drop i xs)) in
+    let b : drop (j - i) (drop i xs) ≡ drop j xs = drop-drop (j - i) i xs ∙ ap (λ n. drop n xs) (let s : i + (j - i) ≡ j = omega arith in s) in
+    let c = ap (total f) b in
+    omega arith
+
+-- a claim that gave a root child leaves less for the others
+module _ (roots : List (List ℕ)) (r : Roots) (some : 0 < r.size) (count : r.count ≡ length roots) (d k : Drawn) (n : ℕ) (ls : List ℕ)
+    (at : slice_get roots n ≡ Some ls) where
+  next_left : GivesNext d n k → root_left ls + undrawn roots r.size k ≡ undrawn roots r.size d
+  next_left g =
+      let a = ap (undrawn roots r.size) g.after in
+      let b = ap (λ m. total root_left (take (d.end - m) (drop m roots))) g.next in
+      let first = cut root_left roots n d.end (let low = g.kept in omega arith) in
+      let rest = cut root_left roots (n + 1) d.end (let low = g.kept in omega arith) in
+      let here = total_drop root_left roots n ls at in
+      let s = ap (λ m. total root_left (drop m roots)) (let s : suc n ≡ n + 1 = omega arith in s) in
+      omega arith
+
+  first_left : n < r.count → GivesFirst r d n k → root_left ls + undrawn roots r.size k ≤ undrawn roots r.size d
+  first_left low g =
+      let end = min r.count (n + r.size) in
+      let a = ap (undrawn roots r.size) g.after in
+      let here = total_drop root_left roots n ls at in
+      let s = ap (λ m. total root_left (drop m roots)) (let s : suc n ≡ n + 1 = omega arith in s) in
+      let rest = cut root_left roots (n + 1) end (omega arith) in
+      let met = drop_less root_left roots (d.pass.met * r.size) n
+      (let m = mul-le-mul_right r.size g.met in let f = g.first in omega arith) in
+      let behind = drop_less root_left roots end ((g.group + 1) * r.size) (let f = g.first in omega arith) in
+      omega arith
+
+claim_left : (g : Ground) (w : Worker) (n before after : ℕ) (o : Option (List ℕ)) → slice_get g.roots n ≡ o → n < length g.roots
+    → ((ls : List ℕ) → slice_get g.roots n ≡ Some ls → root_left ls + after ≤ before)
+    → of (after_claim g w o) + after < 1 + before
+claim_left g w n before after None e low less =
     let x = get_some g.roots n low in absurd (Rattle.std.proofs.lemmas.Option.none-some x.0 (sym e ∙ x.1))
-claim_left g w n met (Some ls) e low le =
-    let a = total_drop root_left g.roots n ls e in
-    let b = drop_less root_left g.roots met n le in
+claim_left g w n before after (Some ls) e low less =
+    let a = less ls e in
     let c = length_without g.start ls in
+    omega arith
+
+-- a claim leaves less
+roots_less : (g : Ground) (w : Worker) (r : Roots) (d k : Drawn) (o : Option ℕ) → 0 < r.size → r.count ≡ length g.roots → DidClaim r d o k
+    → of (after_claim g w (leaves_below g o)) + undrawn g.roots r.size k < 1 + 5 * length w.rest + undrawn g.roots r.size d
+roots_less g w r d k (Some n) some count did =
+    let c = claim_left g w n (undrawn g.roots r.size d) (undrawn g.roots r.size k) (slice_get g.roots n) refl (omega (arith, did.0))
+    (λ ls at. ⊎_elim
+    (λ (h : GivesNext d n k). let e = next_left g.roots r some count d k n ls at h in omega arith)
+    (λ (h : GivesFirst r d n k). first_left g.roots r some count d k n ls at did.0 h)
+    did.1) in
+    omega arith
+roots_less g w r d k None some count did =
+    let a = ap (undrawn g.roots r.size) did.after in
+    let met = drop_less root_left g.roots (d.pass.met * r.size) (did.pass.met * r.size) (mul-le-mul_right r.size did.met.0) in
     omega arith
 
 late_left : (g : Ground) (w : Worker) (l v : ℕ) → of (after_late g w l v) < 4 + 5 * length w.rest
@@ -79,39 +133,33 @@ late_left g w l v = cond_both (is_new l w && nat_le (g.bound l) v) (scanned_by g
 
 -- a reply in the fill part leaves less
 reply_left : (g : Ground) (i : ℕ) (w : Worker) (h k : FillKept) (phase : Phase) (reply : Reply)
-    → fills phase ≡ true → w.phase ≡ phase → h.claim.claims.count ≡ length g.roots
+    → fills phase ≡ true → w.phase ≡ phase → 0 < h.roots.size → h.roots.count ≡ length g.roots
     → FillDid h (call_in g i w phase) reply k
     → of (after_reply g w phase reply) + roots_left g k < of w + roots_left g h
-reply_left g i w h k Claim (Claimed (Some n)) f e count d =
+reply_left g i w h k Claim (Claimed o) f e some count d =
     let p = ap phase_left e in
-    let m : k.claim.met ≡ suc n = ap (λ (h : FillKept). h.claim.met) d.2 ∙ (omega arith) in
-    let c = claim_left g w n h.claim.met (slice_get g.roots n) refl (omega (arith, d.0)) d.1 in
-    let s = ap (λ (n : ℕ). total root_left (drop n g.roots)) m in
+    let less = roots_less g w h.roots h.drawn d.0 o some count d.1 in
+    let s = ap (roots_left g) d.2 in
     omega arith
-reply_left g i w h k Claim (Claimed None) f e count d =
-    let p = ap phase_left e in
-    let m : h.claim.met ≤ k.claim.met = subst (λ (k : FillKept). h.claim.met ≤ k.claim.met) (sym d.after) d.met in
-    let s = drop_less root_left g.roots h.claim.met k.claim.met m in
-    omega arith
-reply_left g i w h k Look (Seen v) f e count d =
+reply_left g i w h k Look (Seen v) f e some count d =
     let p = ap phase_left e in
     let a = stopped_left w (skip g v w.rest) in
     let b = length_skip g v w.rest in
     let s = ap (roots_left g) d.1 in
     omega arith
-reply_left g i w h k (Give l) (PutTold Placed) f e count d =
+reply_left g i w h k (Give l) (PutTold Placed) f e some count d =
     let p = ap phase_left e in let s = ap (roots_left g) d.2 in omega arith
-reply_left g i w h k (Give l) (PutTold (Filled c)) f e count d =
+reply_left g i w h k (Give l) (PutTold (Filled c)) f e some count d =
     let p = ap phase_left e in let s = ap (roots_left g) d.2 in omega arith
-reply_left g i w h k (Late l) (Seen v) f e count d =
+reply_left g i w h k (Late l) (Seen v) f e some count d =
     let p = ap phase_left e in let a = late_left g w l v in let s = ap (roots_left g) d.1 in omega arith
-reply_left g i w h k (Offer ToLook) (Offered v) f e count d =
+reply_left g i w h k (Offer ToLook) (Offered v) f e some count d =
     let p = ap phase_left e in let s = ap (roots_left g) d.1 in omega arith
-reply_left g i w h k (Offer (ToAim j)) reply f e count d = absurd (true≢false (sym f))
-reply_left g i w h k (Aim j) reply f e count d = absurd (true≢false (sym f))
-reply_left g i w h k (Pop j v) reply f e count d = absurd (true≢false (sym f))
-reply_left g i w h k Done reply f e count d = absurd (true≢false (sym f))
-reply_left g i w h k _ _ f e count d = absurd d
+reply_left g i w h k (Offer (ToAim j)) reply f e some count d = absurd (true≢false (sym f))
+reply_left g i w h k (Aim j) reply f e some count d = absurd (true≢false (sym f))
+reply_left g i w h k (Pop j v) reply f e some count d = absurd (true≢false (sym f))
+reply_left g i w h k Done reply f e some count d = absurd (true≢false (sym f))
+reply_left g i w h k _ _ f e some count d = absurd d
 
 module _ (w v : Working) (h k : FillKept) (serves : FillServes w h) (knows : FillKnows w h)
     (is : IsOf w.question w.index w.queues w.number v) (fill : fills w.phase ≡ true) (t : Turns FillDid h k w v) where
@@ -123,7 +171,7 @@ module _ (w v : Working) (h k : FillKept) (serves : FillServes w h) (knows : Fil
       let shows = knows.shows in
       let next = t.1.next 1 x shows in
       let less = reply_left g w.number x.worker h k x.worker.phase t.0 (ap fills shows.phase ∙ fill) refl
-      (serves.roots ∙ sym serves.one_each ∙ sym (Rattle.std.proofs.lemmas.List.length-map w.index.nodes Rattle.subtree_build.specs.Outline.leaf_numbers))
+      serves.size (serves.roots ∙ sym serves.one_each ∙ sym (Rattle.std.proofs.lemmas.List.length-map w.index.nodes Rattle.subtree_build.specs.Outline.leaf_numbers))
       (t.1.called 1 x shows) in
       let a = ap phase_left next.phase in
       let b = ap (λ (ls : List ℕ). length ls) next.rest in

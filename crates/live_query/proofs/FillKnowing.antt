@@ -1,5 +1,5 @@
 -- A turn in the fill part keeps what a worker and its hand know.
-use Rattle.std.proofs.Common.{◌≡◌, ◌≢◌, ℕ, None, Some, true, length, sym, refl, ap, ◌∙◌, subst}
+use Rattle.std.proofs.Common.{◌≡◌, ◌≢◌, ℕ, ◌<◌, true, length, sym, refl, ap, ◌∙◌, subst}
 use Rattle.series_core.specs.declared.queue_words.PutReply.TheVariants.{Placed, Filled}
 use Rattle.series_core.specs.declared.queue_words.PopReply.TheVariants.{Closed}
 use Rattle.search_machine.specs.declared.calls.Call.{Call}
@@ -16,31 +16,52 @@ use Rattle.query_core.specs.Questions.{last_of, search_over}
 use Rattle.query_core.specs.Turning.{Turns, search_of}
 use Rattle.query_core.specs.Working.{IsOf, Working}
 use Rattle.search_machine.proofs.EveryReply.{reply_stands}
+use Rattle.live_query.specs.RootClaims.{IsOwn, Roots}
 use Rattle.live_query.specs.FillHands.{FillKept, FillDid}
 use Rattle.live_query.specs.Knowing.{FillServes, FillKnows, FillsOn}
 use Rattle.live_query.proofs.FillRunning.{fills_runs, is_end, not_end}
+use Rattle.live_query.proofs.RootTies.{still_own}
 use Rattle.live_query.proofs.FillTies.{IsReal, ties, gives_real, set_length}
 
 -- a call leaves the objects of the hand as they are
 pub record SameFill (h k : FillKept) : Type 0 where
-  pub claims : k.claim.claims ≡ h.claim.claims
+  pub roots : k.roots ≡ h.roots
+  pub own : IsOwn h.roots h.drawn → IsOwn k.roots k.drawn
   pub best : k.best ≡ h.best
   pub floor : k.floor ≡ h.floor
   pub queues : k.queues ≡ h.queues
   pub marks : length k.marks ≡ length h.marks
 
 same_of : (h k : FillKept) → k ≡ h → SameFill h k
-same_of h k e = subst (SameFill h) (sym e) (record { claims = refl; best = refl; floor = refl; queues = refl; marks = refl })
+same_of h k e = subst (SameFill h) (sym e) (record {
+  roots = refl;
+  own = λ own. own;
+  best = refl;
+  floor = refl;
+  queues = refl;
+  marks = refl;
+})
 
 pub did_same : (h k : FillKept) (call : Call) (reply : Reply) → FillDid h call reply k → SameFill h k
-did_same h k Claim (Claimed (Some n)) d =
-    subst (SameFill h) (sym d.2) (record { claims = refl; best = refl; floor = refl; queues = refl; marks = refl })
-did_same h k Claim (Claimed None) d =
-    subst (SameFill h) (sym d.after) (record { claims = d.claims; best = refl; floor = refl; queues = refl; marks = refl })
+did_same h k Claim (Claimed o) d = subst (SameFill h) (sym d.2) (record {
+  roots = refl;
+  own = still_own h.roots h.drawn d.0 o d.1;
+  best = refl;
+  floor = refl;
+  queues = refl;
+  marks = refl;
+})
 did_same h k Read (Seen v) d = same_of h k d.1
 did_same h k (Offer x) (Offered v) d = same_of h k d.1
 did_same h k (Put m e) (PutTold Placed) d =
-    subst (SameFill h) (sym d.2) (record { claims = refl; best = refl; floor = refl; queues = refl; marks = set_length h.marks e.leaf true })
+    subst (SameFill h) (sym d.2) (record {
+      roots = refl;
+      own = λ own. own;
+      best = refl;
+      floor = refl;
+      queues = refl;
+      marks = set_length h.marks e.leaf true;
+    })
 did_same h k (Put m e) (PutTold (Filled c)) d = same_of h k d.2
 did_same h k (Pop m v) (PopTold (Closed x)) d = same_of h k d.1
 did_same h k _ _ d = absurd d
@@ -66,7 +87,8 @@ module _ (w v : Working) (h k : FillKept) (serves : FillServes w h) (knows : Fil
   pub fill_serves : FillServes v k
   fill_serves = record {
     fits = subst (λ (g : Ground). Fits g) (sym (same_search w v is)) serves.fits;
-    roots = ap (λ c. c.count) same.claims ∙ serves.roots ∙ sym (ap (λ ix. length ix.roots) is.index);
+    roots = ap (λ (r : Roots). r.count) same.roots ∙ serves.roots ∙ sym (ap (λ ix. length ix.roots) is.index);
+    size = subst (λ (r : Roots). 0 < r.size) (sym same.roots) serves.size;
     one_each = subst (λ ix. length ix.nodes ≡ length ix.roots) (sym is.index) serves.one_each;
     floor = same.floor ∙ serves.floor ∙ sym (ap last_of is.question);
     queues = same.queues ∙ serves.queues ∙ sym is.queues;
@@ -96,9 +118,9 @@ module _ (w v : Working) (h k : FillKept) (serves : FillServes w h) (knows : Fil
         (ap fills knows.shows.phase ∙ fill)
         (subst (λ (n : ℕ). IsReal n x.worker.phase) (sym serves.marks)
         (gives_real g serves.fits w.number x.worker x.own knows.stands x.worker.phase refl))
-        serves.fits.some_queue serves.queues knows.tied (t.1.called 1 x knows.shows);
+        serves.fits.some_queue serves.queues serves.size knows.tied (t.1.called 1 x knows.shows);
   }
 
   -- the worker keeps its place, and the hand its objects
   pub fills_on : FillsOn w h v k
-  fills_on = record { place = is; claims = same.claims; best = same.best; floor = same.floor }
+  fills_on = record { place = is; roots = same.roots; own = same.own; best = same.best; floor = same.floor }

@@ -1,12 +1,8 @@
 -- What a call and its reply did to the hand in the fill part, the longer record says too.
-use Rattle.std.proofs.Common.{◌≡◌, ℕ, zero, suc, ◌<◌, ◌≤◌, List, [], ◌∷◌, None, Some, true, length, set, sym, refl, ap, ◌∙◌, subst, inl, inr, ⊎_elim, arith}
+use Rattle.std.proofs.Common.{◌≡◌, ℕ, zero, suc, ◌<◌, ◌≤◌, List, [], ◌∷◌, Option, Some, true, length, set, sym, refl, ap, ◌∙◌, subst, inl, inr, ⊎_elim, arith}
 use Rattle.std.specs.Prelude.{slice_get, slice_set}
 use Rattle.std.proofs.Math.Nat.{mod-lt}
-use Rattle.std.proofs.lemmas.Option.{none-some}
 use Rattle.std.proofs.lemmas.Bool.{cases_eq, true≢false}
-use Rattle.list_totals.specs.Totals.{times}
-use Rattle.list_totals.proofs.Totals.{times_push}
-use Rattle.claim_word.specs.Passes.{drew}
 use Rattle.series_core.specs.declared.queue_words.PutReply.TheVariants.{Placed, Filled}
 use Rattle.search_machine.specs.declared.calls.Reply.{Reply}
 use Rattle.search_machine.specs.declared.calls.Reply.TheVariants.{Claimed, Seen, Offered, PutTold}
@@ -24,7 +20,9 @@ use Rattle.search_machine.specs.Stands.{Stands}
 use Rattle.search_machine.proofs.Counts.{same_counts}
 use Rattle.search_machine.proofs.OwnLate.{below_real}
 use Rattle.search_machine.proofs.Places.{get_set, get_set_other}
-use Rattle.live_query.specs.FillHands.{FillKept, FillDid, FillTied, InRange, Ends}
+use Rattle.live_query.specs.RootClaims.{DidClaim, Drawn}
+use Rattle.live_query.specs.FillHands.{FillKept, FillDid, FillTied, InRange}
+use Rattle.live_query.proofs.RootTies.{drawn_ties}
 
 -- a leaf that is given is below n
 abbrev pub IsReal : ℕ → Phase → Type 0
@@ -36,11 +34,10 @@ get_here [] i y low = absurd (omega arith)
 get_here (x ∷ xs) zero y low = refl
 get_here (x ∷ xs) (suc i) y low = get_here xs i y (omega arith)
 
-tied_draw : (h : FillKept) (r : OwnRecord) (n : ℕ) → FillTied h r
-    → FillTied (record h { claim = drew h.claim n }) (with_claim (Some n) r)
-tied_draw h r n t = record {
-  claims = λ c. let e = t.claims c in let a = times_push c h.claim.draws n in omega arith;
-  ended = λ i. ⊎_elim (λ (e : None ≡ Some n). absurd (none-some n e)) t.ended i;
+tied_claim : (h : FillKept) (r : OwnRecord) (o : Option ℕ) (d : Drawn) → 0 < h.roots.size → DidClaim h.roots h.drawn o d → FillTied h r
+    → FillTied (record h { drawn = d }) (with_claim o r)
+tied_claim h r o d some did t = record {
+  drawn = drawn_ties h.roots some h.drawn d r.claims o did t.drawn;
   reads = t.reads;
   placed = t.placed;
   marked = t.marked;
@@ -48,21 +45,9 @@ tied_draw h r n t = record {
   pops = t.pops;
 }
 
-tied_end : (h k : FillKept) (r : OwnRecord) → Ends h k → FillTied h r → FillTied k (with_claim None r)
-tied_end h k r d t = subst (λ (k : FillKept). FillTied k (with_claim None r)) (sym d.after) (record {
-  claims = λ c. let e = t.claims c in let a = ap (times c) d.draws in omega arith;
-  ended = λ i. d.ended;
-  reads = t.reads;
-  placed = t.placed;
-  marked = t.marked;
-  put = t.put;
-  pops = t.pops;
-})
-
 tied_read : (h : FillKept) (r : OwnRecord) (v : ℕ) → InRange h.floor h.best v → FillTied h r → FillTied h (with_read v r)
 tied_read h r v low t = record {
-  claims = t.claims;
-  ended = t.ended;
+  drawn = t.drawn;
   reads = λ u i. ⊎_elim (λ (e : u ≡ v). subst (InRange h.floor h.best) (sym e) low) (t.reads u) i;
   placed = t.placed;
   marked = t.marked;
@@ -72,8 +57,7 @@ tied_read h r v low t = record {
 
 tied_offer : (h : FillKept) (r : OwnRecord) (v : OfferMade) → FillTied h r → FillTied h (with_offer v r)
 tied_offer h r v t = record {
-  claims = t.claims;
-  ended = t.ended;
+  drawn = t.drawn;
   reads = t.reads;
   placed = t.placed;
   marked = t.marked;
@@ -100,8 +84,7 @@ module _ (h : FillKept) (r : OwnRecord) (p : PutMade) (low : p.entry.leaf < leng
 
   tied_put : FillTied (record h { marks = slice_set h.marks p.entry.leaf true }) (with_put p r)
   tied_put = record {
-    claims = t.claims;
-    ended = t.ended;
+    drawn = t.drawn;
     reads = t.reads;
     placed = λ q i. ⊎_elim
         (λ (e : q ≡ p). ap (λ (q : PutMade). is_refused q.reply) e
@@ -114,30 +97,29 @@ module _ (h : FillKept) (r : OwnRecord) (p : PutMade) (low : p.entry.leaf < leng
 
 -- the hand after a call in the fill part is tied to the record after it
 pub ties : (g : Ground) (i : ℕ) (w : Worker) (r : OwnRecord) (h k : FillKept) (phase : Phase) (reply : Reply)
-    → fills phase ≡ true → IsReal (length h.marks) phase → 0 < g.queues → h.queues ≡ g.queues → FillTied h r
+    → fills phase ≡ true → IsReal (length h.marks) phase → 0 < g.queues → h.queues ≡ g.queues → 0 < h.roots.size → FillTied h r
     → FillDid h (call_in g i w phase) reply k → FillTied k (own_after g i w r phase reply)
-ties g i w r h k Claim (Claimed (Some n)) f real some q t d =
-    subst (λ (k : FillKept). FillTied k (with_claim (Some n) r)) (sym d.2) (tied_draw h r n t)
-ties g i w r h k Claim (Claimed None) f real some q t d = tied_end h k r d t
-ties g i w r h k Look (Seen v) f real some q t d =
+ties g i w r h k Claim (Claimed o) f real some q z t d =
+    subst (λ (k : FillKept). FillTied k (with_claim o r)) (sym d.2) (tied_claim h r o d.0 z d.1 t)
+ties g i w r h k Look (Seen v) f real some q z t d =
     subst (λ (k : FillKept). FillTied k (with_read v r)) (sym d.1) (tied_read h r v d.0 t)
-ties g i w r h k (Late l) (Seen v) f real some q t d =
+ties g i w r h k (Late l) (Seen v) f real some q z t d =
     subst (λ (k : FillKept). FillTied k (with_read v r)) (sym d.1) (tied_read h r v d.0 t)
-ties g i w r h k (Offer ToLook) (Offered v) f real some q t d =
+ties g i w r h k (Offer ToLook) (Offered v) f real some q z t d =
     let made : OfferMade = record { value = worst g w.list; reply = v } in
     subst (λ (k : FillKept). FillTied k (with_offer made r)) (sym d.1) (tied_offer h r made t)
-ties g i w r h k (Give l) (PutTold Placed) f real some q t d =
+ties g i w r h k (Give l) (PutTold Placed) f real some q z t d =
     let p : PutMade = record { queue = queue_of g l; entry = entry_of g l; reply = Placed } in
     subst (λ (k : FillKept). FillTied k (with_put p r)) (sym d.2) (tied_put h r p d.1 refl t)
-ties g i w r h k (Give l) (PutTold (Filled c)) f real some q t d =
+ties g i w r h k (Give l) (PutTold (Filled c)) f real some q z t d =
     let low = mod-lt l some in
     ⊎_elim (λ (out : h.queues ≤ queue_of g l). absurd (omega arith))
     (λ (out : length h.marks ≤ l). absurd (omega arith)) d.1
-ties g i w r h k (Offer (ToAim j)) reply f real some q t d = absurd (true≢false (sym f))
-ties g i w r h k (Aim j) reply f real some q t d = absurd (true≢false (sym f))
-ties g i w r h k (Pop j v) reply f real some q t d = absurd (true≢false (sym f))
-ties g i w r h k Done reply f real some q t d = absurd (true≢false (sym f))
-ties g i w r h k _ _ f real some q t d = absurd d
+ties g i w r h k (Offer (ToAim j)) reply f real some q z t d = absurd (true≢false (sym f))
+ties g i w r h k (Aim j) reply f real some q z t d = absurd (true≢false (sym f))
+ties g i w r h k (Pop j v) reply f real some q z t d = absurd (true≢false (sym f))
+ties g i w r h k Done reply f real some q z t d = absurd (true≢false (sym f))
+ties g i w r h k _ _ f real some q z t d = absurd d
 
 -- a leaf that a worker gives is a leaf
 pub gives_real : (g : Ground) → Fits g → (i : ℕ) (w : Worker) (r : OwnRecord) → Stands g i w r → (phase : Phase)

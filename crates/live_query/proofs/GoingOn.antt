@@ -21,12 +21,13 @@ place_on w v u first second = record {
 }
 
 pub fills_stays : (w : Working) (h : FillKept) → FillsOn w h w h
-fills_stays w h = record { place = same_place w; claims = refl; best = refl; floor = refl }
+fills_stays w h = record { place = same_place w; roots = refl; own = λ own. own; best = refl; floor = refl }
 
 pub fills_then : (w v u : Working) (h k m : FillKept) → FillsOn w h v k → FillsOn v k u m → FillsOn w h u m
 fills_then w v u h k m first second = record {
   place = place_on w v u first.place second.place;
-  claims = second.claims ∙ first.claims;
+  roots = second.roots ∙ first.roots;
+  own = λ own. second.own (first.own own);
   best = second.best ∙ first.best;
   floor = second.floor ∙ first.floor;
 }

@@ -1,4 +1,6 @@
 -- The lemmas of this crate.
+pub mod RootTies
+pub mod RootGather
 pub mod FillTies
 pub mod FillKnowing
 pub mod FillEffort
@@ -9,6 +11,7 @@ pub mod DrainEffort
 pub mod DrainKnowing
 pub mod Places
 pub mod Marks
+pub mod Openers
 pub mod FillGather
 pub mod RunQueues
 pub mod DrainGather

@@ -4,7 +4,6 @@ use Rattle.std.specs.Prelude.{slice_get, slice_index_or}
 use Rattle.std.proofs.lemmas.List.{length-map}
 use Rattle.std.proofs.lemmas.Option.{none-some, same_Some, slice_get_within}
 use Rattle.list_totals.specs.Standing.{In}
-use Rattle.claim_word.specs.Passes.{Claim as Counter}
 use Rattle.best_word.specs.Passes.{Best}
 use Rattle.leaf_queues.specs.PlainQueue.{PlainQueue}
 use Rattle.turn_lock.specs.Passes.{IsNewPass, made_by, opening_of}
@@ -18,17 +17,19 @@ use Rattle.query_core.specs.Working.{Shows, Working}
 use Rattle.live_query.specs.declared.part.Part.{Part}
 use Rattle.live_query.specs.declared.part.Part.TheVariants.{Fill, Drain}
 use Rattle.live_query.specs.Holding.{Held}
+use Rattle.live_query.specs.RootClaims.{IsOwn, Roots}
+use Rattle.live_query.specs.Parts.{Between}
 use Rattle.live_query.specs.LockHands.{AreOwn, LockKept, QueueLock, QueuePass, calls_at, calls_of, lock_over}
 use Rattle.live_query.specs.LockKnowing.{CallsOf, EndsPart, InPart, LockServes, LocksOn}
-use Rattle.live_query.specs.LockParts.{AllLocksOn, AreEquipped, AreNumbered, AreRound, Between, HasNew, IsServed, Locking, Row, Went, WentBy, WentOn, calls_by_hand, calls_in, calls_in_row, held_of, holding}
+use Rattle.live_query.specs.LockParts.{AllLocksOn, AreEquipped, AreNumbered, AreRound, HasNew, IsServed, Locking, Row, Went, WentBy, WentOn, calls_by_hand, calls_in, calls_in_row, held_of, holding}
 use Rattle.live_query.proofs.Fronts.{at_push}
 use Rattle.live_query.proofs.Places.{all_at, all_from, by_place, map_at}
 
 -- one more searcher with its hand
-pub equipped_more : (locks : List QueueLock) (team : List Between) (cells : List Locking) (c : Between) (d : Locking)
-    → AreEquipped locks team cells → d.worker ≡ c.worker → HasNew locks (length team) c.hand d.hand
-    → AreEquipped locks (team ++ c ∷ []) (cells ++ d ∷ [])
-equipped_more locks team cells c d e worker hand = record {
+pub equipped_more : (roots : Roots) (locks : List QueueLock) (team : List Between) (cells : List Locking) (c : Between) (d : Locking)
+    → AreEquipped roots locks team cells → d.worker ≡ c.worker → HasNew roots locks (length team) c.hand d.hand
+    → AreEquipped roots locks (team ++ c ∷ []) (cells ++ d ∷ [])
+equipped_more roots locks team cells c d e worker hand = record {
   count = let a = length-append cells (d ∷ []) in let b = length-append team (c ∷ []) in let s = e.count in omega arith;
   workers = λ i x y at_x at_y. ⊎_elim
       (λ (old : slice_get team i ≡ Some x). ⊎_elim
@@ -53,16 +54,16 @@ equipped_more locks team cells c d e worker hand = record {
       (λ (was : slice_get cells i ≡ Some y).
       let low = slice_get_within cells i y was in let a = new.0 in let b = e.count in absurd (omega arith))
       (λ (last : (i ≡ length cells) × (d ≡ y)).
-      subst (λ (i : ℕ). HasNew locks i x.hand y.hand) (sym new.0)
-      (subst (λ (z : Locking). HasNew locks (length team) x.hand z.hand) last.1
-      (subst (λ (z : Between). HasNew locks (length team) z.hand d.hand) new.1 hand)))
+      subst (λ (i : ℕ). HasNew roots locks i x.hand y.hand) (sym new.0)
+      (subst (λ (z : Locking). HasNew roots locks (length team) x.hand z.hand) last.1
+      (subst (λ (z : Between). HasNew roots locks (length team) z.hand d.hand) new.1 hand)))
       (at_push cells d y i at_y))
       (at_push team c x i at_x);
 }
 
 -- a hand with new passes has called nothing
-fresh_calls : (locks : List QueueLock) (i : ℕ) (c : Held) (h : LockKept) → HasNew locks i c h → (m : ℕ) → calls_at h m ≡ []
-fresh_calls locks i c h new m = ap (λ (h : LockKept). calls_at h m) new.is ∙ by (slice_get new.passes m) refl
+fresh_calls : (roots : Roots) (locks : List QueueLock) (i : ℕ) (c : Held) (h : LockKept) → HasNew roots locks i c h → (m : ℕ) → calls_at h m ≡ []
+fresh_calls roots locks i c h new m = ap (λ (h : LockKept). calls_at h m) new.is ∙ by (slice_get new.passes m) refl
   where
     by : (o : Option QueuePass) → slice_get new.passes m ≡ o → calls_of o ≡ []
     by None e = refl
@@ -75,18 +76,18 @@ calls_none : (part : Part) (h : LockKept) → ((m : ℕ) → calls_at h m ≡ []
 calls_none Fill h none = λ m x i. absurd (subst (In x) (none m) i)
 calls_none Drain h none = λ m x i. absurd (subst (In x) (none m) i)
 
-module _ (claims : Counter) (best : Best) (queues : List PlainQueue) (team : List Between)
-    (served : All (IsServed claims best (length queues)) team) where
-  pub all_claims : All (λ (c : Between). c.hand.claim.claims ≡ claims) team
-  all_claims = all_from (λ (c : Between). c.hand.claim.claims ≡ claims) team
-      (λ i c at. (all_at (IsServed claims best (length queues)) team i c served at).claim)
+module _ (roots : Roots) (best : Best) (queues : List PlainQueue) (team : List Between)
+    (served : All (IsServed roots best (length queues)) team) where
+  pub all_own : All (λ (c : Between). IsOwn roots c.hand.drawn) team
+  all_own = all_from (λ (c : Between). IsOwn roots c.hand.drawn) team
+      (λ i c at. (all_at (IsServed roots best (length queues)) team i c served at).own)
 
   pub all_words : All (λ (c : Between). c.hand.best ≡ best) team
   all_words = all_from (λ (c : Between). c.hand.best ≡ best) team
-      (λ i c at. (all_at (IsServed claims best (length queues)) team i c served at).word)
+      (λ i c at. (all_at (IsServed roots best (length queues)) team i c served at).word)
 
   module _ (locks : List QueueLock) (round : AreRound queues (length team) locks) (cells : List Locking)
-      (eq : AreEquipped locks team cells) where
+      (eq : AreEquipped roots locks team cells) where
     lock_count : length locks ≡ length queues
     lock_count = sym (length-map locks opening_of) ∙ ap (λ (qs : List PlainQueue). length qs) round.openings
 
@@ -96,14 +97,15 @@ module _ (claims : Counter) (best : Best) (queues : List PlainQueue) (team : Lis
     serves_at : (i : ℕ) (c : Between) (d : Locking) → slice_get team i ≡ Some c → slice_get cells i ≡ Some d
         → LockServes d.worker d.hand
     serves_at i c d at_c at_d =
-        let s = all_at (IsServed claims best (length queues)) team i c served at_c in
+        let s = all_at (IsServed roots best (length queues)) team i c served at_c in
         let h = eq.hands i c d at_c at_d in
         subst (λ (w : Working). LockServes w d.hand) (sym (eq.workers i c d at_c at_d))
         (subst (LockServes c.worker) (sym h.is) (record {
           shown = s.shown;
           shows = s.shows;
           fits = s.fits;
-          roots = ap (λ (k : Counter). k.count) s.claim ∙ s.count;
+          roots = s.count;
+          size = s.size;
           floor = s.last;
           queues = h.count ∙ lock_count ∙ s.queues_are;
         }))
@@ -128,7 +130,7 @@ module _ (claims : Counter) (best : Best) (queues : List PlainQueue) (team : Lis
     pub all_calls : (part : Part) → All (λ (d : Locking). CallsOf part d.hand) cells
     all_calls part = all_from (λ (d : Locking). CallsOf part d.hand) cells (λ i d at.
         let c = from_at i d at in
-        calls_none part d.hand (fresh_calls locks i c.0.hand d.hand (eq.hands i c.0 d c.1 at)))
+        calls_none part d.hand (fresh_calls roots locks i c.0.hand d.hand (eq.hands i c.0 d c.1 at)))
 
     abbrev On : Locking → Locking → Type 0
     On x y = LocksOn x.worker x.hand y.worker y.hand
@@ -140,7 +142,7 @@ module _ (claims : Counter) (best : Best) (queues : List PlainQueue) (team : Lis
         began : Locking
         at : slice_get team i ≡ Some from
         at_cell : slice_get cells i ≡ Some began
-        hand : HasNew locks i from.hand began.hand
+        hand : HasNew roots locks i from.hand began.hand
         worker : began.worker ≡ from.worker
         goes : On began e
 
@@ -225,7 +227,7 @@ module _ (claims : Counter) (best : Best) (queues : List PlainQueue) (team : Lis
               either : (i n : ℕ) → (i < n) ⊎ (n ≤ i)
               either i n = grind arith
 
-          pub went : (new : List Between) → new ≡ map holding later → Went part team queues new back
+          pub went : (new : List Between) → new ≡ map holding later → Went part roots team queues new back
           went new is = record {
             hands = hands;
             count = length-map later (λ (e : Locking). e.hand) ∙ len ∙ eq.count;
@@ -236,13 +238,14 @@ module _ (claims : Counter) (best : Best) (queues : List PlainQueue) (team : Lis
                 let from = same_Some r.from c (sym r.at ∙ at_c) in
                 let hand : e.0.hand ≡ k
                 = same_Some e.0.hand k (sym (map_at (λ (e : Locking). e.hand) later i e.0 e.1) ∙ at_k) in
-                subst (WentOn part (length queues) c d) hand
-                (subst (λ (d : Between). WentOn part (length queues) c d e.0.hand) e.2
-                (subst (λ (c : Between). WentOn part (length queues) c (holding e.0) e.0.hand) from (record {
+                subst (WentOn part roots (length queues) c d) hand
+                (subst (λ (d : Between). WentOn part roots (length queues) c d e.0.hand) e.2
+                (subst (λ (c : Between). WentOn part roots (length queues) c (holding e.0) e.0.hand) from (record {
                   first = r.began.hand;
+                  roots = ap (λ (h : LockKept). h.roots) r.hand.is;
                   begins = ap held_of r.hand.is;
                   count = ap (λ (h : LockKept). length h.passes) r.hand.is ∙ r.hand.count ∙ lock_count;
-                  fresh = fresh_calls locks i r.from.hand r.began.hand r.hand;
+                  fresh = fresh_calls roots locks i r.from.hand r.began.hand r.hand;
                   on = subst (λ (w : Working). LocksOn w r.began.hand e.0.worker e.0.hand) r.worker r.goes;
                   rests = refl;
                   in_part = all_at (λ (e : Locking). InPart part e.worker.phase) later i e.0 in_part e.1;

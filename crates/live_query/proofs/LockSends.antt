@@ -8,8 +8,8 @@ use Rattle.std.proofs.Crossing.{crosses}
 use Rattle.std.proofs.option.Option.TheSendSync as option
 use Rattle.best_word.proofs.number.BestWord.TheSendSync as best
 use Rattle.best_word.proofs.pass.WordPass.TheSendSync as seen
-use Rattle.claim_word.proofs.drawing.Claims.TheSendSync as claims
-use Rattle.claim_word.proofs.pass.ClaimPass.TheSendSync as claim
+use Rattle.live_query.proofs.root_claims.RootClaims.TheSendSync as claims
+use Rattle.live_query.proofs.root_claims.Drawing.TheSendSync as drawing
 use Rattle.leaf_queues.proofs.queue.Queue.TheSendSync as queue
 use Rattle.turn_lock.proofs.lock.LockOf.TheSendSync as lock
 use Rattle.turn_lock.proofs.lock.PassOf.TheSendSync as pass
@@ -32,7 +32,7 @@ lock_hand_sends ℓ n W s =
       lock.the_sync,
       pass.the_send,
       claims.the_sync,
-      claim.the_send,
+      drawing.the_send,
       best.the_sync,
       seen.the_send,
       crosses,

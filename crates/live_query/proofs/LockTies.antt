@@ -1,12 +1,11 @@
 -- What a call and its reply did to the hand over locked queues, the longer record says too (`lock_ties`).
-use Rattle.std.proofs.Common.{◌≡◌, ℕ, zero, suc, ◌+◌, ◌<◌, ◌≤◌, ◌++◌, List, [], ◌∷◌, ◌⊎◌, None, Some, true, false, length, set, sym, refl, ap, ◌∙◌, subst, inl, inr, ⊎_elim, append_assoc, arith}
+use Rattle.std.proofs.Common.{◌≡◌, ℕ, zero, suc, ◌+◌, ◌<◌, ◌≤◌, ◌++◌, List, [], ◌∷◌, ◌⊎◌, Option, None, Some, true, false, length, set, sym, refl, ap, ◌∙◌, subst, inl, inr, ⊎_elim, append_assoc, arith}
 use Rattle.std.specs.Prelude.{slice_get}
 use Rattle.std.proofs.lemmas.Bool.{cases_eq}
-use Rattle.std.proofs.lemmas.Option.{none-some, slice_get_within}
-use Rattle.list_totals.specs.Totals.{one_if_same, times, total}
+use Rattle.std.proofs.lemmas.Option.{slice_get_within}
+use Rattle.list_totals.specs.Totals.{one_if_same, total}
 use Rattle.list_totals.specs.Standing.{In}
-use Rattle.list_totals.proofs.Totals.{times_push, total_push}
-use Rattle.claim_word.specs.Passes.{drew}
+use Rattle.list_totals.proofs.Totals.{total_push}
 use Rattle.series_core.specs.declared.queue_words.PutReply.{PutReply}
 use Rattle.series_core.specs.declared.queue_words.PopReply.{PopReply}
 use Rattle.turn_lock.specs.declared.object.Entry.{Entry as Made}
@@ -23,7 +22,7 @@ use Rattle.search_machine.specs.declared.phase.Phase.TheVariants.{Claim, Look, G
 use Rattle.search_machine.specs.Ground.{Ground, entry_of, queue_of}
 use Rattle.search_machine.specs.Calls.{call_in}
 use Rattle.search_machine.specs.Closes.{puts_by}
-use Rattle.search_machine.specs.OwnRecord.{OwnRecord, PutMade, PopMade, RecordedWorker, claims_of, put_of}
+use Rattle.search_machine.specs.OwnRecord.{OwnRecord, PutMade, PopMade, RecordedWorker, put_of}
 use Rattle.search_machine.specs.Replies.{own_after}
 use Rattle.search_machine.specs.Workers.{Worker, round_queue}
 use Rattle.search_machine.proofs.Places.{get_set_other}
@@ -31,9 +30,11 @@ use Rattle.queue_histories.specs.Histories.{History}
 use Rattle.queue_histories.specs.Closings.{Agrees}
 use Rattle.queue_histories.specs.Rooms.{puts_at, puts_leaf}
 use Rattle.live_query.specs.FillHands.{InRange}
-use Rattle.live_query.specs.LockHands.{Called, LockDid, LockEnds, LockKept, NamesNone, QueuePass, calls_at, calls_of}
+use Rattle.live_query.specs.RootClaims.{DidClaim, DrawTied, Drawn}
+use Rattle.live_query.specs.LockHands.{Called, LockDid, LockKept, NamesNone, QueuePass, calls_at, calls_of}
 use Rattle.live_query.specs.LockKnowing.{Earlier, LockTied}
 use Rattle.live_query.proofs.Agreeing.{agrees_pop_here, agrees_pop_there, agrees_put_here, agrees_put_there, agrees_same}
+use Rattle.live_query.proofs.RootTies.{drawn_ties}
 use Rattle.live_query.proofs.FillTies.{get_here, set_length}
 
 -- after a call at queue m its calls there are one more, and those at another queue are as they were
@@ -74,37 +75,17 @@ module _ (earlier : Earlier) (x y : RecordedWorker) where
       let b = ap (total (put_of l)) puts in
       omega arith
 
-  -- a claim that gave a number, and one that gave none
-  tied_draw : (h k : LockKept) (n : ℕ) → k ≡ record h { claim = drew h.claim n } → y.own.claims ≡ Some n ∷ x.own.claims
+  -- a claim
+  tied_claim : (h k : LockKept) (o : Option ℕ) (d : Drawn) → 0 < h.roots.size → DidClaim h.roots h.drawn o d
+      → k ≡ record h { drawn = d } → y.own.claims ≡ o ∷ x.own.claims
       → y.own.reads ≡ x.own.reads → y.own.puts ≡ x.own.puts → y.own.pops ≡ x.own.pops
       → LockTied earlier h x → LockTied earlier k y
-  tied_draw h k n is claims reads puts pops t =
+  tied_claim h k o d some did is claims reads puts pops t =
       subst (λ (k : LockKept). LockTied earlier k y) (sym is) (record {
-        claims = λ c.
-            let e = t.claims c in
-            let a = times_push c h.claim.draws n in
-            let b = ap (total (claims_of c)) claims in
-            omega arith;
-        ended = λ i. ⊎_elim (λ (e : None ≡ Some n). absurd (none-some n e)) t.ended (subst (In None) claims i);
+        drawn = subst (DrawTied h.roots d) (sym claims) (drawn_ties h.roots some h.drawn d x.own.claims o did t.drawn);
         reads = λ v i. t.reads v (subst (In v) reads i);
-        calls = same_calls h (record h { claim = drew h.claim n }) refl puts pops t.calls;
-        named = same_named h (record h { claim = drew h.claim n }) refl puts t.named;
-      })
-
-  tied_end : (h k : LockKept) → LockEnds h k → y.own.claims ≡ None ∷ x.own.claims
-      → y.own.reads ≡ x.own.reads → y.own.puts ≡ x.own.puts → y.own.pops ≡ x.own.pops
-      → LockTied earlier h x → LockTied earlier k y
-  tied_end h k d claims reads puts pops t =
-      subst (λ (k : LockKept). LockTied earlier k y) (sym d.after) (record {
-        claims = λ c.
-            let e = t.claims c in
-            let a = ap (times c) d.draws in
-            let b = ap (total (claims_of c)) claims in
-            omega arith;
-        ended = λ i. d.ended;
-        reads = λ v i. t.reads v (subst (In v) reads i);
-        calls = same_calls h (record h { claim = d.pass }) refl puts pops t.calls;
-        named = same_named h (record h { claim = d.pass }) refl puts t.named;
+        calls = same_calls h (record h { drawn = d }) refl puts pops t.calls;
+        named = same_named h (record h { drawn = d }) refl puts t.named;
       })
 
   -- a reply that the record keeps as a read, and one that it does not
@@ -113,8 +94,7 @@ module _ (earlier : Earlier) (x y : RecordedWorker) where
       → LockTied earlier h x → LockTied earlier k y
   tied_read h k v low is claims reads puts pops t =
       subst (λ (k : LockKept). LockTied earlier k y) (sym is) (record {
-        claims = λ c. ap (total (claims_of c)) claims ∙ t.claims c;
-        ended = λ i. t.ended (subst (In None) claims i);
+        drawn = subst (DrawTied h.roots h.drawn) (sym claims) t.drawn;
         reads = λ u i. ⊎_elim (λ (e : u ≡ v). subst (InRange h.floor h.best) (sym e) low) (t.reads u)
             (subst (In u) reads i);
         calls = same_calls h h refl puts pops t.calls;
@@ -126,8 +106,7 @@ module _ (earlier : Earlier) (x y : RecordedWorker) where
       → LockTied earlier h x → LockTied earlier k y
   tied_other h k is claims reads puts pops t =
       subst (λ (k : LockKept). LockTied earlier k y) (sym is) (record {
-        claims = λ c. ap (total (claims_of c)) claims ∙ t.claims c;
-        ended = λ i. t.ended (subst (In None) claims i);
+        drawn = subst (DrawTied h.roots h.drawn) (sym claims) t.drawn;
         reads = λ u i. t.reads u (subst (In u) reads i);
         calls = same_calls h h refl puts pops t.calls;
         named = same_named h h refl puts t.named;
@@ -146,9 +125,8 @@ module _ (earlier : Earlier) (x y : RecordedWorker) where
 
     tied_call : LockTied earlier k y
     tied_call = record {
-      claims = λ c. ap (total (claims_of c)) claims ∙ t.claims c
-          ∙ ap (λ (k : LockKept). times c k.claim.draws) (sym d.after);
-      ended = λ i. ap (λ (k : LockKept). k.claim.ended) d.after ∙ t.ended (subst (In None) claims i);
+      drawn = subst (λ (k : LockKept). DrawTied k.roots k.drawn y.own.claims) (sym d.after)
+          (subst (DrawTied h.roots h.drawn) (sym claims) t.drawn);
       reads = λ u i. subst (λ (k : LockKept). InRange k.floor k.best u) (sym d.after)
           (t.reads u (subst (In u) reads i));
       calls = λ n low.
@@ -186,32 +164,29 @@ QueueThere g i n _ = Unit {0}
 
 -- the hand after a call is tied to the record after it
 pub lock_ties : (g : Ground) (i : ℕ) (earlier : Earlier) (x y : RecordedWorker) (h k : LockKept) (phase : Phase) (reply : Reply)
-    → y.own ≡ own_after g i x.worker x.own phase reply → QueueThere g i (length h.passes) phase
+    → y.own ≡ own_after g i x.worker x.own phase reply → QueueThere g i (length h.passes) phase → 0 < h.roots.size
     → LockDid h (call_in g i x.worker phase) reply k → LockTied earlier h x → LockTied earlier k y
-lock_ties g i earlier x y h k Claim (Claimed (Some n)) own q d t =
-    tied_draw earlier x y h k n d.1 (ap (λ (r : OwnRecord). r.claims) own) (ap (λ (r : OwnRecord). r.reads) own)
+lock_ties g i earlier x y h k Claim (Claimed o) own q z d t =
+    tied_claim earlier x y h k o d.0 z d.1 d.2 (ap (λ (r : OwnRecord). r.claims) own) (ap (λ (r : OwnRecord). r.reads) own)
     (ap (λ (r : OwnRecord). r.puts) own) (ap (λ (r : OwnRecord). r.pops) own) t
-lock_ties g i earlier x y h k Claim (Claimed None) own q d t =
-    tied_end earlier x y h k d (ap (λ (r : OwnRecord). r.claims) own) (ap (λ (r : OwnRecord). r.reads) own)
-    (ap (λ (r : OwnRecord). r.puts) own) (ap (λ (r : OwnRecord). r.pops) own) t
-lock_ties g i earlier x y h k Look (Seen v) own q d t =
+lock_ties g i earlier x y h k Look (Seen v) own q z d t =
     tied_read earlier x y h k v d.0 d.1 (ap (λ (r : OwnRecord). r.claims) own) (ap (λ (r : OwnRecord). r.reads) own)
     (ap (λ (r : OwnRecord). r.puts) own) (ap (λ (r : OwnRecord). r.pops) own) t
-lock_ties g i earlier x y h k (Late l) (Seen v) own q d t =
+lock_ties g i earlier x y h k (Late l) (Seen v) own q z d t =
     tied_read earlier x y h k v d.0 d.1 (ap (λ (r : OwnRecord). r.claims) own) (ap (λ (r : OwnRecord). r.reads) own)
     (ap (λ (r : OwnRecord). r.puts) own) (ap (λ (r : OwnRecord). r.pops) own) t
-lock_ties g i earlier x y h k (Aim j) (Seen v) own q d t =
+lock_ties g i earlier x y h k (Aim j) (Seen v) own q z d t =
     tied_read earlier x y h k v d.0 d.1 (ap (λ (r : OwnRecord). r.claims) own) (ap (λ (r : OwnRecord). r.reads) own)
     (ap (λ (r : OwnRecord). r.puts) own) (ap (λ (r : OwnRecord). r.pops) own) t
-lock_ties g i earlier x y h k (Offer next) (Offered v) own q d t =
+lock_ties g i earlier x y h k (Offer next) (Offered v) own q z d t =
     tied_other earlier x y h k d.1 (ap (λ (r : OwnRecord). r.claims) own) (ap (λ (r : OwnRecord). r.reads) own)
     (ap (λ (r : OwnRecord). r.puts) own) (ap (λ (r : OwnRecord). r.pops) own) t
-lock_ties g i earlier x y h k Done (Seen v) own q d t =
+lock_ties g i earlier x y h k Done (Seen v) own q z d t =
     tied_other earlier x y h k d.1 (ap (λ (r : OwnRecord). r.claims) own) (ap (λ (r : OwnRecord). r.reads) own)
     (ap (λ (r : OwnRecord). r.puts) own) (ap (λ (r : OwnRecord). r.pops) own) t
-lock_ties g i earlier x y h k (Give l) (PutTold reply) own q (inl none) t =
+lock_ties g i earlier x y h k (Give l) (PutTold reply) own q z (inl none) t =
     let out = none.0 in absurd (omega arith)
-lock_ties g i earlier x y h k (Give l) (PutTold reply) own q (inr d) t =
+lock_ties g i earlier x y h k (Give l) (PutTold reply) own q z (inr d) t =
     let m = queue_of g l in
     let e = entry_of g l in
     let puts = ap (λ (r : OwnRecord). r.puts) own in
@@ -222,9 +197,9 @@ lock_ties g i earlier x y h k (Give l) (PutTold reply) own q (inr d) t =
     (entry d.before.number (ToPut e) (PutAnswer reply)) refl refl refl puts pops)
     (λ n ne calls a. agrees_put_there n x y calls a m e reply ne puts pops)
     (λ l. let b = ap (total (put_of l)) puts in omega arith)
-lock_ties g i earlier x y h k (Pop j v) (PopTold reply) own q (inl none) t =
+lock_ties g i earlier x y h k (Pop j v) (PopTold reply) own q z (inl none) t =
     let out = none.0 in absurd (omega arith)
-lock_ties g i earlier x y h k (Pop j v) (PopTold reply) own q (inr d) t =
+lock_ties g i earlier x y h k (Pop j v) (PopTold reply) own q z (inr d) t =
     let m = round_queue g i j in
     let puts = ap (λ (r : OwnRecord). r.puts) own in
     let pops = ap (λ (r : OwnRecord). r.pops) own in
@@ -234,4 +209,4 @@ lock_ties g i earlier x y h k (Pop j v) (PopTold reply) own q (inr d) t =
     (entry d.before.number (ToPop v) (PopAnswer reply)) refl refl refl puts pops)
     (λ n ne calls a. agrees_pop_there n x y calls a m v reply ne puts pops)
     (λ l. let b = ap (total (put_of l)) puts in omega arith)
-lock_ties g i earlier x y h k _ _ own q d t = absurd d
+lock_ties g i earlier x y h k _ _ own q z d t = absurd d

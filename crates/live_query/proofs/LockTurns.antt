@@ -1,5 +1,5 @@
 -- A turn over locked queues: whatever the record was, there is a later one (`locks_on`), and its call is that of its part.
-use Rattle.std.proofs.Common.{◌≡◌, ◌≢◌, ◌+◌, ◌<◌, ℕ, [], ◌∷◌, None, Some, true, false, length, sym, refl, ap, ◌∙◌, subst, inl, inr, ⊎_elim, arith}
+use Rattle.std.proofs.Common.{◌≡◌, ◌≢◌, ◌+◌, ◌<◌, ℕ, [], ◌∷◌, Some, true, false, length, sym, refl, ap, ◌∙◌, subst, inl, inr, ⊎_elim, arith}
 use Rattle.std.specs.Prelude.{slice_get}
 use Rattle.std.proofs.Math.Nat.{mod-lt}
 use Rattle.std.proofs.lemmas.Bool.{cases_eq, true≢false}
@@ -31,16 +31,19 @@ use Rattle.query_core.specs.Questions.{last_of}
 use Rattle.query_core.specs.Turning.{Turns, search_of}
 use Rattle.query_core.specs.Working.{IsOf, Working}
 use Rattle.queue_histories.specs.Histories.{ArePops, ArePuts}
+use Rattle.live_query.specs.RootClaims.{IsOwn, Roots}
 use Rattle.live_query.specs.LockHands.{Called, LockDid, LockKept, NamesNone, QueuePass, calls_at}
 use Rattle.live_query.specs.LockKnowing.{LockServes, LocksBy, LocksOn, PopsAlone, PutsAlone, SamePlaces, Earlier}
 use Rattle.live_query.proofs.FillKnowing.{same_search}
 use Rattle.live_query.proofs.FillRunning.{fills_runs, not_end}
 use Rattle.live_query.proofs.GoingOn.{place_on, same_place}
+use Rattle.live_query.proofs.RootTies.{still_own}
 use Rattle.live_query.proofs.LockTies.{QueueThere, called_here, called_length, called_there, lock_ties}
 
 -- a call leaves the objects of the hand as they are
 pub record SameLocks (h k : LockKept) : Type 0 where
-  pub claims : k.claim.claims ≡ h.claim.claims
+  pub roots : k.roots ≡ h.roots
+  pub own : IsOwn h.roots h.drawn → IsOwn k.roots k.drawn
   pub best : k.best ≡ h.best
   pub floor : k.floor ≡ h.floor
   pub locks : k.locks ≡ h.locks
@@ -54,13 +57,20 @@ places_stay h = record {
 
 same_of : (h k : LockKept) → k ≡ h → SameLocks h k
 same_of h k e =
-    subst (SameLocks h) (sym e)
-    (record { claims = refl; best = refl; floor = refl; locks = refl; passes = places_stay h })
+    subst (SameLocks h) (sym e) (record {
+      roots = refl;
+      own = λ own. own;
+      best = refl;
+      floor = refl;
+      locks = refl;
+      passes = places_stay h;
+    })
 
 same_called : (h k : LockKept) (m : ℕ) (call : QueueCall) (reply : QueueReply) → Called h m call reply k → SameLocks h k
 same_called h k m call reply d =
     subst (SameLocks h) (sym d.after) (record {
-      claims = refl;
+      roots = refl;
+      own = λ own. own;
       best = refl;
       floor = refl;
       locks = refl;
@@ -78,12 +88,15 @@ same_called h k m call reply d =
     })
 
 pub did_same : (h k : LockKept) (call : Call) (reply : Reply) → LockDid h call reply k → SameLocks h k
-did_same h k ToClaim (Claimed (Some n)) d =
-    subst (SameLocks h) (sym d.1)
-    (record { claims = refl; best = refl; floor = refl; locks = refl; passes = places_stay h })
-did_same h k ToClaim (Claimed None) d =
-    subst (SameLocks h) (sym d.after)
-    (record { claims = d.claims; best = refl; floor = refl; locks = refl; passes = places_stay h })
+did_same h k ToClaim (Claimed o) d =
+    subst (SameLocks h) (sym d.2) (record {
+      roots = refl;
+      own = still_own h.roots h.drawn d.0 o d.1;
+      best = refl;
+      floor = refl;
+      locks = refl;
+      passes = places_stay h;
+    })
 did_same h k Read (Seen v) d = same_of h k d.1
 did_same h k (ToOffer x) (Offered v) d = same_of h k d.1
 did_same h k (PutCall m e) (PutTold reply) (inl none) = same_of h k none.1
@@ -131,8 +144,7 @@ same_pops h k e all = subst PopsAlone (sym e) all
 -- in the fill part a call at a queue is a put
 puts_alone : (g : Ground) (i : ℕ) (w : Worker) (h k : LockKept) (phase : Phase) (reply : Reply) → fills phase ≡ true
     → LockDid h (call_in g i w phase) reply k → PutsAlone h → PutsAlone k
-puts_alone g i w h k Claim (Claimed (Some n)) f d all = subst PutsAlone (sym d.1) all
-puts_alone g i w h k Claim (Claimed None) f d all = subst PutsAlone (sym d.after) all
+puts_alone g i w h k Claim (Claimed o) f d all = subst PutsAlone (sym d.2) all
 puts_alone g i w h k Look (Seen v) f d all = same_puts h k d.1 all
 puts_alone g i w h k (Late l) (Seen v) f d all = same_puts h k d.1 all
 puts_alone g i w h k (Offer ToLook) (Offered v) f d all = same_puts h k d.1 all
@@ -178,7 +190,8 @@ module _ (w v : Working) (h k : LockKept) (serves : LockServes w h)
     shown = (after g w.number x t.0).worker;
     shows = t.1.next 1 x serves.shows;
     fits = subst (λ (g : Ground). Fits g) (sym (same_search w v is)) serves.fits;
-    roots = ap (λ c. c.count) same.claims ∙ serves.roots ∙ sym (ap (λ ix. length ix.roots) is.index);
+    roots = ap (λ (r : Roots). r.count) same.roots ∙ serves.roots ∙ sym (ap (λ ix. length ix.roots) is.index);
+    size = subst (λ (r : Roots). 0 < r.size) (sym same.roots) serves.size;
     floor = same.floor ∙ serves.floor ∙ sym (ap last_of is.question);
     queues = same.passes.count ∙ serves.queues ∙ sym is.queues;
   }
@@ -190,7 +203,7 @@ module _ (w v : Working) (h k : LockKept) (serves : LockServes w h)
         (subst (λ (g : Ground). StandsFor g w.number (after (search_of w 1) w.number y t.0)) (sym (same_search w v is))
         (reply_stands g serves.fits w.number y t.0 (t.1.fits 1) known.stands));
     tied = lock_ties g w.number earlier y (after g w.number y t.0) h k y.worker.phase t.0 refl
-        (queue_there g w.number (length h.passes) y.worker.phase serves.queues serves.fits.some_queue)
+        (queue_there g w.number (length h.passes) y.worker.phase serves.queues serves.fits.some_queue) serves.size
         (t.1.called 1 y known.shows) known.tied;
   }
 
@@ -198,7 +211,8 @@ module _ (w v : Working) (h k : LockKept) (serves : LockServes w h)
   pub locks_on : LocksOn w h v k
   locks_on = record {
     place = is;
-    claims = same.claims;
+    roots = same.roots;
+    own = same.own;
     best = same.best;
     floor = same.floor;
     locks = same.locks;
@@ -230,7 +244,8 @@ module _ (w v : Working) (h k : LockKept) (serves : LockServes w h)
 pub locks_stay : (w : Working) (h : LockKept) → LocksOn w h w h
 locks_stay w h = record {
   place = same_place w;
-  claims = refl;
+  roots = refl;
+  own = λ own. own;
   best = refl;
   floor = refl;
   locks = refl;
@@ -241,7 +256,8 @@ locks_stay w h = record {
 pub locks_then : (w v u : Working) (h k m : LockKept) → LocksOn w h v k → LocksOn v k u m → LocksOn w h u m
 locks_then w v u h k m first second = record {
   place = place_on w v u first.place second.place;
-  claims = second.claims ∙ first.claims;
+  roots = second.roots ∙ first.roots;
+  own = λ own. second.own (first.own own);
   best = second.best ∙ first.best;
   floor = second.floor ∙ first.floor;
   locks = second.locks ∙ first.locks;

@@ -5,11 +5,12 @@ use Rattle.std.proofs.lemmas.List.{length-map}
 use Rattle.std.proofs.lemmas.List.Elements.{All-cons, All-head, All-tail}
 use Rattle.std.proofs.lemmas.Bool.{cond_both, eq-eqb}
 use Rattle.std.proofs.lemmas.Option.{none-some, same_Some, slice_get_within}
-use Rattle.list_totals.specs.Totals.{total, times}
+use mathlib.Core.List.{map-map}
+use Rattle.list_totals.specs.Totals.{total}
 use Rattle.list_totals.specs.Standing.{In}
 use Rattle.list_totals.proofs.Standing.{in_all, in_append, in_front}
-use Rattle.list_totals.proofs.Totals.{once_below_most, once_below_yes, total_append, total_map}
-use Rattle.claim_word.specs.Passes.{Claim as Counter, EachDrawnOnce, Pass}
+use Rattle.list_totals.proofs.Totals.{total_append}
+use Rattle.claim_word.specs.Passes.{EachDrawnOnce, Pass}
 use Rattle.best_word.specs.Passes.{Best}
 use Rattle.series_core.specs.declared.queue_words.Entry.{Entry}
 use Rattle.turn_lock.specs.declared.object.Entry.{Entry as Made}
@@ -24,7 +25,7 @@ use Rattle.search_machine.specs.declared.phase.Phase.TheVariants.{Done}
 use Rattle.search_machine.specs.declared.outcome.QueueLine.{QueueLine}
 use Rattle.search_machine.specs.Basics.{Between as InLimits, Ordered}
 use Rattle.search_machine.specs.Closes.{AllStand, ClaimedOnce, Closes, claimed_by, final, puts_by}
-use Rattle.search_machine.specs.Ground.{Fits, Ground, queue_of, start_limit}
+use Rattle.search_machine.specs.Ground.{Fits, Ground, queue_of}
 use Rattle.search_machine.specs.Machine.{capacity_of, empty_queues}
 use Rattle.search_machine.specs.Outcome.{line_of}
 use Rattle.search_machine.specs.OwnRecord.{RecordedWorker, is_refused, nothing_yet}
@@ -32,7 +33,6 @@ use Rattle.search_machine.specs.Stands.{StandsFor}
 use Rattle.search_machine.specs.Workers.{fills}
 use Rattle.search_machine.proofs.AnyWorkers.{stands_any}
 use Rattle.search_machine.proofs.Closing.{closed_legal}
-use Rattle.search_machine.proofs.EveryReply.{own_idle, own_leader}
 use Rattle.search_machine.proofs.ClosedStraight.{closed_straight}
 use Rattle.search_machine.proofs.OwnLate.{below_real}
 use Rattle.search_machine.proofs.Places.{get_map, get_some}
@@ -44,21 +44,21 @@ use Rattle.queue_histories.proofs.Callers.{by_team}
 use Rattle.queue_histories.proofs.Closings.{closes as queue_says, unrefused}
 use Rattle.queue_histories.proofs.Joins.{calls_joined, leads_joined, taken_ascends}
 use Rattle.queue_histories.proofs.Rooms.{different_placed}
-use Rattle.query_core.specs.Questions.{CanBeSearched, Question, last_of, search_over}
-use Rattle.query_core.specs.Teams.{AreHired, AreOver}
+use Rattle.query_core.specs.Questions.{Question, last_of, search_over}
+use Rattle.query_core.specs.Teams.{AreOver}
 use Rattle.query_core.specs.Turning.{search_of}
-use Rattle.query_core.specs.Working.{IsOf, Shows, Working, opens_as}
+use Rattle.query_core.specs.Working.{IsOf, Shows, Working}
 use Rattle.query_core.proofs.OfIndex.{last_is, search_fits}
 use Rattle.live_query.specs.declared.part.Part.TheVariants.{Fill, Drain}
-use Rattle.live_query.specs.Holding.{Held, fresh_held}
+use Rattle.live_query.specs.Holding.{Held}
+use Rattle.live_query.specs.RootClaims.{DrawTied, Drawn, IsOwn, Roots, group_count}
 use Rattle.live_query.specs.LockHands.{LockKept, calls_at}
 use Rattle.live_query.specs.LockKnowing.{Earlier, InPart, LockTied, LocksBy}
-use Rattle.live_query.specs.LockParts.{Between, IsServed, Went, WentBy, WentOn, calls_by_hand, held_of}
-use Rattle.live_query.specs.Parts.{EndsRight}
-use Rattle.live_query.proofs.FillGather.{search_at}
-use Rattle.live_query.proofs.FillRunning.{is_end, not_end}
-use Rattle.live_query.proofs.GoingOn.{place_on}
-use Rattle.live_query.proofs.Places.{Chosen, all_at, all_from, choose, map_at, totals_same}
+use Rattle.live_query.specs.LockParts.{IsServed, Went, WentBy, WentOn, calls_by_hand, held_of}
+use Rattle.live_query.specs.Parts.{Between, EndsRight, IsOpen, Opens}
+use Rattle.live_query.proofs.Openers.{filled_ended, fits_one, moved, opener, opener_drawn, opener_floor, opener_own, opener_runs, opener_stands, opener_word, search_at}
+use Rattle.live_query.proofs.Places.{Chosen, all_from, all_map, choose, map_at}
+use Rattle.live_query.proofs.RootGather.{given_all, given_once}
 
 -- a list with nothing behind it
 with_none : {X : Type 0} (xs : List X) → xs ++ [] ≡ xs
@@ -102,7 +102,7 @@ empty_at g m (suc n) zero q e =
 empty_at g m (suc n) (suc j) q e =
     empty_at g (suc m) n j q e ∙ ap (opened_for g) (let s : suc m + j ≡ m + suc j = omega arith in s)
 
-empty_count : (g : Ground) (m n : ℕ) → length (empty_queues g m n) ≡ n
+pub empty_count : (g : Ground) (m n : ℕ) → length (empty_queues g m n) ≡ n
 empty_count g m zero = refl
 empty_count g m (suc n) = ap suc (empty_count g (suc m) n)
 
@@ -119,9 +119,8 @@ of_caller y (x ∷ log) i =
     (λ (later : In y log). of_caller y log later)
     i)
 
-module _ (a : Question) (ix : IndexParts) (m : ℕ) (best : Best) (counter : Counter) (searches : CanBeSearched a ix) (some : 0 < m)
-    (n : ℕ) (some_worker : 0 < n) (roots : counter.count ≡ length ix.roots)
-    (start : best.start ≡ start_limit (search_over a ix 1 m)) where
+module _ (a : Question) (ix : IndexParts) (m : ℕ) (roots : Roots) (best : Best) (some : 0 < m) (team : List Between)
+    (opens : Opens a ix m roots best team) (n : ℕ) (some_worker : 0 < n) (as_many : length team ≡ n) where
   abbrev one : Ground
   one = search_over a ix 1 m
 
@@ -129,488 +128,460 @@ module _ (a : Question) (ix : IndexParts) (m : ℕ) (best : Best) (counter : Cou
   g = search_over a ix n m
 
   fits : Fits g
-  fits = search_fits a ix n m searches some_worker some
-
-  fits_one : Fits one
-  fits_one = search_fits a ix 1 m searches (omega arith) some
+  fits = search_fits a ix n m opens.searches some_worker some
 
   -- a searcher at its place, whose worker shows some worker
   record Placed (i : ℕ) (c : Between) : Type 0 where
     place : IsOf a ix m i c.worker
     shown : RecordedWorker
     shows : Shows c.worker shown.worker
-    claims : c.hand.claim.claims ≡ counter
+    own : IsOwn roots c.hand.drawn
     word : c.hand.best ≡ best
     floor : c.hand.floor ≡ last_of a
 
-  served_at : (queues : ℕ) → queues ≡ m → (i : ℕ) (c : Between) → Placed i c → IsServed counter best queues c
+  served_at : (queues : ℕ) → queues ≡ m → (i : ℕ) (c : Between) → Placed i c → IsServed roots best queues c
   served_at queues same i c p = record {
     shown = p.shown.worker;
     shows = p.shows;
-    fits = subst (λ (h : Ground). Fits h) (sym (search_at a ix m i c.worker p.place)) fits_one;
-    count = roots ∙ sym (ap (λ ix. length ix.roots) p.place.index);
+    fits = subst (λ (h : Ground). Fits h) (sym (search_at a ix m i c.worker p.place)) (fits_one a ix m roots best some team opens);
+    count = opens.count ∙ sym (ap (λ ix. length ix.roots) p.place.index);
+    size = opens.size;
     last = p.floor ∙ sym (ap last_of p.place.question);
     queues_are = same ∙ sym p.place.queues;
-    claim = p.claims;
+    own = p.own;
     word = p.word;
   }
 
-  -- a searcher as it opens
-  record Opens (i : ℕ) (c : Between) : Type 0 where
-    place : IsOf a ix m i c.worker
-    shows : Shows c.worker (opens_as one i)
-    hand : c.hand ≡ fresh_held counter best (last_of a)
+  placed_first : (i : ℕ) (c : Between) → IsOpen a ix m roots best i c → Placed i c
+  placed_first i c o = record {
+    place = o.place;
+    shown = opener a ix m roots best some team opens i;
+    shows = o.shows;
+    own = opener_own a ix m roots best some team opens i c o;
+    word = opener_word a ix m roots best some team opens i c o;
+    floor = opener_floor a ix m roots best some team opens i c o;
+  }
 
-  abbrev opener : ℕ → RecordedWorker
-  opener i = record { worker = opens_as one i; own = nothing_yet }
+  pub first_served : (queues : ℕ) → queues ≡ m → All (IsServed roots best queues) team
+  first_served queues same = all_from (IsServed roots best queues) team
+      (λ i c at. served_at queues same i c (placed_first i c (opens.each i c at)))
 
-  opener_stands : (i : ℕ) → StandsFor one i (opener i)
-  opener_stands zero = own_leader one fits_one
-  opener_stands (suc i) = own_idle one (suc i) (omega arith)
+  pub first_running : All (λ (c : Between). c.worker.phase ≢ Done) team
+  first_running = all_from (λ (c : Between). c.worker.phase ≢ Done) team
+      (λ i c at. opener_runs a ix m roots best some team opens i c (opens.each i c at))
 
-  module _ (team : List Between) (ws : List Working) (as_many : length team ≡ n)
-      (are : map (λ (c : Between). c.worker) team ≡ ws) (hired : AreHired a ix m ws)
-      (hands : All (λ (c : Between). c.hand ≡ fresh_held counter best (last_of a)) team) where
-    opens : (i : ℕ) (c : Between) → slice_get team i ≡ Some c → Opens i c
-    opens i c at =
-        let there = ap (λ l. slice_get l i) (sym are) ∙ map_at (λ (c : Between). c.worker) team i c at in
+  module _ (qs0 qs1 : List PlainQueue) (team1 : List Between) (empty : qs0 ≡ empty_queues g 0 m)
+      (filled : Went Fill roots team qs0 team1 qs1) where
+    pub count0 : length qs0 ≡ m
+    count0 = ap (λ (l : List PlainQueue). length l) empty ∙ empty_count g 0 m
+
+    pub count1 : length qs1 ≡ m
+    count1 = filled.queue_count ∙ count0
+
+    abbrev no_calls : Earlier
+    no_calls j = []
+
+    -- a searcher after the fill part, with its record
+    record Filled (i : ℕ) (d : Between) : Type 0 where
+      hand : LockKept
+      at : slice_get filled.hands i ≡ Some hand
+      from : Between
+      went : WentOn Fill roots (length qs0) from d hand
+      place : IsOf a ix m i d.worker
+      own : RecordedWorker
+      knows : LocksBy no_calls d.worker hand own
+      roots_are : hand.roots ≡ roots
+      draws_own : IsOwn roots hand.drawn
+      word : hand.best ≡ best
+      floor : hand.floor ≡ last_of a
+
+    filled_at : (i : ℕ) (d : Between) → slice_get team1 i ≡ Some d → Filled i d
+    filled_at i d at =
+        let low = slice_get_within team1 i d at in
+        let k = get_some filled.hands i (let x = filled.same in let y = filled.count in omega arith) in
+        let c = get_some team i (let x = filled.same in omega arith) in
+        let w = filled.each i c.0 d k.0 c.1 at k.1 in
+        let o = opens.each i c.0 c.1 in
+        let x = opener a ix m roots best some team opens i in
+        let place = moved a ix m i c.0.worker d.worker o.place w.on.place in
+        let first = w.roots in
+        let y = w.on.on no_calls x (record {
+          shows = o.shows;
+          stands = opener_stands a ix m roots best some team opens i c.0 o;
+          tied = record {
+            drawn = subst (λ (r : Roots). DrawTied r w.first.drawn []) (sym first)
+                (subst (λ (h : Held). DrawTied roots h.drawn []) (sym w.begins)
+                (opener_drawn a ix m roots best some team opens i c.0 o));
+            reads = λ v i. absurd i;
+            calls = λ j low. subst (Agrees j x) (sym (w.fresh j)) (agrees_nothing j x refl);
+            named = λ j l low. let e = ap (total (puts_at l)) (w.fresh j) in omega arith;
+          };
+        }) in
         record {
-          place = hired.places i c.worker there;
-          shows = hired.opens i c.worker there;
-          hand = all_at (λ (c : Between). c.hand ≡ fresh_held counter best (last_of a)) team i c hands at;
+          hand = k.0;
+          at = k.1;
+          from = c.0;
+          went = w;
+          place = place;
+          own = y.0;
+          knows = y.1;
+          roots_are = w.on.roots ∙ first;
+          draws_own = subst (λ (r : Roots). IsOwn r k.0.drawn) (w.on.roots ∙ first) (w.on.own
+              (subst (λ (r : Roots). IsOwn r w.first.drawn) (sym first)
+              (subst (λ (h : Held). IsOwn roots h.drawn) (sym w.begins) (opener_own a ix m roots best some team opens i c.0 o))));
+          word = w.on.best ∙ ap (λ (h : Held). h.best) w.begins ∙ opener_word a ix m roots best some team opens i c.0 o;
+          floor = w.on.floor ∙ ap (λ (h : Held). h.floor) w.begins ∙ opener_floor a ix m roots best some team opens i c.0 o;
         }
 
-    placed_first : (i : ℕ) (c : Between) → Opens i c → Placed i c
-    placed_first i c o = record {
-      place = o.place;
-      shown = opener i;
-      shows = o.shows;
-      claims = ap (λ (h : Held). h.claim.claims) o.hand;
-      word = ap (λ (h : Held). h.best) o.hand;
-      floor = ap (λ (h : Held). h.floor) o.hand;
+    placed_then : (i : ℕ) (d : Between) → Filled i d → Placed i d
+    placed_then i d f = record {
+      place = f.place;
+      shown = f.own;
+      shows = f.knows.shows;
+      own = subst (λ (h : Held). IsOwn roots h.drawn) (sym f.went.rests) f.draws_own;
+      word = ap (λ (h : Held). h.best) f.went.rests ∙ f.word;
+      floor = ap (λ (h : Held). h.floor) f.went.rests ∙ f.floor;
     }
 
-    pub first_served : (queues : ℕ) → queues ≡ m → All (IsServed counter best queues) team
-    first_served queues same = all_from (IsServed counter best queues) team
-        (λ i c at. served_at queues same i c (placed_first i c (opens i c at)))
+    pub then_served : All (IsServed roots best (length qs1)) team1
+    then_served = all_from (IsServed roots best (length qs1)) team1
+        (λ i d at. served_at (length qs1) count1 i d (placed_then i d (filled_at i d at)))
 
-    pub first_running : All (λ (c : Between). c.worker.phase ≢ Done) team
-    first_running = all_from (λ (c : Between). c.worker.phase ≢ Done) team
-        (λ i c at. not_end c.worker.phase (ap is_end (sym (opens i c at).shows.phase) ∙ claims_at i))
-      where
-        claims_at : (i : ℕ) → is_end (opens_as one i).phase ≡ false
-        claims_at zero = refl
-        claims_at (suc i) = refl
+    pub then_running : All (λ (d : Between). d.worker.phase ≢ Done) team1
+    then_running = all_from (λ (d : Between). d.worker.phase ≢ Done) team1
+        (λ i d at. (filled_at i d at).went.in_part)
 
-    module _ (qs0 qs1 : List PlainQueue) (team1 : List Between) (empty : qs0 ≡ empty_queues g 0 m)
-        (filled : Went Fill team qs0 team1 qs1) where
-      count0 : length qs0 ≡ m
-      count0 = ap (λ (l : List PlainQueue). length l) empty ∙ empty_count g 0 m
+    pub then_drains : All (λ (d : Between). fills d.worker.phase ≡ false) team1
+    then_drains = all_from (λ (d : Between). fills d.worker.phase ≡ false) team1
+        (λ i d at. (filled_at i d at).went.ends)
 
-      pub count1 : length qs1 ≡ m
-      count1 = filled.queue_count ∙ count0
+    module _ (qs2 : List PlainQueue) (team2 : List Between) (drained : Went Drain roots team1 qs1 team2 qs2) where
+      queues_are : length qs2 ≡ m
+      queues_are = drained.queue_count ∙ count1
 
-      abbrev no_calls : Earlier
-      no_calls j = []
+      team_count : length team2 ≡ n
+      team_count = drained.same ∙ filled.same ∙ as_many
 
-      -- a searcher after the fill part, with its record
-      record Filled (i : ℕ) (d : Between) : Type 0 where
+      -- a searcher that has drained, with the record of all its calls
+      record Ended (i : ℕ) (y : RecordedWorker) : Type 0 where
+        cell : Between
+        at : slice_get team2 i ≡ Some cell
+        before : Between
+        fill : Filled i before
         hand : LockKept
-        at : slice_get filled.hands i ≡ Some hand
-        from : Between
-        went : WentOn Fill (length qs0) from d hand
-        place : IsOf a ix m i d.worker
-        own : RecordedWorker
-        knows : LocksBy no_calls d.worker hand own
-        claims : hand.claim.claims ≡ counter
+        hand_at : slice_get drained.hands i ≡ Some hand
+        went : WentOn Drain roots (length qs1) before cell hand
+        place : IsOf a ix m i cell.worker
+        knows : LocksBy (λ j. calls_at fill.hand j) cell.worker hand y
+        roots_are : hand.roots ≡ roots
+        draws_own : IsOwn roots hand.drawn
         word : hand.best ≡ best
         floor : hand.floor ≡ last_of a
 
-      filled_at : (i : ℕ) (d : Between) → slice_get team1 i ≡ Some d → Filled i d
-      filled_at i d at =
-          let low = slice_get_within team1 i d at in
-          let k = get_some filled.hands i (let x = filled.same in let y = filled.count in omega arith) in
-          let c = get_some team i (let x = filled.same in omega arith) in
-          let w = filled.each i c.0 d k.0 c.1 at k.1 in
-          let o = opens i c.0 c.1 in
-          let begins = w.begins ∙ o.hand in
-          let place = moved c.0.worker d.worker i o.place w.on.place in
-          let y = w.on.on no_calls (opener i) (record {
-            shows = o.shows;
-            stands = subst (λ (j : ℕ). StandsFor (search_of c.0.worker 1) j (opener i)) (sym o.place.number)
-                (subst (λ (h : Ground). StandsFor h i (opener i)) (sym (search_at a ix m i c.0.worker o.place))
-                (opener_stands i));
+      ended : (i : ℕ) → i < length team2 → (y : RecordedWorker) × Ended i y
+      ended i low =
+          let e = get_some team2 i low in
+          let d = get_some team1 i (let x = drained.same in omega arith) in
+          let k = get_some drained.hands i (let x = drained.same in let y = drained.count in omega arith) in
+          let w = drained.each i d.0 e.0 k.0 d.1 e.1 k.1 in
+          let f = filled_at i d.0 d.1 in
+          let begins : held_of w.first ≡ held_of f.hand = w.begins ∙ f.went.rests in
+          let t = f.knows.tied in
+          let y = w.on.on (λ j. calls_at f.hand j) f.own (record {
+            shows = f.knows.shows;
+            stands = f.knows.stands;
             tied = record {
-              claims = λ x. ap (λ (h : Held). times x h.claim.draws) (sym begins);
-              ended = λ i. absurd i;
-              reads = λ v i. absurd i;
-              calls = λ j low. subst (Agrees j (opener i)) (sym (w.fresh j)) (agrees_nothing j (opener i) refl);
-              named = λ j l low. let e = ap (total (puts_at l)) (w.fresh j) in omega arith;
+              drawn = subst (λ (h : Held). DrawTied w.first.roots h.drawn f.own.own.claims) (sym begins)
+                  (subst (λ (r : Roots). DrawTied r f.hand.drawn f.own.own.claims) (f.roots_are ∙ sym w.roots) t.drawn);
+              reads = λ v i. subst (λ (h : Held). (h.floor ≤ v) × (v ≤ h.best.start)) (sym begins) (t.reads v i);
+              calls = λ j low.
+                  subst (λ cs. Agrees j f.own (calls_at f.hand j ++ cs)) (sym (w.fresh j))
+                  (subst (Agrees j f.own) (sym (with_none (calls_at f.hand j)))
+                  (t.calls j (let x = w.count in let y = f.went.count in let z = f.went.on.passes.count in
+                  let u = count0 in let v = count1 in omega arith)));
+              named = λ j l low.
+                  let old = t.named j l (let x = w.count in let y = f.went.count in let z = f.went.on.passes.count in
+                  let u = count0 in let v = count1 in omega arith) in
+                  let s = ap (λ cs. total (puts_at l) (calls_at f.hand j ++ cs)) (w.fresh j)
+                  ∙ ap (total (puts_at l)) (with_none (calls_at f.hand j)) in
+                  omega arith;
             };
-          }) in
-          record {
-            hand = k.0;
-            at = k.1;
-            from = c.0;
-            went = w;
-            place = place;
-            own = y.0;
-            knows = y.1;
-            claims = w.on.claims ∙ ap (λ (h : Held). h.claim.claims) begins;
-            word = w.on.best ∙ ap (λ (h : Held). h.best) begins;
-            floor = w.on.floor ∙ ap (λ (h : Held). h.floor) begins;
-          }
-        where
-          moved : (w v : Working) (i : ℕ) → IsOf a ix m i w → IsOf w.question w.index w.queues w.number v → IsOf a ix m i v
-          moved w v i first second = record {
-            question = second.question ∙ first.question;
-            index = second.index ∙ first.index;
-            number = second.number ∙ first.number;
-            queues = second.queues ∙ first.queues;
-          }
+          }) in (
+            y.0,
+            record {
+              cell = e.0;
+              at = e.1;
+              before = d.0;
+              fill = f;
+              hand = k.0;
+              hand_at = k.1;
+              went = w;
+              place = moved a ix m i d.0.worker e.0.worker f.place w.on.place;
+              knows = y.1;
+              roots_are = w.on.roots ∙ w.roots;
+              draws_own = subst (λ (r : Roots). IsOwn r k.0.drawn) (w.on.roots ∙ w.roots) (w.on.own
+                  (subst (λ (r : Roots). IsOwn r w.first.drawn) (sym w.roots)
+                  (subst (λ (h : Held). IsOwn roots h.drawn) (sym begins) f.draws_own)));
+              word = w.on.best ∙ ap (λ (h : Held). h.best) begins ∙ f.word;
+              floor = w.on.floor ∙ ap (λ (h : Held). h.floor) begins ∙ f.floor;
+            },
+          )
 
-      placed_then : (i : ℕ) (d : Between) → Filled i d → Placed i d
-      placed_then i d f = record {
-        place = f.place;
-        shown = f.own;
-        shows = f.knows.shows;
-        claims = ap (λ (h : Held). h.claim.claims) f.went.rests ∙ f.claims;
-        word = ap (λ (h : Held). h.best) f.went.rests ∙ f.word;
-        floor = ap (λ (h : Held). h.floor) f.went.rests ∙ f.floor;
-      }
+      all : Chosen (length team2) Ended
+      all = choose (length team2) Ended ended
 
-      pub then_served : All (IsServed counter best (length qs1)) team1
-      then_served = all_from (IsServed counter best (length qs1)) team1
-          (λ i d at. served_at (length qs1) count1 i d (placed_then i d (filled_at i d at)))
+      abbrev ys : List RecordedWorker
+      ys = all.items
 
-      pub then_running : All (λ (d : Between). d.worker.phase ≢ Done) team1
-      then_running = all_from (λ (d : Between). d.worker.phase ≢ Done) team1
-          (λ i d at. (filled_at i d at).went.in_part)
+      stands : AllStand g ys
+      stands i y at =
+          let e = all.each i y at in
+          stands_any one n i y
+          (subst (λ (j : ℕ). StandsFor one j y) e.place.number
+          (subst (λ (h : Ground). StandsFor h e.cell.worker.number y) (search_at a ix m i e.cell.worker e.place)
+          e.knows.stands))
 
-      pub then_drains : All (λ (d : Between). fills d.worker.phase ≡ false) team1
-      then_drains = all_from (λ (d : Between). fills d.worker.phase ≡ false) team1
-          (λ i d at. (filled_at i d at).went.ends)
+      worker_done : (i : ℕ) (y : RecordedWorker) → slice_get ys i ≡ Some y → y.worker.phase ≡ Done
+      worker_done i y at = let e = all.each i y at in e.knows.shows.phase ∙ e.went.ends
 
-      module _ (qs2 : List PlainQueue) (team2 : List Between) (drained : Went Drain team1 qs1 team2 qs2) where
-        queues_are : length qs2 ≡ m
-        queues_are = drained.queue_count ∙ count1
+      in_range : (i : ℕ) (y : RecordedWorker) (v : ℕ) → slice_get ys i ≡ Some y → In v y.own.reads → InLimits g v
+      in_range i y v at read =
+          let e = all.each i y at in
+          let r = e.knows.tied.reads v read in
+          let low = e.floor ∙ sym (last_is a ix n m opens.searches.question) in
+          let high = ap (λ (b : Best). b.start) e.word ∙ opens.start in
+          (omega (arith, r.0, low), omega (arith, r.1, high))
 
-        team_count : length team2 ≡ n
-        team_count = drained.same ∙ filled.same ∙ as_many
+      pub sizes_are : (ws : List Working) (ls : List QueueLine) → ws ≡ map (λ (c : Between). c.worker) team2 → ls ≡ map line_of qs2
+          → (length ws ≡ length team) × (length ls ≡ m)
+      sizes_are ws ls ws_are ls_are = (
+        ap (λ (l : List Working). length l) ws_are ∙ length-map team2 (λ (c : Between). c.worker) ∙ drained.same ∙ filled.same,
+        ap (λ (l : List QueueLine). length l) ls_are ∙ length-map qs2 line_of ∙ queues_are,
+      )
 
-        -- a searcher that has drained, with the record of all its calls
-        record Ended (i : ℕ) (y : RecordedWorker) : Type 0 where
-          cell : Between
-          at : slice_get team2 i ≡ Some cell
-          before : Between
-          fill : Filled i before
-          hand : LockKept
-          hand_at : slice_get drained.hands i ≡ Some hand
-          went : WentOn Drain (length qs1) before cell hand
-          place : IsOf a ix m i cell.worker
-          knows : LocksBy (λ j. calls_at fill.hand j) cell.worker hand y
-          claims : hand.claim.claims ≡ counter
-          word : hand.best ≡ best
-          floor : hand.floor ≡ last_of a
+      pub all_over : (ws : List Working) → ws ≡ map (λ (c : Between). c.worker) team2 → AreOver a ix ws
+      all_over ws is i w at =
+          let c = get_map (λ (c : Between). c.worker) team2 i w (ap (λ l. slice_get l i) (sym is) ∙ at) in
+          let e = ended i (slice_get_within team2 i c.0 c.1) in
+          let same = same_Some e.1.cell c.0 (sym e.1.at ∙ c.1) in
+          subst (λ (v : Working). (v.question ≡ a) × (v.index ≡ ix)) (ap (λ (c : Between). c.worker) same ∙ c.2)
+          (e.1.place.question, e.1.place.index)
 
-        ended : (i : ℕ) → i < length team2 → (y : RecordedWorker) × Ended i y
-        ended i low =
-            let e = get_some team2 i low in
-            let d = get_some team1 i (let x = drained.same in omega arith) in
-            let k = get_some drained.hands i (let x = drained.same in let y = drained.count in omega arith) in
-            let w = drained.each i d.0 e.0 k.0 d.1 e.1 k.1 in
-            let f = filled_at i d.0 d.1 in
-            let begins : held_of w.first ≡ held_of f.hand = w.begins ∙ f.went.rests in
-            let t = f.knows.tied in
-            let y = w.on.on (λ j. calls_at f.hand j) f.own (record {
-              shows = f.knows.shows;
-              stands = f.knows.stands;
-              tied = record {
-                claims = λ x. t.claims x ∙ ap (λ (h : Held). times x h.claim.draws) (sym begins);
-                ended = λ i. ap (λ (h : Held). h.claim.ended) begins ∙ t.ended i;
-                reads = λ v i. subst (λ (h : Held). (h.floor ≤ v) × (v ≤ h.best.start)) (sym begins) (t.reads v i);
-                calls = λ j low.
-                    subst (λ cs. Agrees j f.own (calls_at f.hand j ++ cs)) (sym (w.fresh j))
-                    (subst (Agrees j f.own) (sym (with_none (calls_at f.hand j)))
-                    (t.calls j (let x = w.count in let y = f.went.count in let z = f.went.on.passes.count in
-                    let u = count0 in let v = count1 in omega arith)));
-                named = λ j l low.
-                    let old = t.named j l (let x = w.count in let y = f.went.count in let z = f.went.on.passes.count in
-                    let u = count0 in let v = count1 in omega arith) in
-                    let s = ap (λ cs. total (puts_at l) (calls_at f.hand j ++ cs)) (w.fresh j)
-                    ∙ ap (total (puts_at l)) (with_none (calls_at f.hand j)) in
-                    omega arith;
-              };
-            }) in (
-              y.0,
-              record {
-                cell = e.0;
-                at = e.1;
-                before = d.0;
-                fill = f;
-                hand = k.0;
-                hand_at = k.1;
-                went = w;
-                place = moved d.0.worker e.0.worker i f.place w.on.place;
-                knows = y.1;
-                claims = w.on.claims ∙ ap (λ (h : Held). h.claim.claims) begins ∙ f.claims;
-                word = w.on.best ∙ ap (λ (h : Held). h.best) begins ∙ f.word;
-                floor = w.on.floor ∙ ap (λ (h : Held). h.floor) begins ∙ f.floor;
-              },
-            )
-          where
-            moved : (w v : Working) (i : ℕ) → IsOf a ix m i w → IsOf w.question w.index w.queues w.number v → IsOf a ix m i v
-            moved w v i first second = record {
-              question = second.question ∙ first.question;
-              index = second.index ∙ first.index;
-              number = second.number ∙ first.number;
-              queues = second.queues ∙ first.queues;
-            }
+      pub own_passes : (passes : List Pass) → passes ≡ map (λ (c : Between). c.hand.drawn.pass) team2
+          → All (λ (p : Pass). p.claims ≡ roots.counter) passes
+      own_passes passes is = all_map (λ (p : Pass). p.claims ≡ roots.counter) (λ (c : Between). c.hand.drawn.pass) team2 passes is
+          (λ i c at.
+          let e = ended i (slice_get_within team2 i c at) in
+          let same = same_Some e.1.cell c (sym e.1.at ∙ at) in
+          (subst (λ (h : Held). IsOwn roots h.drawn) (sym e.1.went.rests ∙ ap (λ (c : Between). c.hand) same) e.1.draws_own).claims)
 
-        all : Chosen (length team2) Ended
-        all = choose (length team2) Ended ended
+      module _ (passes : List Pass) (draws_are : passes ≡ map (λ (c : Between). c.hand.drawn.pass) team2)
+          (drawn : EachDrawnOnce (group_count roots.size roots.count) passes) where
+        abbrev draws : List Drawn
+        draws = map (λ (c : Between). c.hand.drawn) team2
 
-        abbrev ys : List RecordedWorker
-        ys = all.items
+        draws_count : length ys ≡ length draws
+        draws_count = all.count ∙ sym (length-map team2 (λ (c : Between). c.hand.drawn))
 
-        stands : AllStand g ys
-        stands i y at =
-            let e = all.each i y at in
-            stands_any one n i y
-            (subst (λ (j : ℕ). StandsFor one j y) e.place.number
-            (subst (λ (h : Ground). StandsFor h e.cell.worker.number y) (search_at a ix m i e.cell.worker e.place)
-            e.knows.stands))
+        draws_tied : (i : ℕ) (d : Drawn) (y : RecordedWorker) → slice_get draws i ≡ Some d → slice_get ys i ≡ Some y
+            → DrawTied roots d y.own.claims
+        draws_tied i d y at_d at_y =
+            let e = all.each i y at_y in
+            let there : e.cell.hand.drawn ≡ d
+            = same_Some e.cell.hand.drawn d (sym (map_at (λ (c : Between). c.hand.drawn) team2 i e.cell e.at) ∙ at_d) in
+            subst (λ (d : Drawn). DrawTied roots d y.own.claims) (sym (ap (λ (h : Held). h.drawn) e.went.rests) ∙ there)
+            (subst (λ (r : Roots). DrawTied r e.hand.drawn y.own.claims) e.roots_are e.knows.tied.drawn)
 
-        worker_done : (i : ℕ) (y : RecordedWorker) → slice_get ys i ≡ Some y → y.worker.phase ≡ Done
-        worker_done i y at = let e = all.each i y at in e.knows.shows.phase ∙ e.went.ends
+        draws_ended : (i : ℕ) (y : RecordedWorker) → slice_get ys i ≡ Some y → In None y.own.claims
+        draws_ended i y at = filled_ended g i y (stands i y at) (ap fills (worker_done i y at))
 
-        in_range : (i : ℕ) (y : RecordedWorker) (v : ℕ) → slice_get ys i ≡ Some y → In v y.own.reads → InLimits g v
-        in_range i y v at read =
-            let e = all.each i y at in
-            let r = e.knows.tied.reads v read in
-            let low = e.floor ∙ sym (last_is a ix n m searches.question) in
-            let high = ap (λ (b : Best). b.start) e.word ∙ start in
-            (omega (arith, r.0, low), omega (arith, r.1, high))
+        passes_are : passes ≡ map (λ (d : Drawn). d.pass) draws
+        passes_are = draws_are ∙ sym (map-map (λ (d : Drawn). d.pass) (λ (c : Between). c.hand.drawn) team2)
 
-        pub all_over : (ws : List Working) → ws ≡ map (λ (c : Between). c.worker) team2 → AreOver a ix ws
-        all_over ws is i w at =
-            let c = get_map (λ (c : Between). c.worker) team2 i w (ap (λ l. slice_get l i) (sym is) ∙ at) in
-            let e = ended i (slice_get_within team2 i c.0 c.1) in
-            let same = same_Some e.1.cell c.0 (sym e.1.at ∙ c.1) in
-            subst (λ (v : Working). (v.question ≡ a) × (v.index ≡ ix)) (ap (λ (c : Between). c.worker) same ∙ c.2)
-            (e.1.place.question, e.1.place.index)
+        once : ClaimedOnce ys
+        once = given_once roots opens.size draws ys draws_count draws_tied draws_ended passes passes_are drawn
 
-        pub own_passes : (passes : List Pass) → passes ≡ map (λ (c : Between). c.hand.claim) team2
-            → All (λ (p : Pass). p.claims ≡ counter) passes
-        own_passes passes is = all_from (λ (p : Pass). p.claims ≡ counter) passes (λ i p at.
-            let c = get_map (λ (c : Between). c.hand.claim) team2 i p (ap (λ l. slice_get l i) (sym is) ∙ at) in
-            let e = ended i (slice_get_within team2 i c.0 c.1) in
-            let same = same_Some e.1.cell c.0 (sym e.1.at ∙ c.1) in
-            ap (λ (p : Pass). p.claims) (sym c.2) ∙ ap (λ (c : Between). c.hand.claim.claims) (sym same)
-            ∙ ap (λ (h : Held). h.claim.claims) e.1.went.rests ∙ e.1.claims)
+        all_claimed : (i : ℕ) (y : RecordedWorker) (x : ℕ) → slice_get ys i ≡ Some y → In None y.own.claims
+            → x < length g.roots → 0 < total (claimed_by x) ys
+        all_claimed i y x at none low =
+            given_all roots opens.size draws ys draws_count draws_tied draws_ended passes passes_are drawn i y x at
+            (let nodes = opens.searches.index.one_node_each in
+            let long = length-map ix.nodes leaf_numbers in
+            let c = opens.count in
+            omega arith)
 
-        module _ (passes : List Pass) (draws_are : passes ≡ map (λ (c : Between). c.hand.claim) team2)
-            (drawn : EachDrawnOnce counter.count passes) where
-          claims_are : (x : ℕ) → total (claimed_by x) ys ≡ total (λ (p : Pass). times x p.draws) passes
-          claims_are x =
-              totals_same (claimed_by x) (λ (c : Between). times x c.hand.claim.draws) ys team2 all.count
-              (λ i y c at_y at_c.
-              let e = all.each i y at_y in
-              e.knows.tied.claims x ∙ ap (λ (h : Held). times x h.claim.draws) (sym e.went.rests)
-              ∙ ap (λ (c : Between). times x c.hand.claim.draws) (same_Some e.cell c (sym e.at ∙ at_c)))
-              ∙ sym (total_map (λ (p : Pass). times x p.draws) (λ (c : Between). c.hand.claim) team2)
-              ∙ ap (total (λ (p : Pass). times x p.draws)) (sym draws_are)
+        -- the history of a queue over both parts
+        module _ (j : ℕ) (low : j < m) (q : PlainQueue) (at_q : slice_get qs2 j ≡ Some q) where
+          between : (r : PlainQueue) × (slice_get qs1 j ≡ Some r)
+          between = get_some qs1 j (let x = count1 in omega arith)
 
-          once : ClaimedOnce ys
-          once x = let e = claims_are x in let b = drawn.once x in let s = once_below_most x drawn.drawn in omega arith
+          opening : (r : PlainQueue) × (slice_get qs0 j ≡ Some r)
+          opening = get_some qs0 j (let x = count0 in omega arith)
 
-          all_claimed : (i : ℕ) (y : RecordedWorker) (x : ℕ) → slice_get ys i ≡ Some y → In None y.own.claims
-              → x < length g.roots → 0 < total (claimed_by x) ys
-          all_claimed i y x at none low =
+          first : WentBy (length team) (λ i. calls_by_hand (slice_get filled.hands i) j) opening.0 between.0
+          first = filled.queues j opening.0 between.0 opening.1 between.1
+
+          second : WentBy (length team1) (λ i. calls_by_hand (slice_get drained.hands i) j) between.0 q
+          second = drained.queues j between.0 q between.1 at_q
+
+          opened : opening.0 ≡ opened_for g j
+          opened = empty_at g 0 m j opening.0 (ap (λ (l : List PlainQueue). slice_get l j) (sym empty) ∙ opening.1)
+              ∙ ap (opened_for g) (let s : 0 + j ≡ j = omega arith in s)
+
+          first_leads : Leads (opened_for g j) first.log between.0
+          first_leads = subst (λ (r : PlainQueue). Leads r first.log between.0) opened first.leads
+
+          leads : Leads (opened_for g j) (first.log ++ second.log) q
+          leads = leads_joined (opened_for g j) between.0 q first.log second.log first_leads second.leads
+
+          fill_calls : (i : ℕ) (y : RecordedWorker) (at : slice_get ys i ≡ Some y)
+              → calls_by i first.log ≡ calls_at (all.each i y at).fill.hand j
+          fill_calls i y at =
               let e = all.each i y at in
-              let pass = ap (λ l. slice_get l i) draws_are ∙ map_at (λ (c : Between). c.hand.claim) team2 i e.cell e.at in
-              let has_ended = ap (λ (h : Held). h.claim.ended) e.went.rests ∙ e.knows.tied.ended none in
-              let full = all_at (λ (p : Pass). p.ended ≡ true → drawn.drawn ≡ counter.count) passes i e.cell.hand.claim
-              drawn.whole pass has_ended in
-              let c = claims_are x in
-              let b = drawn.once x in
-              let nodes = searches.index.one_node_each in
-              let long = length-map ix.nodes leaf_numbers in
-              let s = once_below_yes x drawn.drawn (omega arith) in
+              let within = slice_get_within team2 i e.cell e.at in
+              first.own i (let x = team_count in omega arith) ∙ ap (λ o. calls_by_hand o j) e.fill.at
+
+          drain_calls : (i : ℕ) (y : RecordedWorker) (at : slice_get ys i ≡ Some y)
+              → calls_by i second.log ≡ calls_at (all.each i y at).hand j
+          drain_calls i y at =
+              let e = all.each i y at in
+              let within = slice_get_within team2 i e.cell e.at in
+              second.own i (let x = drained.same in omega arith) ∙ ap (λ o. calls_by_hand o j) e.hand_at
+
+          agrees : TeamAgrees j ys (first.log ++ second.log)
+          agrees = record {
+            callers = all_both (λ (x : Made QueueCall QueueReply). x.caller < length ys) first.log second.log
+                (subst (λ (k : ℕ). All (λ (x : Made QueueCall QueueReply). x.caller < k) first.log)
+                (as_many ∙ sym (all.count ∙ team_count)) first.callers_only)
+                (subst (λ (k : ℕ). All (λ (x : Made QueueCall QueueReply). x.caller < k) second.log)
+                (filled.same ∙ as_many ∙ sym (all.count ∙ team_count)) second.callers_only);
+            members = λ i y at.
+                let e = all.each i y at in
+                subst (Agrees j y)
+                (sym (calls_joined i first.log second.log
+                ∙ ap (λ cs. cs ++ calls_by i second.log) (fill_calls i y at)
+                ∙ ap (λ cs. calls_at e.fill.hand j ++ cs) (drain_calls i y at)))
+                (e.knows.tied.calls j (let x = e.went.count in let z = e.went.on.passes.count in let v = count1 in omega arith));
+          }
+
+          -- a call of the fill part is some member's
+          member : (x : Made QueueCall QueueReply) → In x first.log → (y : RecordedWorker) × (slice_get ys x.caller ≡ Some y)
+          member x i =
+              let low = in_all (λ (x : Made QueueCall QueueReply). x.caller < length team) first.log x first.callers_only i in
+              get_some ys x.caller (let u = all.count in let v = team_count in omega arith)
+
+          fill_puts : ArePuts first.log
+          fill_puts x i =
+              let y = member x i in
+              (all.each x.caller y.0 y.1).fill.went.calls j x
+              (subst (In x) (fill_calls x.caller y.0 y.1) (of_caller x first.log i))
+
+          drain_pops : ArePops second.log
+          drain_pops x i =
+              let low = in_all (λ (x : Made QueueCall QueueReply). x.caller < length team1) second.log x second.callers_only i in
+              let y = get_some ys x.caller (let u = all.count in let v = team_count in let w = filled.same in omega arith) in
+              (all.each x.caller y.0 y.1).went.calls j x
+              (subst (In x) (drain_calls x.caller y.0 y.1) (of_caller x second.log i))
+
+          into : ArePutsInto g j first.log
+          into x i =
+              let put = fill_puts x i in
+              let y = member x i in
+              let there = subst (In x) (sym (calls_joined x.caller first.log second.log))
+              (in_front x (calls_by x.caller first.log) (calls_by x.caller second.log) (of_caller x first.log i)) in
+              let p = (agrees.members x.caller y.0 y.1).puts x put.0 there put.1 in
+              let right = (stands x.caller y.0 y.1).puts p.0 p.1 in
+              let same = ap (λ (e : Entry). e.leaf) p.3 in (
+                put.0,
+                put.1,
+                record {
+                  real = subst (λ (l : ℕ). l < g.leaves) same (below_real g fits y.0.own p.0.entry.leaf right.below);
+                  queue = ap (queue_of g) (sym same) ∙ sym right.queue ∙ p.2;
+                },
+              )
+
+          -- each leaf is put once at most
+          put_once : (l : ℕ) → total (puts_at l) first.log ≤ 1
+          put_once l =
+              let hs = choose (length ys) (λ (i : ℕ) (h : History). h ≡ calls_by i first.log)
+              (λ i low. (calls_by i first.log, refl)) in
+              let sum = by_team (puts_at l) (total (puts_at l)) hs.items first.log
+              (subst (λ (k : ℕ). All (λ (x : Made QueueCall QueueReply). x.caller < k) first.log)
+              (as_many ∙ sym (hs.count ∙ all.count ∙ team_count)) first.callers_only)
+              (λ i h at. ap (total (puts_at l)) (sym (hs.each i h at))) in
+              let most = totals_most (total (puts_at l)) (puts_by l) hs.items ys hs.count
+              (λ i h y at_h at_y.
+              let e = all.each i y at_y in
+              let named = e.knows.tied.named j l (let x = e.went.count in let z = e.went.on.passes.count in let v = count1 in omega arith) in
+              let both = total_append (puts_at l) (calls_at e.fill.hand j) (calls_at e.hand j) in
+              let is = ap (total (puts_at l)) (hs.each i h at_h ∙ fill_calls i y at_y) in
+              omega arith) in
+              let b = puts_once g fits ys stands once l in
               omega arith
 
-          -- the history of a queue over both parts
-          module _ (j : ℕ) (low : j < m) (q : PlainQueue) (at_q : slice_get qs2 j ≡ Some q) where
-            between : (r : PlainQueue) × (slice_get qs1 j ≡ Some r)
-            between = get_some qs1 j (let x = count1 in omega arith)
+          placed : (x : Made QueueCall QueueReply) (e : Entry) → In x (first.log ++ second.log) → x.call ≡ ToPut e
+              → x.reply ≡ Rattle.leaf_queues.specs.declared.calls.Reply.TheVariants.Put Rattle.series_core.specs.declared.queue_words.PutReply.TheVariants.Placed
+          placed x e i is = ⊎_elim
+              (λ (old : In x first.log).
+              different_placed g j (opened_for g j) first.log (record {
+                unshut = refl;
+                placed = refl;
+                capacity = refl;
+                own = λ d h. absurd (⊎_elim (λ (w : ⊥). w) (λ (t : ⊥). t) h);
+              }) into (λ l. let p = put_once l in omega arith) first_leads.legal x old)
+              (λ (new : In x second.log).
+              let pop = drain_pops x new in
+              let told : ToPut e ≡ ToPop pop.0 = sym is ∙ pop.1 in
+              absurd (cc))
+              (in_append x first.log second.log i)
 
-            opening : (r : PlainQueue) × (slice_get qs0 j ≡ Some r)
-            opening = get_some qs0 j (let x = count0 in omega arith)
+          says : Rattle.search_machine.specs.Closes.QueueCloses g ys j q
+          says = queue_says g ys j q (first.log ++ second.log) leads agrees
 
-            first : WentBy (length team) (λ i. calls_by_hand (slice_get filled.hands i) j) opening.0 between.0
-            first = filled.queues j opening.0 between.0 opening.1 between.1
+          none_refused : Rattle.queue_histories.specs.Closings.NoneRefusedAt j ys
+          none_refused = unrefused j ys (first.log ++ second.log) agrees placed
 
-            second : WentBy (length team1) (λ i. calls_by_hand (slice_get drained.hands i) j) between.0 q
-            second = drained.queues j between.0 q between.1 at_q
+          in_order : Ordered q.taken
+          in_order = taken_ascends (capacity_of g j g.leaves) between.0 q first.log second.log fill_puts drain_pops
+              first_leads second.leads
 
-            opened : opening.0 ≡ opened_for g j
-            opened = empty_at g 0 m j opening.0 (ap (λ (l : List PlainQueue). slice_get l j) (sym empty) ∙ opening.1)
-                ∙ ap (opened_for g) (let s : 0 + j ≡ j = omega arith in s)
+        closes : Closes g ys qs2
+        closes = record {
+          members = all.count ∙ team_count;
+          stands = stands;
+          done = worker_done;
+          claims = once;
+          all_claimed = all_claimed;
+          reads = in_range;
+          queue_count = queues_are;
+          queues = λ j q at. says j (let low = slice_get_within qs2 j q at in let c = queues_are in omega arith) q at;
+        }
 
-            first_leads : Leads (opened_for g j) first.log between.0
-            first_leads = subst (λ (r : PlainQueue). Leads r first.log between.0) opened first.leads
+        placed_all : Rattle.search_machine.specs.Closes.NoneRefused ys
+        placed_all i y p at put =
+            let right = (stands i y at).puts p put in
+            let low : p.queue < m = let l = Rattle.std.proofs.Math.Nat.mod-lt p.entry.leaf some in let r = right.queue in omega arith in
+            let q = get_some qs2 p.queue (let c = queues_are in omega arith) in
+            none_refused p.queue low q.0 q.1 i y p at put refl
 
-            leads : Leads (opened_for g j) (first.log ++ second.log) q
-            leads = leads_joined (opened_for g j) between.0 q first.log second.log first_leads second.leads
-
-            fill_calls : (i : ℕ) (y : RecordedWorker) (at : slice_get ys i ≡ Some y)
-                → calls_by i first.log ≡ calls_at (all.each i y at).fill.hand j
-            fill_calls i y at =
-                let e = all.each i y at in
-                let within = slice_get_within team2 i e.cell e.at in
-                first.own i (let x = team_count in omega arith) ∙ ap (λ o. calls_by_hand o j) e.fill.at
-
-            drain_calls : (i : ℕ) (y : RecordedWorker) (at : slice_get ys i ≡ Some y)
-                → calls_by i second.log ≡ calls_at (all.each i y at).hand j
-            drain_calls i y at =
-                let e = all.each i y at in
-                let within = slice_get_within team2 i e.cell e.at in
-                second.own i (let x = drained.same in omega arith) ∙ ap (λ o. calls_by_hand o j) e.hand_at
-
-            agrees : TeamAgrees j ys (first.log ++ second.log)
-            agrees = record {
-              callers = all_both (λ (x : Made QueueCall QueueReply). x.caller < length ys) first.log second.log
-                  (subst (λ (k : ℕ). All (λ (x : Made QueueCall QueueReply). x.caller < k) first.log)
-                  (as_many ∙ sym (all.count ∙ team_count)) first.callers_only)
-                  (subst (λ (k : ℕ). All (λ (x : Made QueueCall QueueReply). x.caller < k) second.log)
-                  (filled.same ∙ as_many ∙ sym (all.count ∙ team_count)) second.callers_only);
-              members = λ i y at.
-                  let e = all.each i y at in
-                  subst (Agrees j y)
-                  (sym (calls_joined i first.log second.log
-                  ∙ ap (λ cs. cs ++ calls_by i second.log) (fill_calls i y at)
-                  ∙ ap (λ cs. calls_at e.fill.hand j ++ cs) (drain_calls i y at)))
-                  (e.knows.tied.calls j (let x = e.went.count in let z = e.went.on.passes.count in let v = count1 in omega arith));
-            }
-
-            -- a call of the fill part is some member's
-            member : (x : Made QueueCall QueueReply) → In x first.log → (y : RecordedWorker) × (slice_get ys x.caller ≡ Some y)
-            member x i =
-                let low = in_all (λ (x : Made QueueCall QueueReply). x.caller < length team) first.log x first.callers_only i in
-                get_some ys x.caller (let u = all.count in let v = team_count in omega arith)
-
-            fill_puts : ArePuts first.log
-            fill_puts x i =
-                let y = member x i in
-                (all.each x.caller y.0 y.1).fill.went.calls j x
-                (subst (In x) (fill_calls x.caller y.0 y.1) (of_caller x first.log i))
-
-            drain_pops : ArePops second.log
-            drain_pops x i =
-                let low = in_all (λ (x : Made QueueCall QueueReply). x.caller < length team1) second.log x second.callers_only i in
-                let y = get_some ys x.caller (let u = all.count in let v = team_count in let w = filled.same in omega arith) in
-                (all.each x.caller y.0 y.1).went.calls j x
-                (subst (In x) (drain_calls x.caller y.0 y.1) (of_caller x second.log i))
-
-            into : ArePutsInto g j first.log
-            into x i =
-                let put = fill_puts x i in
-                let y = member x i in
-                let there = subst (In x) (sym (calls_joined x.caller first.log second.log))
-                (in_front x (calls_by x.caller first.log) (calls_by x.caller second.log) (of_caller x first.log i)) in
-                let p = (agrees.members x.caller y.0 y.1).puts x put.0 there put.1 in
-                let right = (stands x.caller y.0 y.1).puts p.0 p.1 in
-                let same = ap (λ (e : Entry). e.leaf) p.3 in (
-                  put.0,
-                  put.1,
-                  record {
-                    real = subst (λ (l : ℕ). l < g.leaves) same (below_real g fits y.0.own p.0.entry.leaf right.below);
-                    queue = ap (queue_of g) (sym same) ∙ sym right.queue ∙ p.2;
-                  },
-                )
-
-            -- each leaf is put once at most
-            put_once : (l : ℕ) → total (puts_at l) first.log ≤ 1
-            put_once l =
-                let hs = choose (length ys) (λ (i : ℕ) (h : History). h ≡ calls_by i first.log)
-                (λ i low. (calls_by i first.log, refl)) in
-                let sum = by_team (puts_at l) (total (puts_at l)) hs.items first.log
-                (subst (λ (k : ℕ). All (λ (x : Made QueueCall QueueReply). x.caller < k) first.log)
-                (as_many ∙ sym (hs.count ∙ all.count ∙ team_count)) first.callers_only)
-                (λ i h at. ap (total (puts_at l)) (sym (hs.each i h at))) in
-                let most = totals_most (total (puts_at l)) (puts_by l) hs.items ys hs.count
-                (λ i h y at_h at_y.
-                let e = all.each i y at_y in
-                let named = e.knows.tied.named j l (let x = e.went.count in let z = e.went.on.passes.count in let v = count1 in omega arith) in
-                let both = total_append (puts_at l) (calls_at e.fill.hand j) (calls_at e.hand j) in
-                let is = ap (total (puts_at l)) (hs.each i h at_h ∙ fill_calls i y at_y) in
-                omega arith) in
-                let b = puts_once g fits ys stands once l in
-                omega arith
-
-            placed : (x : Made QueueCall QueueReply) (e : Entry) → In x (first.log ++ second.log) → x.call ≡ ToPut e
-                → x.reply ≡ Rattle.leaf_queues.specs.declared.calls.Reply.TheVariants.Put Rattle.series_core.specs.declared.queue_words.PutReply.TheVariants.Placed
-            placed x e i is = ⊎_elim
-                (λ (old : In x first.log).
-                different_placed g j (opened_for g j) first.log (record {
-                  unshut = refl;
-                  placed = refl;
-                  capacity = refl;
-                  own = λ d h. absurd (⊎_elim (λ (w : ⊥). w) (λ (t : ⊥). t) h);
-                }) into (λ l. let p = put_once l in omega arith) first_leads.legal x old)
-                (λ (new : In x second.log).
-                let pop = drain_pops x new in
-                let told : ToPut e ≡ ToPop pop.0 = sym is ∙ pop.1 in
-                absurd (cc))
-                (in_append x first.log second.log i)
-
-            says : Rattle.search_machine.specs.Closes.QueueCloses g ys j q
-            says = queue_says g ys j q (first.log ++ second.log) leads agrees
-
-            none_refused : Rattle.queue_histories.specs.Closings.NoneRefusedAt j ys
-            none_refused = unrefused j ys (first.log ++ second.log) agrees placed
-
-            in_order : Ordered q.taken
-            in_order = taken_ascends (capacity_of g j g.leaves) between.0 q first.log second.log fill_puts drain_pops
-                first_leads second.leads
-
-          closes : Closes g ys qs2
-          closes = record {
-            members = all.count ∙ team_count;
-            stands = stands;
-            done = worker_done;
-            claims = once;
-            all_claimed = all_claimed;
-            reads = in_range;
-            queue_count = queues_are;
-            queues = λ j q at. says j (let low = slice_get_within qs2 j q at in let c = queues_are in omega arith) q at;
-          }
-
-          placed_all : Rattle.search_machine.specs.Closes.NoneRefused ys
-          placed_all i y p at put =
-              let right = (stands i y at).puts p put in
-              let low : p.queue < m = let l = Rattle.std.proofs.Math.Nat.mod-lt p.entry.leaf some in let r = right.queue in omega arith in
-              let q = get_some qs2 p.queue (let c = queues_are in omega arith) in
-              none_refused p.queue low q.0 q.1 i y p at put refl
-
-          pub ends_right : (ws : List Working) (ls : List QueueLine) → ws ≡ map (λ (c : Between). c.worker) team2
-              → ls ≡ map line_of qs2 → EndsRight g ws ls
-          ends_right ws ls ws_are ls_are = record {
-            state = final g ys qs2;
-            ends = record {
-              workers = record {
-                count = ap (λ l. length l) ws_are ∙ length-map team2 (λ (c : Between). c.worker) ∙ sym all.count
-                    ∙ sym (length-map ys (λ (x : RecordedWorker). x.worker));
-                shows = λ i w v at_w at_v.
-                    let y = get_map (λ (x : RecordedWorker). x.worker) ys i v at_v in
-                    let e = all.each i y.0 y.1 in
-                    let there = sym (map_at (λ (c : Between). c.worker) team2 i e.cell e.at)
-                    ∙ ap (λ l. slice_get l i) (sym ws_are) ∙ at_w in
-                    subst (Shows w) y.2 (subst (λ w. Shows w y.0.worker) (same_Some e.cell.worker w there) e.knows.shows);
-              };
-              lines = ls_are;
+        pub ends_right : (ws : List Working) (ls : List QueueLine) → ws ≡ map (λ (c : Between). c.worker) team2
+            → ls ≡ map line_of qs2 → EndsRight g ws ls
+        ends_right ws ls ws_are ls_are = record {
+          state = final g ys qs2;
+          ends = record {
+            workers = record {
+              count = ap (λ l. length l) ws_are ∙ length-map team2 (λ (c : Between). c.worker) ∙ sym all.count
+                  ∙ sym (length-map ys (λ (x : RecordedWorker). x.worker));
+              shows = λ i w v at_w at_v.
+                  let y = get_map (λ (x : RecordedWorker). x.worker) ys i v at_v in
+                  let e = all.each i y.0 y.1 in
+                  let there = sym (map_at (λ (c : Between). c.worker) team2 i e.cell e.at)
+                  ∙ ap (λ l. slice_get l i) (sym ws_are) ∙ at_w in
+                  subst (Shows w) y.2 (subst (λ w. Shows w y.0.worker) (same_Some e.cell.worker w there) e.knows.shows);
             };
-            legal = closed_legal g fits ys qs2 closes;
-            straight = closed_straight g fits ys qs2 closes placed_all
-                (λ j q at. in_order j (let low = slice_get_within qs2 j q at in let c = queues_are in omega arith) q at);
-          }
+            lines = ls_are;
+          };
+          legal = closed_legal g fits ys qs2 closes;
+          straight = closed_straight g fits ys qs2 closes placed_all
+              (λ j q at. in_order j (let low = slice_get_within qs2 j q at in let c = queues_are in omega arith) q at);
+        }

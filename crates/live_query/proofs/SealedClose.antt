@@ -45,7 +45,7 @@ use Rattle.live_query.specs.Marked.{IsMarked, IsRunOf, line_of_run}
 use Rattle.live_query.specs.Parts.{AllDrainOn, AllFilled, Draining, EndsRight, Resting, draining, marks_of}
 use Rattle.live_query.specs.Resting.{Kept}
 use Rattle.live_query.proofs.DrainGather.{Went, known_at, none_closed, went}
-use Rattle.live_query.proofs.FillGather.{search_at}
+use Rattle.live_query.proofs.Openers.{moved, search_at}
 use Rattle.live_query.proofs.Marks.{entry_same}
 use Rattle.live_query.proofs.Places.{Chosen, all_at, all_from, choose, map_at, maps_same, totals_same}
 use Rattle.live_query.proofs.RunQueues.{ascending_ordered, entered_in, in_filter, is_left, least_from, least_some, left_of, left_or_taken, once_entered, ordered_filter, round_covers}
@@ -100,19 +100,11 @@ module _ (a : Question) (ix : IndexParts) (m : ℕ) (best : Best) (searches : Ca
   stands : AllStand g ys
   stands i y at =
       let e = all.each i y at in
-      let place = moved e.way.from.worker e.cell.worker i e.way.has.place e.way.goes.place in
+      let place = moved a ix m i e.way.from.worker e.cell.worker e.way.has.place e.way.goes.place in
       stands_any one n i y
       (subst (λ (j : ℕ). StandsFor one j y) place.number
       (subst (λ (h : Ground). StandsFor h e.cell.worker.number y) (search_at a ix m i e.cell.worker place)
       e.later.known.stands))
-    where
-      moved : (w v : Working) (i : ℕ) → IsOf a ix m i w → IsOf w.question w.index w.queues w.number v → IsOf a ix m i v
-      moved w v i first second = record {
-        question = second.question ∙ first.question;
-        index = second.index ∙ first.index;
-        number = second.number ∙ first.number;
-        queues = second.queues ∙ first.queues;
-      }
 
   worker_done : (i : ℕ) (y : RecordedWorker) → slice_get ys i ≡ Some y → y.worker.phase ≡ Done
   worker_done i y at =

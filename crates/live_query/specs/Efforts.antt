@@ -1,6 +1,6 @@
--- What is left to do for a worker, counted in turns: in the fill part by what may be undrawn, in the drain part by what may be
+-- What is left to do for a worker, counted in turns: in the fill part by what is kept or may be undrawn, in the drain part by what may be
 -- left in the runs.
-use Rattle.std.specs.Prelude.{ℕ, ◌+◌, ◌-◌, ◌*◌, List, Option, None, Some, length, drop}
+use Rattle.std.specs.Prelude.{ℕ, ◌+◌, ◌-◌, ◌*◌, List, Option, None, Some, length, drop, take}
 use Rattle.list_totals.specs.Totals.{total}
 use Rattle.list_totals.specs.Below.{sum_below}
 use Rattle.sealed_runs.specs.Entries.{run_at}
@@ -11,6 +11,7 @@ use Rattle.search_machine.specs.declared.phase.Onward.TheVariants.{Look as ToLoo
 use Rattle.search_machine.specs.Ground.{Ground}
 use Rattle.query_core.specs.Turning.{search_of}
 use Rattle.query_core.specs.Working.{Working}
+use Rattle.live_query.specs.RootClaims.{Drawn}
 use Rattle.live_query.specs.FillHands.{FillKept}
 use Rattle.live_query.specs.DrainHands.{DrainKept}
 
@@ -34,9 +35,13 @@ own_left phase rest = phase_left phase + 5 * length rest
 abbrev pub root_left : List ℕ → ℕ
 root_left r = 2 + 5 * length r
 
--- for the root children that may be undrawn
+-- for the root children that are kept, and those whose groups may be undrawn
+abbrev pub undrawn : List (List ℕ) → ℕ → Drawn → ℕ
+undrawn roots size d =
+    total root_left (take (d.end - d.next) (drop d.next roots)) + total root_left (drop (d.pass.met * size) roots)
+
 abbrev pub roots_left : Ground → FillKept → ℕ
-roots_left g h = total root_left (drop h.claim.met g.roots)
+roots_left g h = undrawn g.roots h.roots.size h.drawn
 
 -- all that is left of the fill part
 abbrev pub fill_left : Working → FillKept → ℕ

@@ -1,8 +1,6 @@
 -- What the hand of a worker without locks holds in the fill part, what a call did to it, and when it is tied to an own record.
 use Rattle.std.specs.Prelude.{◌≡◌, ℕ, ◌<◌, ◌≤◌, ◌⊎◌, List, [], None, Some, Bool, true, false, length, replicate, slice_get, slice_set}
-use Rattle.list_totals.specs.Totals.{total, times}
 use Rattle.list_totals.specs.Standing.{In}
-use Rattle.claim_word.specs.Passes.{Claim as Counter, Pass, drew, fresh_pass}
 use Rattle.best_word.specs.Passes.{Best}
 use Rattle.series_core.specs.declared.queue_words.PutReply.TheVariants.{Placed, Filled}
 use Rattle.series_core.specs.declared.queue_words.PopReply.TheVariants.{Closed}
@@ -10,12 +8,14 @@ use Rattle.search_machine.specs.declared.calls.Call.{Call}
 use Rattle.search_machine.specs.declared.calls.Call.TheVariants.{Claim, Read, Offer, Put, Pop}
 use Rattle.search_machine.specs.declared.calls.Reply.{Reply}
 use Rattle.search_machine.specs.declared.calls.Reply.TheVariants.{Claimed, Seen, Offered, PutTold, PopTold}
-use Rattle.search_machine.specs.OwnRecord.{OwnRecord, PutMade, WasPut, claims_of, is_refused}
+use Rattle.search_machine.specs.OwnRecord.{OwnRecord, PutMade, WasPut, is_refused}
+use Rattle.live_query.specs.RootClaims.{DidClaim, Drawn, DrawTied, Roots}
 
--- the record of its pass of the claims, the bound word and what no limit is below, the number of queues, and for each leaf
--- whether it put it
+-- the root children that are claimed and its draws of them, the bound word and what no limit is below, the number of queues, and
+-- for each leaf whether it put it
 pub record FillKept : Type 0 where
-  pub claim : Pass
+  pub roots : Roots
+  pub drawn : Drawn
   pub best : Best
   pub floor : ℕ
   pub queues : ℕ
@@ -25,20 +25,9 @@ pub record FillKept : Type 0 where
 abbrev pub InRange : ℕ → Best → ℕ → Type 0
 InRange floor best v = (floor ≤ v) × (v ≤ best.start)
 
--- a claim gave no number: the pass has ended, and draws no number
-pub record Ends (h k : FillKept) : Type 0 where
-  pub pass : Pass
-  pub after : k ≡ record h { claim = pass }
-  pub claims : pass.claims ≡ h.claim.claims
-  pub draws : pass.draws ≡ h.claim.draws
-  pub ended : pass.ended ≡ true
-  pub met : h.claim.met ≤ pass.met
-
--- what a call with its reply did to the hand: a claim drew or ended, a put is marked, and no other call leaves anything
+-- what a call with its reply did to the hand: a claim was made of its draws, a put is marked, and no other call leaves anything
 abbrev pub FillDid : FillKept → Call → Reply → FillKept → Type 0
-FillDid h Claim (Claimed (Some n)) k =
-    (n < h.claim.claims.count) × (h.claim.met ≤ n) × (k ≡ record h { claim = drew h.claim n })
-FillDid h Claim (Claimed None) k = Ends h k
+FillDid h Claim (Claimed o) k = (d : Drawn) × DidClaim h.roots h.drawn o d × (k ≡ record h { drawn = d })
 FillDid h Read (Seen v) k = InRange h.floor h.best v × (k ≡ h)
 FillDid h (Offer x) (Offered v) k = InRange h.floor h.best v × (k ≡ h)
 FillDid h (Put m e) (PutTold Placed) k =
@@ -51,20 +40,9 @@ FillDid h _ _ k = ⊥
 
 -- the hand is tied to the record of its calls
 pub record FillTied (h : FillKept) (r : OwnRecord) : Type 0 where
-  pub claims : (c : ℕ) → total (claims_of c) r.claims ≡ times c h.claim.draws
-  pub ended : In None r.claims → h.claim.ended ≡ true
+  pub drawn : DrawTied h.roots h.drawn r.claims
   pub reads : (v : ℕ) → In v r.reads → InRange h.floor h.best v
   pub placed : (p : PutMade) → In p r.puts → is_refused p.reply ≡ false
   pub marked : (l : ℕ) → slice_get h.marks l ≡ Some true → WasPut r l
   pub put : (l : ℕ) → WasPut r l → slice_get h.marks l ≡ Some true
   pub pops : r.pops ≡ []
-
--- a hand that has done nothing, with no mark of any of n leaves
-abbrev pub fresh_fill : Counter → Best → ℕ → ℕ → ℕ → FillKept
-fresh_fill claims best floor queues leaves = record {
-  claim = fresh_pass claims;
-  best = best;
-  floor = floor;
-  queues = queues;
-  marks = replicate leaves false;
-}

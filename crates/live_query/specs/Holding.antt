@@ -1,14 +1,15 @@
--- What a searcher over locked queues keeps between the parts of a search.
+-- What a searcher keeps before the parts of a search, and over locked queues between them.
 use Rattle.std.specs.Prelude.{ℕ}
-use Rattle.claim_word.specs.Passes.{Claim, Pass, fresh_pass}
+use Rattle.claim_word.specs.Passes.{fresh_pass}
 use Rattle.best_word.specs.Passes.{Best}
+use Rattle.live_query.specs.RootClaims.{Drawn, Roots, fresh_drawn}
 
--- its pass of the claims, the bound word, and what no limit is below
+-- its draws of the root children, the bound word, and what no limit is below
 pub record Held : Type 0 where
-  pub claim : Pass
+  pub drawn : Drawn
   pub best : Best
   pub floor : ℕ
 
--- with a fresh pass of each
-abbrev pub fresh_held : Claim → Best → ℕ → Held
-fresh_held claims best floor = record { claim = fresh_pass claims; best = best; floor = floor }
+-- with no draws yet
+abbrev pub fresh_held : Roots → Best → ℕ → Held
+fresh_held roots best floor = record { drawn = fresh_drawn (fresh_pass roots.counter); best = best; floor = floor }

@@ -1,5 +1,5 @@
 -- What a worker and its hand know together, and when the hand is of the worker's search.
-use Rattle.std.specs.Prelude.{◌≡◌, ◌≢◌, length}
+use Rattle.std.specs.Prelude.{◌≡◌, ◌≢◌, ◌<◌, length}
 use Rattle.search_machine.specs.declared.phase.Phase.TheVariants.{Done}
 use Rattle.search_machine.specs.Ground.{Fits}
 use Rattle.search_machine.specs.OwnRecord.{RecordedWorker}
@@ -8,13 +8,15 @@ use Rattle.search_machine.specs.Stands.{StandsFor}
 use Rattle.query_core.specs.Questions.{last_of}
 use Rattle.query_core.specs.Turning.{search_of}
 use Rattle.query_core.specs.Working.{Working, IsOf, Shows}
+use Rattle.live_query.specs.RootClaims.{IsOwn}
 use Rattle.live_query.specs.FillHands.{FillKept, FillTied}
 use Rattle.live_query.specs.DrainHands.{DrainKept, DrainTied}
 
 -- the hand in the fill part is of the worker's search
 pub record FillServes (w : Working) (h : FillKept) : Type 0 where
   pub fits : Fits (search_of w 1)
-  pub roots : h.claim.claims.count ≡ length w.index.roots
+  pub roots : h.roots.count ≡ length w.index.roots
+  pub size : 0 < h.roots.size
   pub one_each : length w.index.nodes ≡ length w.index.roots
   pub floor : h.floor ≡ last_of w.question
   pub queues : h.queues ≡ w.queues
@@ -31,7 +33,8 @@ pub record FillKnows (w : Working) (h : FillKept) : Type 0 where
 -- a worker and its hand of the fill part, and the same after some turns: the worker has its place, and the hand its objects
 pub record FillsOn (w : Working) (h : FillKept) (v : Working) (k : FillKept) : Type 0 where
   pub place : IsOf w.question w.index w.queues w.number v
-  pub claims : k.claim.claims ≡ h.claim.claims
+  pub roots : k.roots ≡ h.roots
+  pub own : IsOwn h.roots h.drawn → IsOwn k.roots k.drawn
   pub best : k.best ≡ h.best
   pub floor : k.floor ≡ h.floor
 

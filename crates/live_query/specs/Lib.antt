@@ -1,3 +1,5 @@
+-- The root children that workers claim.
+pub mod RootClaims
 -- What the hands of running workers hold, and what each call did to them.
 pub mod FillHands
 pub mod DrainHands

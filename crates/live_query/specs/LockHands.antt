@@ -1,6 +1,5 @@
 -- What the hand of a worker over locked queues holds, and what a call did to it.
 use Rattle.std.specs.Prelude.{◌≡◌, ℕ, ◌<◌, ◌≤◌, ◌∷◌, ◌++◌, ◌⊎◌, List, [], Option, None, Some, length, true, slice_get, slice_set}
-use Rattle.claim_word.specs.Passes.{Pass, drew}
 use Rattle.best_word.specs.Passes.{Best}
 use Rattle.turn_lock.specs.History.{entry}
 use Rattle.turn_lock.specs.Passes.{Pass as TurnPass, Lock, IsPassOf, made_by}
@@ -15,6 +14,7 @@ use Rattle.search_machine.specs.declared.calls.Call.TheVariants.{Claim, Read, Of
 use Rattle.search_machine.specs.declared.calls.Reply.{Reply}
 use Rattle.search_machine.specs.declared.calls.Reply.TheVariants.{Claimed, Seen, Offered, PutTold, PopTold}
 use Rattle.queue_histories.specs.Histories.{History}
+use Rattle.live_query.specs.RootClaims.{DidClaim, Drawn, Roots}
 use Rattle.live_query.specs.FillHands.{InRange}
 
 -- a lock round a queue, and a pass of one
@@ -30,9 +30,11 @@ pub record AreOwn (locks : List QueueLock) (passes : List QueuePass) : Type 0 wh
   pub each : (m : ℕ) (k : QueueLock) (p : QueuePass) → slice_get locks m ≡ Some k
       → slice_get passes m ≡ Some p → IsPassOf k p
 
--- the record of its pass of the claims, the bound word and what no limit is below, the locks, and its pass of each
+-- the root children that are claimed and its draws of them, the bound word and what no limit is below, the locks, and its pass of
+-- each
 pub record LockKept : Type 0 where
-  pub claim : Pass
+  pub roots : Roots
+  pub drawn : Drawn
   pub best : Best
   pub floor : ℕ
   pub locks : List QueueLock
@@ -47,14 +49,6 @@ calls_of (Some p) = made_by p
 abbrev pub calls_at : LockKept → ℕ → History
 calls_at h m = calls_of (slice_get h.passes m)
 
--- a claim gave no number: the pass has ended, and draws no number
-pub record LockEnds (h k : LockKept) : Type 0 where
-  pub pass : Pass
-  pub after : k ≡ record h { claim = pass }
-  pub claims : pass.claims ≡ h.claim.claims
-  pub draws : pass.draws ≡ h.claim.draws
-  pub ended : pass.ended ≡ true
-
 -- the hand after one more call at queue m: its pass there made it
 pub record Called (h : LockKept) (m : ℕ) (call : QueueCall) (reply : QueueReply) (k : LockKept) : Type 0 where
   pub before : QueuePass
@@ -68,17 +62,16 @@ pub record Called (h : LockKept) (m : ℕ) (call : QueueCall) (reply : QueueRepl
 abbrev pub NamesNone : LockKept → ℕ → LockKept → Type 0
 NamesNone h m k = (length h.passes ≤ m) × (k ≡ h)
 
--- what a call with its reply did to the hand: a claim drew or ended, a put and a pop were made at a queue
+-- what a call with its reply did to the hand: a claim was made of its draws, a put and a pop were made at a queue
 abbrev pub LockDid : LockKept → Call → Reply → LockKept → Type 0
-LockDid h Claim (Claimed (Some n)) k = (n < h.claim.claims.count) × (k ≡ record h { claim = drew h.claim n })
-LockDid h Claim (Claimed None) k = LockEnds h k
+LockDid h Claim (Claimed o) k = (d : Drawn) × DidClaim h.roots h.drawn o d × (k ≡ record h { drawn = d })
 LockDid h Read (Seen v) k = InRange h.floor h.best v × (k ≡ h)
 LockDid h (Offer x) (Offered v) k = InRange h.floor h.best v × (k ≡ h)
 LockDid h (Put m e) (PutTold reply) k = NamesNone h m k ⊎ Called h m (ToPut e) (PutAnswer reply) k
 LockDid h (Pop m v) (PopTold reply) k = NamesNone h m k ⊎ Called h m (ToPop v) (PopAnswer reply) k
 LockDid h _ _ k = ⊥
 
--- the hand over these locks with these passes
-abbrev pub lock_over : Pass → Best → ℕ → List QueueLock → List QueuePass → LockKept
-lock_over claim best floor locks passes =
-    record { claim = claim; best = best; floor = floor; locks = locks; passes = passes }
+-- the hand over these locks with these draws and passes
+abbrev pub lock_over : Roots → Drawn → Best → ℕ → List QueueLock → List QueuePass → LockKept
+lock_over roots drawn best floor locks passes =
+    record { roots = roots; drawn = drawn; best = best; floor = floor; locks = locks; passes = passes }

@@ -1,12 +1,12 @@
 -- What a worker and its hand over locked queues know together, and what turns make of it.
 use Rattle.std.specs.Prelude.{◌≡◌, ◌≢◌, ℕ, ◌<◌, ◌≤◌, ◌++◌, List, None, Some, length, true, false, slice_get}
-use Rattle.list_totals.specs.Totals.{total, times}
+use Rattle.list_totals.specs.Totals.{total}
 use Rattle.list_totals.specs.Standing.{In}
 use Rattle.search_machine.specs.declared.phase.Phase.{Phase}
 use Rattle.search_machine.specs.declared.phase.Phase.TheVariants.{Done}
 use Rattle.search_machine.specs.Ground.{Fits}
 use Rattle.search_machine.specs.Closes.{puts_by}
-use Rattle.search_machine.specs.OwnRecord.{RecordedWorker, claims_of}
+use Rattle.search_machine.specs.OwnRecord.{RecordedWorker}
 use Rattle.search_machine.specs.Stands.{StandsFor}
 use Rattle.search_machine.specs.Workers.{Worker, fills}
 use Rattle.query_core.specs.Questions.{last_of}
@@ -17,6 +17,7 @@ use Rattle.queue_histories.specs.Closings.{Agrees}
 use Rattle.queue_histories.specs.Rooms.{puts_at}
 use Rattle.live_query.specs.declared.part.Part.{Part}
 use Rattle.live_query.specs.declared.part.Part.TheVariants.{Fill, Drain}
+use Rattle.live_query.specs.RootClaims.{DrawTied, IsOwn}
 use Rattle.live_query.specs.FillHands.{InRange}
 use Rattle.live_query.specs.LockHands.{LockKept, QueuePass, calls_at}
 
@@ -25,7 +26,8 @@ pub record LockServes (w : Working) (h : LockKept) : Type 0 where
   pub shown : Worker
   pub shows : Shows w shown
   pub fits : Fits (search_of w 1)
-  pub roots : h.claim.claims.count ≡ length w.index.roots
+  pub roots : h.roots.count ≡ length w.index.roots
+  pub size : 0 < h.roots.size
   pub floor : h.floor ≡ last_of w.question
   pub queues : length h.passes ≡ w.queues
 
@@ -36,8 +38,7 @@ Earlier = ℕ → History
 -- the hand is tied to the record of its calls: at each queue they are the earlier ones and behind them its own, and a leaf that
 -- they put is in the record's puts
 pub record LockTied (earlier : Earlier) (h : LockKept) (x : RecordedWorker) : Type 0 where
-  pub claims : (c : ℕ) → total (claims_of c) x.own.claims ≡ times c h.claim.draws
-  pub ended : In None x.own.claims → h.claim.ended ≡ true
+  pub drawn : DrawTied h.roots h.drawn x.own.claims
   pub reads : (v : ℕ) → In v x.own.reads → InRange h.floor h.best v
   pub calls : (m : ℕ) → m < length h.passes → Agrees m x (earlier m ++ calls_at h m)
   pub named : (m l : ℕ) → m < length h.passes → total (puts_at l) (earlier m ++ calls_at h m) ≤ puts_by l x
@@ -57,7 +58,8 @@ pub record SamePlaces (ps qs : List QueuePass) : Type 0 where
 -- was, there is a later one
 pub record LocksOn (w : Working) (h : LockKept) (v : Working) (k : LockKept) : Type 0 where
   pub place : IsOf w.question w.index w.queues w.number v
-  pub claims : k.claim.claims ≡ h.claim.claims
+  pub roots : k.roots ≡ h.roots
+  pub own : IsOwn h.roots h.drawn → IsOwn k.roots k.drawn
   pub best : k.best ≡ h.best
   pub floor : k.floor ≡ h.floor
   pub locks : k.locks ≡ h.locks

@@ -2,7 +2,6 @@
 use Rattle.std.specs.Prelude.{◌≡◌, ◌≢◌, ℕ, ◌<◌, List, None, Some, Bool, false, length, map, replicate, slice_get, slice_index_or}
 use Rattle.list_totals.specs.Totals.{total}
 use Rattle.list_totals.specs.Standing.{In}
-use Rattle.claim_word.specs.Passes.{Claim as Counter, fresh_pass}
 use Rattle.best_word.specs.Passes.{Best}
 use Rattle.series_core.specs.declared.queue_words.Entry.{Entry}
 use Rattle.sealed_runs.specs.Entries.{Run, run_at}
@@ -10,7 +9,7 @@ use Rattle.sealed_runs.specs.Sealing.{fresh_visits}
 use Rattle.subtree_build.specs.Index.{IndexParts}
 use Rattle.search_machine.specs.declared.phase.Phase.TheVariants.{Done}
 use Rattle.search_machine.specs.declared.outcome.QueueLine.{QueueLine}
-use Rattle.search_machine.specs.Ground.{Ground}
+use Rattle.search_machine.specs.Ground.{Ground, start_limit}
 use Rattle.search_machine.specs.Workers.{fills}
 use Rattle.search_machine.specs.Machine.{State}
 use Rattle.search_machine.specs.Outcome.{outcome}
@@ -18,17 +17,22 @@ use Rattle.search_machine.specs.Legal.{Legal, IsStraight}
 use Rattle.search_machine.specs.OwnRecord.{RecordedWorker}
 use Rattle.search_machine.specs.Stands.{StandsFor}
 use Rattle.search_machine.specs.Closes.{ClaimedOnce, claimed_by}
-use Rattle.query_core.specs.Questions.{Question, last_of, search_over, view_in}
+use Rattle.query_core.specs.Questions.{CanBeSearched, Question, last_of, search_over, view_in}
 use Rattle.query_core.specs.Teams.{EndsIn}
 use Rattle.query_core.specs.Working.{IsOf, Shows, Working, opens_as}
 use Rattle.live_query.specs.declared.searcher.Searcher.{Searcher}
 use Rattle.live_query.specs.Marked.{AreMarked, IsRunOf}
 use Rattle.live_query.specs.Resting.{Kept}
+use Rattle.live_query.specs.Holding.{Held, fresh_held}
+use Rattle.live_query.specs.RootClaims.{Roots}
 use Rattle.live_query.specs.FillHands.{FillKept, FillTied}
 use Rattle.live_query.specs.DrainHands.{DrainKept, drain_over}
 use Rattle.live_query.specs.Knowing.{FillsOn, DrainsOn}
 
--- a searcher outside the parts, in the fill part, and in the drain part
+-- a searcher that holds its draws; and without locks one between the parts, in the fill part, and in the drain part
+abbrev pub Between : Type 0
+Between = Searcher Working Held
+
 abbrev pub Resting : Type 0
 Resting = Searcher Working Kept
 
@@ -52,22 +56,23 @@ AllDrainOn old new =
     → DrainsOn (slice_index_or old i d).worker (slice_index_or old i d).hand
     (slice_index_or new i d).worker (slice_index_or new i d).hand
 
--- the searcher with a fresh pass of these claims, over so many queues
-abbrev pub filling : Counter → ℕ → Resting → Filling
-filling claims queues c = record {
+-- the searcher with its draws of these root children, over so many queues, with no mark of any of so many leaves
+abbrev pub filling : Roots → ℕ → ℕ → Between → Filling
+filling roots queues leaves c = record {
   worker = c.worker;
   hand = record {
-    claim = fresh_pass claims;
+    roots = roots;
+    drawn = c.hand.drawn;
     best = c.hand.best;
     floor = c.hand.floor;
     queues = queues;
-    marks = c.hand.marks;
+    marks = replicate leaves false;
   };
   number = c.number;
   turn = c.turn;
 }
 
--- the searcher that lets its pass of the claims go
+-- the searcher that lets its draws go
 abbrev pub resting : Filling → Resting
 resting c = record {
   worker = c.worker;
@@ -99,18 +104,21 @@ AreRunsOf a ix team queues runs =
     (m : ℕ) → m < queues
     → IsRunOf (view_in a) ix (marks_of team) queues m (run_at runs m).entries
 
--- searcher i of a search over m queues, which this bound word serves, as it opens: it has put nothing
-pub record IsOpen (a : Question) (ix : IndexParts) (m : ℕ) (best : Best) (i : ℕ) (c : Resting) : Type 0 where
+-- searcher i of a search over m queues as it opens: it has drawn nothing
+pub record IsOpen (a : Question) (ix : IndexParts) (m : ℕ) (roots : Roots) (best : Best) (i : ℕ) (c : Between) : Type 0 where
   pub place : IsOf a ix m i c.worker
   pub shows : Shows c.worker (opens_as (search_over a ix 1 m) i)
-  pub word : c.hand.best ≡ best
-  pub floor : c.hand.floor ≡ last_of a
-  pub marks : c.hand.marks ≡ replicate (length ix.leaves) false
+  pub hand : c.hand ≡ fresh_held roots best (last_of a)
 
--- all searchers as they open
-abbrev pub AreOpen : Question → IndexParts → ℕ → Best → List Resting → Type 0
-AreOpen a ix m best team =
-    (i : ℕ) (c : Resting) → slice_get team i ≡ Some c → IsOpen a ix m best i c
+-- a search over m queues as it opens: the root children to claim are those of the index, the bound word is the starting limit, and
+-- each searcher is open
+pub record Opens (a : Question) (ix : IndexParts) (m : ℕ) (roots : Roots) (best : Best) (team : List Between) : Type 0 where
+  pub searches : CanBeSearched a ix
+  pub count : roots.count ≡ length ix.roots
+  pub size : 0 < roots.size
+  pub callers : roots.counter.callers ≡ length team
+  pub start : best.start ≡ start_limit (search_over a ix 1 m)
+  pub each : (i : ℕ) (c : Between) → slice_get team i ≡ Some c → IsOpen a ix m roots best i c
 
 -- searcher i after the fill part: it stands for this record of its calls, to which its marks are tied
 pub record HasFilled (a : Question) (ix : IndexParts) (m : ℕ) (best : Best) (i : ℕ) (c : Resting)

@@ -1,10 +1,10 @@
 //! What a worker without locks shares in the fill part: root children to claim, the bound word, and marks of what it put.
 //! No queue is there yet: a put is a mark, and the leaves that any worker has marked are sealed into runs after the part.
 ghost use Rattle.std.specs.Prelude.{◌≡◌};
-ghost use Rattle.claim_word.specs.Passes.{fresh_pass};
+ghost use Rattle.live_query.specs.RootClaims.{IsOwn};
 
+use crate::root_claims::{Drawing, RootClaims};
 use best_word::{BestWord, WordPass};
-use claim_word::{ClaimPass, Claims};
 use query_core::Shared;
 use series_core::{Entry, PopReply, PutReply};
 use std::marker::Model;
@@ -12,46 +12,48 @@ use std::marker::Model;
 /// The hand of a worker in the fill part.
 #[derive(Drop)]
 pub struct FillHand<'a> {
-    claims: &'a Claims,
+    claims: &'a RootClaims,
     word: &'a BestWord,
-    claim: ClaimPass,
+    drawing: Drawing,
     seen: WordPass,
-    ended: bool,
     queues: u32,
     marks: Vec<bool>,
 }
 
 impl<'a> Model for FillHand<'a> {
-    ghost use Rattle.std.specs.Prelude.{◌≡◌, ◌≤◌};
+    ghost use Rattle.std.specs.Prelude.{◌≡◌};
+    ghost use Rattle.live_query.specs.RootClaims.{IsOwn};
     ghost use Rattle.live_query.specs.FillHands.{FillKept};
 
     ghost Value = { FillKept };
 
     ghost view = { λ h. record {
-      claim = h.claim;
+      roots = h.claims.now;
+      drawn = h.drawing;
       best = h.word.now;
       floor = h.seen.floor;
       queues = h.queues;
       marks = h.marks.items;
     } };
 
-    ghost invariant = { λ h. (h.claim.claims ≡ h.claims.now) × (h.seen.best ≡ h.word.now) × (h.ended ≡ h.claim.ended) × (h.claim.met ≤ h.claims.now.count) };
+    ghost invariant = { λ h. IsOwn h.claims.now h.drawing × (h.seen.best ≡ h.word.now) };
 }
 
 impl<'a> FillHand<'a> {
-    /// A hand that has claimed nothing, with these marks.
+    /// A hand with these draws and these marks.
     pub fn new(
-        claims: &'a Claims,
+        claims: &'a RootClaims,
         word: &'a BestWord,
-        claim: ClaimPass,
+        drawing: Drawing,
         seen: WordPass,
         queues: u32,
         marks: Vec<bool>,
     ) -> FillHand<'a>
-        requires claim { claim ≡ fresh_pass claims.now }
+        requires own { IsOwn claims.now drawing }
         requires seen { seen.best ≡ word.now }
         ensures { result ≡ record {
-          claim = fresh_pass claims.now;
+          roots = claims.now;
+          drawn = drawing;
           best = word.now;
           floor = seen.floor;
           queues = queues;
@@ -61,27 +63,26 @@ impl<'a> FillHand<'a> {
         FillHand {
             claims,
             word,
-            claim,
+            drawing,
             seen,
-            ended: false,
             queues,
             marks,
         }
     }
 
-    /// Its passes and its marks.
-    pub fn into_parts(self) -> (ClaimPass, WordPass, Vec<bool>)
-        ensures claim { result.0 ≡ self.entry.claim }
+    /// Its draws, its pass of the bound word, and its marks.
+    pub fn into_parts(self) -> (Drawing, WordPass, Vec<bool>)
+        ensures drawn { result.0 ≡ self.entry.drawn }
         ensures seen { (result.1.best ≡ self.entry.best) × (result.1.floor ≡ self.entry.floor) }
         ensures marks { result.2.items ≡ self.entry.marks }
     {
         let FillHand {
-            claim,
+            drawing,
             seen,
             marks,
             ..
         } = self;
-        (claim, seen, marks)
+        (drawing, seen, marks)
     }
 }
 
@@ -90,22 +91,12 @@ impl<'a> Shared for FillHand<'a> {
 
     ghost floor = { λ h. h.floor };
 
-    ghost roots = { λ h. h.claim.claims.count };
+    ghost roots = { λ h. h.roots.count };
 
     ghost did = { FillDid };
 
-    /// After a draw that gave none, a claim takes no step.
     fn claim(&mut self) -> Option<u64> {
-        if self.ended {
-            return None;
-        }
-        match self.claims.draw(&mut self.claim) {
-            Some(number) => Some(number),
-            None => {
-                self.ended = true;
-                None
-            }
-        }
+        self.claims.claim(&mut self.drawing)
     }
 
     fn read(&mut self) -> u64 {

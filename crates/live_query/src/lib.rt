@@ -3,6 +3,7 @@
 //! leaves that were put. Between the parts all workers have returned, so that no leaf is put while others are taken.
 #![tactic(auto)]
 
+mod concluding;
 mod drain_hand;
 mod drain_part;
 mod draining;
@@ -19,6 +20,7 @@ mod marked;
 mod opening;
 mod part;
 mod queue_calls;
+mod root_claims;
 mod sealed;
 mod search;
 mod searcher;

@@ -1,11 +1,12 @@
 //! What a worker over locked queues shares: root children to claim, the bound word, and the queues, each under a lock of its own.
 //! It has one pass of each lock, and each put and pop is one call at the queue that it names.
 ghost use Rattle.std.specs.Prelude.{◌≡◌};
+ghost use Rattle.live_query.specs.RootClaims.{IsOwn};
 ghost use Rattle.live_query.specs.LockHands.{AreOwn, lock_over};
 
 use crate::queue_calls::{pop_from, put_into};
+use crate::root_claims::{Drawing, RootClaims};
 use best_word::{BestWord, WordPass};
-use claim_word::{ClaimPass, Claims};
 use leaf_queues::Queue;
 use query_core::Shared;
 use series_core::{Entry, PopReply, PutReply};
@@ -17,78 +18,74 @@ use turn_lock::{TurnLock, TurnPass};
 #[derive(Drop)]
 pub struct LockHand<'a, W> {
     rt: &'a W,
-    claims: &'a Claims,
+    claims: &'a RootClaims,
     word: &'a BestWord,
-    claim: ClaimPass,
+    drawing: Drawing,
     seen: WordPass,
-    ended: bool,
     locks: &'a [TurnLock<Queue>],
     passes: Vec<TurnPass<Queue>>,
 }
 
 impl<'a, W> Model for LockHand<'a, W> {
     ghost use Rattle.std.specs.Prelude.{◌≡◌};
+    ghost use Rattle.live_query.specs.RootClaims.{IsOwn};
     ghost use Rattle.live_query.specs.LockHands.{LockKept, AreOwn};
 
     ghost Value = { LockKept };
 
     ghost view = { λ h. record {
-      claim = h.claim;
+      roots = h.claims.now;
+      drawn = h.drawing;
       best = h.word.now;
       floor = h.seen.floor;
       locks = h.locks.now;
       passes = h.passes.items;
     } };
 
-    ghost invariant = { λ h. (h.claim.claims ≡ h.claims.now) × (h.seen.best ≡ h.word.now) × (h.ended ≡ h.claim.ended) × AreOwn h.locks.now h.passes.items };
+    ghost invariant = { λ h. IsOwn h.claims.now h.drawing × (h.seen.best ≡ h.word.now) × AreOwn h.locks.now h.passes.items };
 }
 
 impl<'a, W> LockHand<'a, W> {
-    /// A hand over these locks with these passes. It has ended its claims where `ended` says so.
+    /// A hand over these locks with these draws and passes.
     pub fn new(
         rt: &'a W,
-        claims: &'a Claims,
+        claims: &'a RootClaims,
         word: &'a BestWord,
-        claim: ClaimPass,
-        ended: bool,
+        drawing: Drawing,
         seen: WordPass,
         locks: &'a [TurnLock<Queue>],
         passes: Vec<TurnPass<Queue>>,
     ) -> LockHand<'a, W>
-        requires claim { claim.claims ≡ claims.now }
-        requires ended { ended ≡ claim.ended }
+        requires drawing { IsOwn claims.now drawing }
         requires seen { seen.best ≡ word.now }
         requires own { AreOwn locks.now passes.items }
-        ensures { result ≡ lock_over claim word.now seen.floor locks.now passes.items }
+        ensures { result ≡ lock_over claims.now drawing word.now seen.floor locks.now passes.items }
     {
         LockHand {
             rt,
             claims,
             word,
-            claim,
+            drawing,
             seen,
-            ended,
             locks,
             passes,
         }
     }
 
-    /// Its pass of the claims and whether that has ended, its pass of the bound word, and its passes of the locks.
-    pub fn into_parts(self) -> (ClaimPass, bool, WordPass, Vec<TurnPass<Queue>>)
-        ensures claim { result.0 ≡ self.entry.claim }
-        ensures ended { result.1 ≡ self.entry.claim.ended }
-        ensures seen { (result.2.best ≡ self.entry.best) × (result.2.floor ≡ self.entry.floor) }
-        ensures passes { result.3.items ≡ self.entry.passes }
-        ensures own { AreOwn self.entry.locks result.3.items }
+    /// Its draws, its pass of the bound word, and its passes of the locks.
+    pub fn into_parts(self) -> (Drawing, WordPass, Vec<TurnPass<Queue>>)
+        ensures drawn { result.0 ≡ self.entry.drawn }
+        ensures seen { (result.1.best ≡ self.entry.best) × (result.1.floor ≡ self.entry.floor) }
+        ensures passes { result.2.items ≡ self.entry.passes }
+        ensures own { AreOwn self.entry.locks result.2.items }
     {
         let LockHand {
-            claim,
-            ended,
+            drawing,
             seen,
             passes,
             ..
         } = self;
-        (claim, ended, seen, passes)
+        (drawing, seen, passes)
     }
 }
 
@@ -97,22 +94,12 @@ impl<'a, W: Wait> Shared for LockHand<'a, W> {
 
     ghost floor = { λ h. h.floor };
 
-    ghost roots = { λ h. h.claim.claims.count };
+    ghost roots = { λ h. h.roots.count };
 
     ghost did = { LockDid };
 
-    /// After a draw that gave none, a claim takes no step.
     fn claim(&mut self) -> Option<u64> {
-        if self.ended {
-            return None;
-        }
-        match self.claims.draw(&mut self.claim) {
-            Some(number) => Some(number),
-            None => {
-                self.ended = true;
-                None
-            }
-        }
+        self.claims.claim(&mut self.drawing)
     }
 
     fn read(&mut self) -> u64 {

@@ -1,26 +1,25 @@
 //! The search over locked queues, as MESSI has it: a queue is a list of leaves under a lock of its own. It may wait for a lock.
 //! The locks of the fill part are closed before those of the drain part begin, so that no put comes between pops.
-ghost use Rattle.std.specs.Prelude.{◌≡◌, ◌≤◌, ℕ, All, IfOk, length, map, vec_len};
+ghost use Rattle.std.specs.Prelude.{◌≡◌, ◌≤◌, IfOk, length, map};
 ghost use Rattle.series_core.specs.Answer.{answer};
 ghost use Rattle.subtree_build.specs.Fits.{Fits as IndexFits};
-ghost use Rattle.best_word.specs.Passes.{Best, fresh_pass as fresh_seen};
-ghost use Rattle.claim_word.specs.Passes.{fresh_pass};
 ghost use Rattle.search_machine.specs.Legal.{Legal, IsStraight};
+ghost use Rattle.search_machine.specs.Machine.{empty_queues};
 ghost use Rattle.search_machine.specs.Outcome.{line_of};
 ghost use Rattle.query_core.specs.Questions.{search_over};
-ghost use Rattle.live_query.specs.Holding.{fresh_held};
+ghost use Rattle.query_core.specs.Teams.{AreOver};
+ghost use Rattle.live_query.specs.Parts.{EndsRight, Opens};
 
+use crate::concluding::outcome_of;
 use crate::locked_part::locked_part;
+use crate::opening::{Opened, open};
 use crate::part::Part;
+use crate::search::Search;
 use crate::searcher::{Holding, Searcher};
-use best_word::{BestWord, WordPass};
-use claim_word::{ClaimPass, Claims};
+use claim_word::ClaimPass;
 use leaf_queues::Queue;
 use outside::{Gate, NoMemory};
-use query_core::{
-    EntryList, LineList, Outcome, QueueLine, Task, Worker, conclude, empty_queues, hire, limit_of,
-    search_law,
-};
+use query_core::{EntryList, LineList, Outcome, QueueLine, Task, Worker, empty_queues};
 use series_core::Rows;
 use std::alloc::Global;
 use std::sync::Wait;
@@ -47,57 +46,49 @@ pub fn nearest<T: Threads + Wait + Sync, R: Rows + Sync, G: Gate + Sync>(
     ensures straight { IfOk result IsStraight }
     ensures answer { IfOk result (λ o. o.pairs ≡ answer task.now.collection task.now.query task.now.k) }
 {
-    search_law(task, index);
-    let (start, list) = task.opening(alloc, index)?;
-    let (word, seen) = BestWord::begin(alloc, task, limit_of(start), workers)?;
-    let hired = hire(alloc, task, index, workers, queues, start, list)?;
-    let (claims, passes) = Claims::begin(alloc, u64::from(index.root_count()), workers)?;
-    let team = open_team(alloc, &claims, hired, seen, passes)?;
+    let search = Search {
+        task,
+        index,
+        queues,
+    };
+    let opened = open(alloc, &search, workers)?;
     let empty = empty_queues(alloc, index.leaf_count(), queues)?;
-    let (team, filled) = locked_part(rt, alloc, gate, &claims, &word, Part::Fill, team, empty)?;
+    let start = opened.start;
+    let (ended, lines) = both_parts(rt, alloc, gate, &search, opened, empty)?;
+    outcome_of(alloc, &search, start, &ended, lines)
+}
+
+// Lets all searchers fill and then drain side by side: the workers as they end, and what each queue tells.
+fn both_parts<'a, T: Threads + Wait + Sync, R: Rows + Sync, G: Gate + Sync>(
+    rt: &T,
+    alloc: Global,
+    gate: &G,
+    search: &Search<'a, R>,
+    opened: Opened<'a, R>,
+    queues: Vec<Queue>,
+) -> Result<(Vec<Worker<'a, R>>, LineList), NoMemory>
+    requires queues { (1 ≤ search.now.queues) × (search.now.queues ≤ 64) }
+    requires team { (1 ≤ length opened.team.items) × (length opened.team.items ≤ 64) }
+    requires empty { let g = search_over search.now.task.now search.now.index.now (length opened.team.items) search.now.queues in
+        queues.items ≡ empty_queues g 0 search.now.queues }
+    requires opens { Opens search.now.task.now search.now.index.now search.now.queues opened.claims opened.word opened.team.items }
+    ensures over { IfOk result (λ r. AreOver search.now.task.now search.now.index.now r.0.items) }
+    ensures sizes { IfOk result (λ r. (length r.0.items ≡ length opened.entry.team.items) × (length r.1 ≡ search.now.queues)) }
+    ensures ends { IfOk result (λ r. EndsRight
+        (search_over search.now.task.now search.now.index.now (length opened.entry.team.items) search.now.queues) r.0.items r.1) }
+{
+    let Opened {
+        start: _,
+        word,
+        claims,
+        team,
+    } = opened;
+    let (team, filled) = locked_part(rt, alloc, gate, &claims, &word, Part::Fill, team, queues)?;
     let (team, drained) = locked_part(rt, alloc, gate, &claims, &word, Part::Drain, team, filled)?;
     let (ended, passes) = dismiss(alloc, team)?;
     claims.close(passes);
     let lines = lines(alloc, &drained)?;
-    conclude(alloc, task, index, start, &ended, lines)
-}
-
-// A searcher for each of at most 64 workers, numbered in their order, with its passes.
-fn open_team<'a, R: Rows>(
-    alloc: Global,
-    claims: &Claims,
-    workers: Vec<Worker<'a, R>>,
-    mut seen: Vec<WordPass>,
-    mut passes: Vec<ClaimPass>,
-) -> Result<Vec<Searcher<Worker<'a, R>, Holding>>, NoMemory>
-    requires seen { vec_len seen ≡ vec_len workers }
-    requires passes { vec_len passes ≡ vec_len workers }
-    requires fresh { All (λ p. p ≡ fresh_pass claims.now) passes.items }
-    requires few { vec_len workers ≤ 64 }
-    ensures workers { IfOk result (λ team. map (λ c. c.worker) team.items ≡ workers.entry.items) }
-    ensures hands { (b : Best) (low : ℕ) → All (λ p. p ≡ fresh_seen b low) seen.items
-        → IfOk result (λ team. All (λ c. c.hand ≡ fresh_held claims.now b low) team.items) }
-{
-    let mut team = Vec::with_capacity(alloc, workers.len())?;
-    for worker in workers {
-        let Some(word_pass) = seen.pop() else {
-            unreachable!()
-        };
-        let Some(claim) = passes.pop() else {
-            unreachable!()
-        };
-        team.push_reserved(Searcher {
-            worker,
-            hand: Holding {
-                claim,
-                ended: false,
-                seen: word_pass,
-            },
-            number: team.len() as u32,
-            turn: 0,
-        });
-    }
-    Ok(team)
+    Ok((ended, lines))
 }
 
 // The workers, and their passes of the claims.
@@ -106,14 +97,14 @@ fn dismiss<'a, R: Rows>(
     team: Vec<Searcher<Worker<'a, R>, Holding>>,
 ) -> Result<(Vec<Worker<'a, R>>, Vec<ClaimPass>), NoMemory>
     ensures workers { IfOk result (λ r. r.0.items ≡ map (λ c. c.worker) team.entry.items) }
-    ensures passes { IfOk result (λ r. r.1.items ≡ map (λ c. c.hand.claim) team.entry.items) }
+    ensures passes { IfOk result (λ r. r.1.items ≡ map (λ c. c.hand.drawn.pass) team.entry.items) }
 {
     let mut workers = Vec::with_capacity(alloc, team.len())?;
     let mut passes = Vec::with_capacity(alloc, team.len())?;
     for searcher in team {
         let Searcher { worker, hand, .. } = searcher;
         workers.push_reserved(worker);
-        passes.push_reserved(hand.claim);
+        passes.push_reserved(hand.drawing.into_pass());
     }
     Ok((workers, passes))
 }

@@ -6,15 +6,16 @@ ghost use Rattle.turn_lock.specs.Passes.{callers_of};
 ghost use Rattle.leaf_queues.specs.PlainQueue.{PlainQueue};
 ghost use Rattle.live_query.specs.LockHands.{AreOwn, QueueLock};
 ghost use Rattle.live_query.specs.LockKnowing.{InPart};
+ghost use Rattle.live_query.specs.RootClaims.{IsOwn};
 ghost use Rattle.live_query.specs.LockParts.{AreDealt, AreEquipped, AreRound, IsServed, Row, Went, holding};
 
 use crate::lock_hand::LockHand;
 use crate::locking::{Locking, work_together};
 use crate::locks::{begin_locks, close_locks, take_fronts};
 use crate::part::Part;
+use crate::root_claims::RootClaims;
 use crate::searcher::{Holding, Searcher};
 use best_word::BestWord;
-use claim_word::Claims;
 use leaf_queues::Queue;
 use outside::{Gate, NoMemory};
 use query_core::Worker;
@@ -29,7 +30,7 @@ pub(crate) fn locked_part<'a, T: Threads + Wait + Sync, R: Rows + Sync, G: Gate 
     rt: &T,
     alloc: Global,
     gate: &G,
-    claims: &Claims,
+    claims: &RootClaims,
     word: &BestWord,
     part: Part,
     team: Vec<Searcher<Worker<'a, R>, Holding>>,
@@ -39,7 +40,7 @@ pub(crate) fn locked_part<'a, T: Threads + Wait + Sync, R: Rows + Sync, G: Gate 
     requires served { All (IsServed claims.now word.now (length queues.items)) team.items }
     requires running { All (λ c. c.worker.phase ≢ Done) team.items }
     requires begins { All (λ c. InPart part c.worker.phase) team.items }
-    ensures { IfOk result (λ r. Went part team.entry.items queues.items r.0.items r.1.items) }
+    ensures { IfOk result (λ r. Went part claims.now team.entry.items queues.items r.0.items r.1.items) }
 {
     let callers = team.len() as u32;
     let (locks, rows) = begin_locks(alloc, queues, callers)?;
@@ -54,17 +55,17 @@ pub(crate) fn locked_part<'a, T: Threads + Wait + Sync, R: Rows + Sync, G: Gate 
 fn equip<'a, 'b, T, R: Rows>(
     rt: &'b T,
     alloc: Global,
-    claims: &'b Claims,
+    claims: &'b RootClaims,
     word: &'b BestWord,
     locks: &'b [TurnLock<Queue>],
     team: Vec<Searcher<Worker<'a, R>, Holding>>,
     mut rows: Vec<Vec<TurnPass<Queue>>>,
 ) -> Result<Vec<Locking<'a, 'b, R, T>>, NoMemory>
-    requires claims { All (λ c. c.hand.claim.claims ≡ claims.now) team.items }
+    requires claims { All (λ c. IsOwn claims.now c.hand.drawn) team.items }
     requires word { All (λ c. c.hand.best ≡ word.now) team.items }
     requires round { (queues : List PlainQueue) × AreRound queues (length team.items) locks.now }
     requires dealt { AreDealt locks.now 0 rows.items }
-    ensures { IfOk result (λ ready. AreEquipped locks.now team.entry.items ready.items) }
+    ensures { IfOk result (λ ready. AreEquipped claims.now locks.now team.entry.items ready.items) }
 {
     let mut ready = Vec::with_capacity(alloc, team.len())?;
     for searcher in team {
@@ -75,10 +76,10 @@ fn equip<'a, 'b, T, R: Rows>(
             number,
             turn,
         } = searcher;
-        let Holding { claim, ended, seen } = hand;
+        let Holding { drawing, seen } = hand;
         ready.push_reserved(Searcher {
             worker,
-            hand: LockHand::new(rt, claims, word, claim, ended, seen, locks, passes),
+            hand: LockHand::new(rt, claims, word, drawing, seen, locks, passes),
             number,
             turn,
         });
@@ -111,11 +112,11 @@ fn unequip<'a, 'b, T, R: Rows>(
             number,
             turn,
         } = searcher;
-        let (claim, ended, seen, passes) = hand.into_parts();
+        let (drawing, seen, passes) = hand.into_parts();
         rows.push_reserved(passes);
         held.push_reserved(Searcher {
             worker,
-            hand: Holding { claim, ended, seen },
+            hand: Holding { drawing, seen },
             number,
             turn,
         });

@@ -1,47 +1,102 @@
-//! The searchers with which a search opens: a hired worker each, with its pass of the bound word.
-ghost use Rattle.std.specs.Prelude.{◌≡◌, ℕ, ◌≤◌, All, IfOk, false, length, map, replicate, vec_len};
-ghost use Rattle.best_word.specs.Passes.{Best, fresh_pass};
-ghost use Rattle.live_query.specs.Resting.{fresh_kept};
+//! What a search opens with in both of its forms: the bound word, the root children to claim, and a searcher for each worker.
+ghost use Rattle.std.specs.Prelude.{◌≡◌, ◌≤◌, ℕ, All, IfOk, length, map, vec_len};
+ghost use Rattle.subtree_build.specs.Fits.{Fits as IndexFits};
+ghost use Rattle.best_word.specs.Passes.{Best, fresh_pass as fresh_seen};
+ghost use Rattle.search_machine.specs.Basics.{start_of};
+ghost use Rattle.query_core.specs.Questions.{search_over};
+ghost use Rattle.live_query.specs.RootClaims.{Drawn};
+ghost use Rattle.live_query.specs.Parts.{Opens};
 
-use crate::searcher::{Rested, Searcher};
-use best_word::WordPass;
+use crate::root_claims::{Drawing, RootClaims};
+use crate::search::Search;
+use crate::searcher::{Holding, Searcher};
+use best_word::{BestWord, WordPass};
 use outside::NoMemory;
-use query_core::Worker;
+use query_core::{Start, Worker, hire, limit_of, search_law};
 use series_core::Rows;
 use std::alloc::Global;
 
-/// A searcher for each of at most 64 workers, numbered in their order, that has put none of so many leaves.
-pub(crate) fn open_team<'a, R: Rows>(
+/// What a search opens with.
+#[derive(Drop)]
+pub(crate) struct Opened<'a, R: Rows> {
+    /// The leaf that was scanned, and its limit.
+    pub start: Option<Start>,
+    /// The bound word.
+    pub word: BestWord,
+    /// The root children to claim.
+    pub claims: RootClaims,
+    /// A searcher for each worker, numbered in their order.
+    pub team: Vec<Searcher<Worker<'a, R>, Holding>>,
+}
+
+/// Opens a search by 1 to 64 workers over 1 to 64 queues.
+pub(crate) fn open<'a, R: Rows>(
+    alloc: Global,
+    search: &Search<'a, R>,
+    workers: u32,
+) -> Result<Opened<'a, R>, NoMemory>
+    requires fits { IndexFits search.now.task.now.collection search.now.task.now.layout search.now.index.now }
+    requires workers { (1 ≤ workers) × (workers ≤ 64) }
+    requires queues { (1 ≤ search.now.queues) × (search.now.queues ≤ 64) }
+    ensures start { IfOk result (λ o. o.start ≡ start_of (search_over search.now.task.now search.now.index.now 1 1)) }
+    ensures count { IfOk result (λ o. length o.team.items ≡ workers) }
+    ensures opens { IfOk result (λ o.
+        Opens search.now.task.now search.now.index.now search.now.queues o.claims o.word o.team.items) }
+{
+    search_law(search.task, search.index);
+    let (start, list) = search.task.opening(alloc, search.index)?;
+    let (word, seen) = BestWord::begin(alloc, search.task, limit_of(start), workers)?;
+    let hired = hire(
+        alloc,
+        search.task,
+        search.index,
+        workers,
+        search.queues,
+        start,
+        list,
+    )?;
+    let (claims, drawings) = RootClaims::begin(alloc, search.index.root_count(), workers)?;
+    let team = open_team(alloc, hired, seen, drawings)?;
+    Ok(Opened {
+        start,
+        word,
+        claims,
+        team,
+    })
+}
+
+// A searcher for each of at most 64 workers, numbered in their order, with its draws and its pass of the bound word.
+fn open_team<'a, R: Rows>(
     alloc: Global,
     workers: Vec<Worker<'a, R>>,
-    mut passes: Vec<WordPass>,
-    leaves: u32,
-) -> Result<Vec<Searcher<Worker<'a, R>, Rested>>, NoMemory>
-    requires count { vec_len passes ≡ vec_len workers }
+    mut seen: Vec<WordPass>,
+    mut drawings: Vec<Drawing>,
+) -> Result<Vec<Searcher<Worker<'a, R>, Holding>>, NoMemory>
+    requires seen { vec_len seen ≡ vec_len workers }
+    requires drawings { vec_len drawings ≡ vec_len workers }
     requires few { vec_len workers ≤ 64 }
     ensures workers { IfOk result (λ team. map (λ c. c.worker) team.items ≡ workers.entry.items) }
-    ensures hands { (b : Best) (low : ℕ) → All (λ p. p ≡ fresh_pass b low) passes.items
-        → IfOk result (λ team. All (λ c. c.hand ≡ fresh_kept b low leaves) team.items) }
+    ensures hands { (d : Drawn) (b : Best) (low : ℕ) → All (λ p. p ≡ d) drawings.items
+        → All (λ p. p ≡ fresh_seen b low) seen.items
+        → IfOk result (λ team. All (λ c. c.hand ≡ record { drawn = d; best = b; floor = low }) team.items) }
 {
     let mut team = Vec::with_capacity(alloc, workers.len())?;
     for worker in workers {
-        let Some(seen) = passes.pop() else {
+        let Some(word_pass) = seen.pop() else {
             unreachable!()
         };
-        let marks = no_marks(alloc, leaves)?;
+        let Some(drawing) = drawings.pop() else {
+            unreachable!()
+        };
         team.push_reserved(Searcher {
             worker,
-            hand: Rested { seen, marks },
+            hand: Holding {
+                drawing,
+                seen: word_pass,
+            },
             number: team.len() as u32,
             turn: 0,
         });
     }
     Ok(team)
-}
-
-// No mark of any of so many leaves.
-fn no_marks(alloc: Global, leaves: u32) -> Result<Vec<bool>, NoMemory>
-    ensures { IfOk result (λ marks. marks.items ≡ replicate leaves false) }
-{
-    Ok(vec![in alloc; false; leaves as usize]?)
 }

@@ -5,13 +5,13 @@ ghost use Rattle.subtree_build.specs.Fits.{Fits as IndexFits};
 ghost use Rattle.search_machine.specs.Legal.{Legal, IsStraight};
 ghost use Rattle.query_core.specs.Questions.{search_over};
 
+use crate::concluding::outcome_of;
 use crate::drain_part::drain_part;
 use crate::fill_part::fill_part;
-use crate::opening::open_team;
+use crate::opening::{Opened, open};
 use crate::search::Search;
-use best_word::BestWord;
 use outside::{Gate, NoMemory};
-use query_core::{Outcome, Task, conclude, hire, limit_of, search_law};
+use query_core::{Outcome, Task};
 use series_core::Rows;
 use std::alloc::Global;
 use std::thread::Threads;
@@ -37,17 +37,19 @@ pub fn nearest_sealed<T: Threads + Sync, R: Rows + Sync, G: Gate + Sync>(
     ensures straight { IfOk result IsStraight }
     ensures answer { IfOk result (λ o. o.pairs ≡ answer task.now.collection task.now.query task.now.k) }
 {
-    search_law(task, index);
-    let (start, list) = task.opening(alloc, index)?;
-    let (word, seen) = BestWord::begin(alloc, task, limit_of(start), workers)?;
-    let hired = hire(alloc, task, index, workers, queues, start, list)?;
-    let team = open_team(alloc, hired, seen, index.leaf_count())?;
     let search = Search {
         task,
         index,
         queues,
     };
-    let filled = fill_part(rt, alloc, gate, &search, &word, team)?;
+    let opened = open(alloc, &search, workers)?;
+    let Opened {
+        start,
+        word,
+        claims,
+        team,
+    } = opened;
+    let filled = fill_part(rt, alloc, gate, &search, claims, &word, team)?;
     let (ended, lines) = drain_part(rt, alloc, gate, &search, &word, filled)?;
-    conclude(alloc, task, index, start, &ended, lines)
+    outcome_of(alloc, &search, start, &ended, lines)
 }

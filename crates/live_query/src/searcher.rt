@@ -1,8 +1,8 @@
 //! A worker with what it shares the search by. It has plain parameters alone, so that it goes to a thread of its own.
 ghost use Rattle.std.specs.Prelude.{◌≡◌, ◌↔◌, Some, true, slice_get};
 
+use crate::root_claims::Drawing;
 use best_word::WordPass;
-use claim_word::ClaimPass;
 use std::marker::Model;
 
 /// A worker of a search with its hand on what the workers share, its number, and how many turns it has taken.
@@ -18,7 +18,16 @@ pub struct Searcher<W, H> {
     pub turn: u64,
 }
 
-/// What a searcher keeps outside the parts: its pass of the bound word, and for each leaf whether it put the leaf.
+/// What a searcher keeps before the parts, and over locked queues between them.
+#[derive(Drop)]
+pub struct Holding {
+    /// Its draws of the root children.
+    pub drawing: Drawing,
+    /// Its pass of the bound word.
+    pub seen: WordPass,
+}
+
+/// What a searcher without locks keeps between the parts: its pass of the bound word, and for each leaf whether it put the leaf.
 #[derive(Drop)]
 pub struct Rested {
     /// Its pass of the bound word.
@@ -27,26 +36,14 @@ pub struct Rested {
     pub marks: Vec<bool>,
 }
 
-/// What a searcher over locked queues keeps between the parts.
-#[derive(Drop)]
-pub struct Holding {
-    /// Its pass of the claims.
-    pub claim: ClaimPass,
-    /// Whether that has ended.
-    pub ended: bool,
-    /// Its pass of the bound word.
-    pub seen: WordPass,
-}
-
 impl Model for Holding {
-    ghost use Rattle.std.specs.Prelude.{◌≡◌};
     ghost use Rattle.live_query.specs.Holding.{Held};
 
     ghost Value = { Held };
 
-    ghost view = { λ h. record { claim = h.claim; best = h.seen.best; floor = h.seen.floor } };
+    ghost view = { λ h. record { drawn = h.drawing; best = h.seen.best; floor = h.seen.floor } };
 
-    ghost invariant = { λ h. h.ended ≡ h.claim.ended };
+    ghost invariant = { λ h. Unit {0} };
 }
 
 impl Model for Rested {

@@ -194,15 +194,17 @@ fn finds_what_a_plain_sort_finds(rt: HostRuntime) -> Result<(), Fail> {
     Ok(())
 }
 
+// Of sixteen root children one worker draws groups of two, and 64 workers draw each by itself.
 #[test]
-fn sixty_four_workers_find_what_a_plain_sort_finds(rt: HostRuntime) -> Result<(), Fail> {
+fn one_worker_and_64_find_what_a_plain_sort_finds(rt: HostRuntime) -> Result<(), Fail> {
     let alloc = rt.alloc();
     let mut rng = SplitMix64::seed_from_u64(64);
-    for queues in [1, 64] {
+    for (workers, queues) in [(1, 1), (1, 64), (64, 1), (64, 64)] {
         for count in [0, 1, 7, 100] {
             let rows = drawn_collection(alloc, &mut rng, count)?;
             let shape = Shape {
-                workers: 64,
+                segments: 4,
+                workers,
                 queues,
                 ..drawn_shape(&mut rng)
             };

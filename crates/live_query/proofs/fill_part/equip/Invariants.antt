@@ -1,7 +1,6 @@
 -- A hand for each searcher so far.
-use Rattle.std.proofs.Common.{◌≡◌, ◌+◌, ◌≤◌, ◌++◌, All, length, map, vec_capacity, vec_len}
+use Rattle.std.proofs.Common.{◌≡◌, ◌≤◌, ◌++◌, length, map, vec_capacity, vec_len}
 use Rattle.std.specs.Vec.Iter.{into_iter_items}
-use Rattle.claim_word.specs.Passes.{fresh_pass}
 use Rattle.live_query.specs.Parts.{filling}
 use Rattle.live_query.proofs.fill_part.equip.Given as goal
 
@@ -9,8 +8,6 @@ abbrev pub invariant-loop-searcher : goal.invariant-loop-searcher
 invariant-loop-searcher g l = record {
   whole : l.yielded ++ into_iter_items l.searcher-iterator ≡ l.fn.team.items;
   len : vec_len l.ready ≡ length l.yielded;
-  left : vec_len l.passes + length l.yielded ≡ length l.fn.team.items;
   room : length l.fn.team.items ≤ vec_capacity l.ready;
-  fresh : All (λ p. p ≡ fresh_pass l.claims) l.passes.items;
-  ready : l.ready.items ≡ map (filling l.claims l.queues) l.yielded;
+  ready : l.ready.items ≡ map (filling l.claims l.search.queues (length l.search.index.now.leaves)) l.yielded;
 }

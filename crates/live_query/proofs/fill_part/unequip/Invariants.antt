@@ -7,7 +7,7 @@ abbrev pub invariant-loop-searcher : goal.invariant-loop-searcher
 invariant-loop-searcher g l = record {
   can_next : (goal.iterator-loop-searcher g).can_next l.searcher-iterator;
   is_finite : (goal.iterator-loop-searcher g).is_finite l.searcher-iterator;
-  passes : l.passes.items ≡ map (λ c. c.hand.claim) l.yielded;
+  passes : l.passes.items ≡ map (λ c. c.hand.drawn.pass) l.yielded;
   rested : l.rested.items ≡ map resting l.yielded;
   len : vec_len l.passes ≡ length l.yielded;
   long : vec_len l.rested ≡ length l.yielded;

@@ -5,7 +5,9 @@ use Rattle.std.proofs.lemmas.Option.{slice_get_within}
 use Rattle.best_word.specs.Passes.{Best}
 use Rattle.live_query.specs.Holding.{Held}
 use Rattle.live_query.specs.LockHands.{LockKept, lock_over}
-use Rattle.live_query.specs.LockParts.{AreDealt, AreEquipped, Between, Locking}
+use Rattle.live_query.specs.RootClaims.{IsOwn}
+use Rattle.live_query.specs.LockParts.{AreDealt, AreEquipped, Locking}
+use Rattle.live_query.specs.Parts.{Between}
 use Rattle.live_query.proofs.LockColumns.{get_middle}
 use Rattle.live_query.proofs.LockGather.{equipped_more}
 use Rattle.live_query.proofs.LockRows.{dealt_less, front_new, fronts_own, rows_some}
@@ -27,17 +29,17 @@ take_fronts-requires g c =
           omega (arith, some, row.ok.0);
     }
 
-pub new-requires-clause-claim : goal.new-requires-clause-claim
-new-requires-clause-claim g c =
+pub new-requires-clause-drawing : goal.new-requires-clause-drawing
+new-requires-clause-drawing g c =
     let was = c.loop-searcher.invariant in
     let done : List Between = c.loop-searcher.yielded in
     let searcher : Between = c.in-Some.searcher in
     let rest : List Between = into_iter_items c.next.new.self in
     let whole : done ++ searcher ∷ rest ≡ c.args.team.items
     = ap (λ (xs : List Between). done ++ xs) (sym c.in-Some.ensures.steps.0) ∙ was.whole in
-    ap (λ (h : Held). h.claim.claims) c.hand.view_is
-    ∙ all_middle (λ (s : Between). s.hand.claim.claims ≡ c.args.claims.now) done rest c.args.team.items searcher whole
-    c.requires.claims
+    subst (λ (h : Held). IsOwn c.args.claims.now h.drawn) (sym c.hand.view_is)
+    (all_middle (λ (s : Between). IsOwn c.args.claims.now s.hand.drawn) done rest c.args.team.items searcher whole
+    c.requires.claims)
 
 pub new-requires-clause-own : goal.new-requires-clause-own
 new-requires-clause-own g c =
@@ -60,7 +62,7 @@ loop-searcher-preserved g c =
     let new = c.take_fronts.new.rows.items in
     let word : searcher.hand.best ≡ c.args.word.now
     = all_middle (λ (s : Between). s.hand.best ≡ c.args.word.now) done rest c.args.team.items searcher whole c.requires.word in
-    let over : Best → Held → LockKept = λ b h. lock_over h.claim b h.floor locks passes in
+    let over : Best → Held → LockKept = λ b h. lock_over c.args.claims.now h.drawn b h.floor locks passes in
     let cell : Locking
     = record { worker = searcher.worker; hand = c.new.result; number = searcher.number; turn = searcher.turn } in
     record {
@@ -69,8 +71,8 @@ loop-searcher-preserved g c =
       room = omega (arith, c.push_reserved.ensures.capacity, was.room);
       dealt = subst (λ (n : ℕ). AreDealt locks n new) count
           (dealt_less locks (length done) old passes new was.dealt c.in_ok-passes.ensures);
-      equipped = subst (AreEquipped locks (done ++ searcher ∷ [])) (sym c.push_reserved.ensures.items)
-          (equipped_more locks done c.loop-searcher.ready.items searcher cell was.equipped refl (record {
+      equipped = subst (AreEquipped c.args.claims.now locks (done ++ searcher ∷ [])) (sym c.push_reserved.ensures.items)
+          (equipped_more c.args.claims.now locks done c.loop-searcher.ready.items searcher cell was.equipped refl (record {
             passes = passes;
             is = c.new.ensures ∙ ap (over c.args.word.now) c.hand.view_is
                 ∙ ap (λ (b : Best). over b searcher.hand) (sym word);

@@ -10,5 +10,5 @@ invariant-loop-searcher g l = record {
   len : vec_len l.ready ≡ length l.yielded;
   room : length l.fn.team.items ≤ vec_capacity l.ready;
   dealt : AreDealt l.locks (length l.yielded) l.rows.items;
-  equipped : AreEquipped l.locks l.yielded l.ready.items;
+  equipped : AreEquipped l.claims l.locks l.yielded l.ready.items;
 }

@@ -2,14 +2,15 @@
 use Rattle.std.proofs.Common.{◌≡◌, ℕ, List, length, subst, sym, arith}
 use Rattle.leaf_queues.specs.PlainQueue.{PlainQueue}
 use Rattle.live_query.specs.LockHands.{AreOwn, QueueLock}
-use Rattle.live_query.specs.LockParts.{AreEquipped, AreRound, Between, Locking, Row}
-use Rattle.live_query.proofs.LockGather.{all_begin, all_calls, all_claims, all_locks, all_run, all_serve, all_words, numbered, team_rows, went}
+use Rattle.live_query.specs.LockParts.{AreEquipped, AreRound, Locking, Row}
+use Rattle.live_query.specs.Parts.{Between}
+use Rattle.live_query.proofs.LockGather.{all_begin, all_calls, all_locks, all_own, all_run, all_serve, all_words, numbered, team_rows, went}
 use Rattle.live_query.proofs.Places.{all_at}
 use Rattle.live_query.proofs.locked_part.locked_part.Goals as goal
 
 pub equip-requires-clause-claims : goal.equip-requires-clause-claims
 equip-requires-clause-claims g c =
-    all_claims c.args.claims.now c.args.word.now c.args.queues.items c.args.team.items c.requires.served
+    all_own c.args.claims.now c.args.word.now c.args.queues.items c.args.team.items c.requires.served
 
 pub equip-requires-clause-word : goal.equip-requires-clause-word
 equip-requires-clause-word g c =
@@ -36,7 +37,7 @@ work_together-requires-clause-serves g c κs within =
     let callers : c.len-callers.result ≡ length team = omega (arith, c.len-callers.ensures, c.args.team.ok.0) in
     let round = subst (λ (n : ℕ). AreRound queues n locks) callers c.in_ok-locks.ensures.round in
     let cells : List Locking = c.in_ok-team.team.items in
-    let eq = subst (λ (ks : List QueueLock). AreEquipped ks team cells) c.as_slice.ensures.value c.in_ok-team.ensures in
+    let eq = subst (λ (ks : List QueueLock). AreEquipped claims ks team cells) c.as_slice.ensures.value c.in_ok-team.ensures in
     all_serve claims best queues team c.requires.served locks round cells eq
 
 pub work_together-requires-clause-running : goal.work_together-requires-clause-running
@@ -49,7 +50,7 @@ work_together-requires-clause-running g c κs within =
     let callers : c.len-callers.result ≡ length team = omega (arith, c.len-callers.ensures, c.args.team.ok.0) in
     let round = subst (λ (n : ℕ). AreRound queues n locks) callers c.in_ok-locks.ensures.round in
     let cells : List Locking = c.in_ok-team.team.items in
-    let eq = subst (λ (ks : List QueueLock). AreEquipped ks team cells) c.as_slice.ensures.value c.in_ok-team.ensures in
+    let eq = subst (λ (ks : List QueueLock). AreEquipped claims ks team cells) c.as_slice.ensures.value c.in_ok-team.ensures in
     all_run claims best queues team c.requires.served locks round cells eq c.requires.running
 
 pub work_together-requires-clause-begins : goal.work_together-requires-clause-begins
@@ -62,7 +63,7 @@ work_together-requires-clause-begins g c κs within =
     let callers : c.len-callers.result ≡ length team = omega (arith, c.len-callers.ensures, c.args.team.ok.0) in
     let round = subst (λ (n : ℕ). AreRound queues n locks) callers c.in_ok-locks.ensures.round in
     let cells : List Locking = c.in_ok-team.team.items in
-    let eq = subst (λ (ks : List QueueLock). AreEquipped ks team cells) c.as_slice.ensures.value c.in_ok-team.ensures in
+    let eq = subst (λ (ks : List QueueLock). AreEquipped claims ks team cells) c.as_slice.ensures.value c.in_ok-team.ensures in
     all_begin claims best queues team c.requires.served locks round cells eq c.args.part c.requires.begins
 
 pub work_together-requires-clause-calls : goal.work_together-requires-clause-calls
@@ -75,7 +76,7 @@ work_together-requires-clause-calls g c κs within =
     let callers : c.len-callers.result ≡ length team = omega (arith, c.len-callers.ensures, c.args.team.ok.0) in
     let round = subst (λ (n : ℕ). AreRound queues n locks) callers c.in_ok-locks.ensures.round in
     let cells : List Locking = c.in_ok-team.team.items in
-    let eq = subst (λ (ks : List QueueLock). AreEquipped ks team cells) c.as_slice.ensures.value c.in_ok-team.ensures in
+    let eq = subst (λ (ks : List QueueLock). AreEquipped claims ks team cells) c.as_slice.ensures.value c.in_ok-team.ensures in
     all_calls claims best queues team c.requires.served locks round cells eq c.args.part
 
 pub close_locks-requires-clause-round : goal.close_locks-requires-clause-round
@@ -88,7 +89,7 @@ close_locks-requires-clause-round g c =
     let callers : c.len-callers.result ≡ length team = omega (arith, c.len-callers.ensures, c.args.team.ok.0) in
     let round = subst (λ (n : ℕ). AreRound queues n locks) callers c.in_ok-locks.ensures.round in
     let cells : List Locking = c.in_ok-team.team.items in
-    let eq = subst (λ (ks : List QueueLock). AreEquipped ks team cells) c.as_slice.ensures.value c.in_ok-team.ensures in
+    let eq = subst (λ (ks : List QueueLock). AreEquipped claims ks team cells) c.as_slice.ensures.value c.in_ok-team.ensures in
     let later : List Locking = c.work_together.new.team.items in
     let len : length later ≡ length cells =
     omega (arith, c.work_together.ensures.len, c.work_together.new.team.ok.0, c.in_ok-team.team.ok.0) in
@@ -108,7 +109,7 @@ close_locks-requires-clause-own g c = λ i row at.
     let callers : c.len-callers.result ≡ length team = omega (arith, c.len-callers.ensures, c.args.team.ok.0) in
     let round = subst (λ (n : ℕ). AreRound queues n locks) callers c.in_ok-locks.ensures.round in
     let cells : List Locking = c.in_ok-team.team.items in
-    let eq = subst (λ (ks : List QueueLock). AreEquipped ks team cells) c.as_slice.ensures.value c.in_ok-team.ensures in
+    let eq = subst (λ (ks : List QueueLock). AreEquipped claims ks team cells) c.as_slice.ensures.value c.in_ok-team.ensures in
     let later : List Locking = c.work_together.new.team.items in
     let len : length later ≡ length cells =
     omega (arith, c.work_together.ensures.len, c.work_together.new.team.ok.0, c.in_ok-team.team.ok.0) in
@@ -129,7 +130,7 @@ close_locks-requires-clause-numbered g c =
     let callers : c.len-callers.result ≡ length team = omega (arith, c.len-callers.ensures, c.args.team.ok.0) in
     let round = subst (λ (n : ℕ). AreRound queues n locks) callers c.in_ok-locks.ensures.round in
     let cells : List Locking = c.in_ok-team.team.items in
-    let eq = subst (λ (ks : List QueueLock). AreEquipped ks team cells) c.as_slice.ensures.value c.in_ok-team.ensures in
+    let eq = subst (λ (ks : List QueueLock). AreEquipped claims ks team cells) c.as_slice.ensures.value c.in_ok-team.ensures in
     let later : List Locking = c.work_together.new.team.items in
     let len : length later ≡ length cells =
     omega (arith, c.work_together.ensures.len, c.work_together.new.team.ok.0, c.in_ok-team.team.ok.0) in
@@ -148,7 +149,7 @@ returns g c =
     let callers : c.len-callers.result ≡ length team = omega (arith, c.len-callers.ensures, c.args.team.ok.0) in
     let round = subst (λ (n : ℕ). AreRound queues n locks) callers c.in_ok-locks.ensures.round in
     let cells : List Locking = c.in_ok-team.team.items in
-    let eq = subst (λ (ks : List QueueLock). AreEquipped ks team cells) c.as_slice.ensures.value c.in_ok-team.ensures in
+    let eq = subst (λ (ks : List QueueLock). AreEquipped claims ks team cells) c.as_slice.ensures.value c.in_ok-team.ensures in
     let later : List Locking = c.work_together.new.team.items in
     let len : length later ≡ length cells =
     omega (arith, c.work_together.ensures.len, c.work_together.new.team.ok.0, c.in_ok-team.team.ok.0) in

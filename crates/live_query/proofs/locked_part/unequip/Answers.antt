@@ -4,9 +4,10 @@ use Rattle.std.specs.Vec.Iter.{into_iter_items}
 use Rattle.std.proofs.lemmas.List.{map-append}
 use Rattle.std.proofs.lemmas.List.Elements.{All-push}
 use Rattle.best_word.specs.Passes.{Best}
-use Rattle.claim_word.specs.Passes.{Pass}
 use Rattle.live_query.specs.LockHands.{AreOwn, QueueLock, QueuePass}
-use Rattle.live_query.specs.LockParts.{Between, Locking, Row, holding}
+use Rattle.live_query.specs.LockParts.{Locking, Row, holding}
+use Rattle.live_query.specs.Parts.{Between}
+use Rattle.live_query.specs.RootClaims.{Drawn}
 use Rattle.live_query.proofs.Places.{all_middle, map_more}
 use Rattle.live_query.proofs.locked_part.unequip.Goals as goal
 
@@ -19,13 +20,13 @@ loop-searcher-preserved g c =
     let whole : done ++ searcher ∷ rest ≡ c.args.team.items
     = ap (λ (xs : List Locking). done ++ xs) (sym c.in-Some.ensures.steps.0) ∙ was.whole in
     let long = length-append done (searcher ∷ []) in
-    let parts = c.into_parts-claim.ensures in
-    let told = c.into_parts-claim.result in
+    let parts = c.into_parts-drawing.ensures in
+    let told = c.into_parts-drawing.result in
     let held = c.push_reserved-in-loop-searcher in
-    let row : Row = told.3 in
-    let cell : Pass → Best → ℕ → Between = λ p b f. record {
+    let row : Row = told.2 in
+    let cell : Drawn → Best → ℕ → Between = λ d b f. record {
       worker = searcher.worker;
-      hand = record { claim = p; best = b; floor = f };
+      hand = record { drawn = d; best = b; floor = f };
       number = searcher.number;
       turn = searcher.turn;
     } in
@@ -33,11 +34,11 @@ loop-searcher-preserved g c =
     let own_passes : Locking → List QueuePass = λ c. c.hand.passes in
     record {
       whole = append_assoc done (searcher ∷ []) rest ∙ whole;
-      team = map_more holding done searcher (cell told.0 told.2.best told.2.floor) c.loop-searcher.held.items
+      team = map_more holding done searcher (cell told.0 told.1.best told.1.floor) c.loop-searcher.held.items
           held.new.self.items held.ensures.items was.team
-          (ap (λ (p : Pass). cell p told.2.best told.2.floor) parts.claim
-          ∙ ap (λ (b : Best). cell searcher.hand.claim b told.2.floor) parts.seen.0
-          ∙ ap (cell searcher.hand.claim searcher.hand.best) parts.seen.1);
+          (ap (λ (d : Drawn). cell d told.1.best told.1.floor) parts.drawn
+          ∙ ap (λ (b : Best). cell searcher.hand.drawn b told.1.floor) parts.seen.0
+          ∙ ap (cell searcher.hand.drawn searcher.hand.best) parts.seen.1);
       passes = ap (map items) c.push_reserved.ensures.items
           ∙ map-append items c.loop-searcher.rows.items (row ∷ [])
           ∙ ap (λ (l : List (List QueuePass)). l ++ row.items ∷ []) was.passes

@@ -1,17 +1,13 @@
--- A draw that gave no number ended the pass.
-use Rattle.std.proofs.Common.{◌∙◌, ap}
-use Rattle.claim_word.specs.Passes.{Pass}
+-- The claim was made of the hand's draws.
+use Rattle.std.proofs.Common.{ap, subst}
+use Rattle.live_query.specs.RootClaims.{DidClaim}
 use Rattle.live_query.specs.LockHands.{LockKept}
 use Rattle.live_query.proofs.lock_hand.LockHandShared.claim.Goals as goal
 
-pub returns-in-None-clause-did : goal.returns-in-None-clause-did
-returns-in-None-clause-did g c =
-    let was : LockKept → LockKept = λ h. record h { claim = c.draw.new.pass } in
-    let ended = c.in-None.ensures.ended in
-    record {
-      pass = c.draw.new.pass;
-      after = ap was c.self.view_is;
-      claims = ap (λ (p : Pass). p.claims) ended ∙ ap (λ (h : LockKept). h.claim.claims) c.self.view_is;
-      draws = ap (λ (p : Pass). p.draws) ended ∙ ap (λ (h : LockKept). h.claim.draws) c.self.view_is;
-      ended = ap (λ (p : Pass). p.ended) ended;
-    }
+pub returns-clause-did : goal.returns-clause-did
+returns-clause-did g c =
+    let was : LockKept → LockKept = λ h. record h { drawn = c.claim.new.drawing } in (
+      c.claim.new.drawing,
+      subst (λ (h : LockKept). DidClaim h.roots h.drawn c.claim.result c.claim.new.drawing) c.self.view_is c.claim.ensures.did,
+      ap was c.self.view_is,
+    )

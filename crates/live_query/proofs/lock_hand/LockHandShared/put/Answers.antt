@@ -8,14 +8,13 @@ use Rattle.live_query.proofs.lock_hand.LockHandShared.put.Goals as goal
 
 pub invariant_of-self : goal.invariant_of-self
 invariant_of-self g c =
-    let own = c.self.invariant.3 in
+    let own = c.self.invariant.2 in
     let passes = c.self.inside.passes in
     let lock = c.index-locks-queue.result in
     let low : c.args.queue < length c.self.inside.locks.now =
     omega (arith, c.if-queue-len.false, c.len.ensures, passes.ok.0, own.count) in (
       c.self.invariant.0,
       c.self.invariant.1,
-      c.self.invariant.2,
       own_set c.self.inside.locks.now passes.items c.args.queue lock c.put_into.new.pass own
           (slice_get-get_or c.self.inside.locks.now c.args.queue lock low ∙ ap Some (sym c.index-locks-queue.is))
           c.put_into.ensures.pass,
