@@ -31,3 +31,4 @@ pub mod Assembling
 pub mod Flattened
 pub mod Numbering
 pub mod Assembled
+pub mod LeafSteps
