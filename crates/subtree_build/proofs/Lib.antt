@@ -32,3 +32,4 @@ pub mod Flattened
 pub mod Numbering
 pub mod Assembled
 pub mod FinerPoints
+pub mod LeafSteps

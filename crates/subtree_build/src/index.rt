@@ -269,7 +269,7 @@ impl Index {
     }
 
     /// The root number of root child number `i`, of one bit for each segment.
-    pub(crate) fn root_number(&self, i: u32) -> u32
+    pub fn root_number(&self, i: u32) -> u32
         requires { i < length self.now.roots }
         ensures value { result ≡ slice_index self.now.roots i }
         ensures bits { result < 2 ^ self.now.segments }

@@ -5,7 +5,7 @@ use Rattle.isax_word.specs.declared.member.Member.{Member}
 use Rattle.list_totals.proofs.Totals.{total_append}
 use Rattle.subtree_build.specs.declared.leaf.GrownLeaf.{GrownLeaf}
 use Rattle.subtree_build.specs.Grown.{cut_leaves, members_in}
-use Rattle.subtree_build.proofs.Assembled.{leaf_step}
+use Rattle.subtree_build.proofs.LeafSteps.{leaf_step}
 use Rattle.subtree_build.proofs.leaf_row.gather_leaves.Goals as goal
 
 pub loop-i-preserved : goal.loop-i-preserved

@@ -4,7 +4,7 @@ use Rattle.isax_word.specs.declared.word.Part.{Part}
 use Rattle.isax_word.specs.Word.{one_bit_word}
 use Rattle.subtree_build.specs.Assembly.{leaf_words}
 use Rattle.subtree_build.specs.Outline.{outline}
-use Rattle.subtree_build.proofs.Assembled.{words_step, firsts_step}
+use Rattle.subtree_build.proofs.LeafSteps.{words_step, firsts_step}
 use Rattle.subtree_build.proofs.leaf_row.words_below.Goals as goal
 
 pub loop-i-preserved : goal.loop-i-preserved
