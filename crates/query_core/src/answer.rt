@@ -16,7 +16,7 @@ use subtree_build::Index;
 const NEARLY_ALL: u64 = 30;
 
 /// Where more of 32 members of a sample than these are within the closer limit, all rows are read.
-const FEW: u64 = 8;
+const FEW: u64 = 3;
 
 /// The answer alone, the k nearest rows, without what an outcome has for a certificate. One worker needs no queues, so
 /// it is the same for any number of them.
