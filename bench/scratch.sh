@@ -14,6 +14,7 @@ copy_crates() {
 }
 
 # The program main.rt.txt beside the script, over the crates CRATES, of which it uses DEPENDENCIES: build_timed CRATES DEPENDENCIES.
+# The command READY of the environment, where there is one, is run once all is built, before anything is timed.
 build_timed() {
     local program="$work/repository/crates/timed"
     mkdir -p "$program/src"
@@ -26,4 +27,5 @@ build_timed() {
     cp "$here/main.rt.txt" "$program/src/main.rt"
     (cd "$program" && rt run >"$work/build.log" 2>&1) || [ -x "$program/out/timed" ] || { cat "$work/build.log"; exit 1; }
     timed="$program/out/timed"
+    ${READY:-true}
 }

@@ -1,20 +1,21 @@
 -- Bounds by means are at most the distances: that of the box of a leaf's means for each of its members (`box_is_below`), and that
 -- of a member's finer means (`finer_is_below`).
-use Rattle.std.proofs.Common.{◌≡◌, ◌<◌, ◌≤◌, ℕ, [], length, sym, subst, ◌∙◌, arith}
-use Rattle.std.specs.Prelude.{slice_index_or}
+use Rattle.std.proofs.Common.{◌≡◌, ◌*◌, ◌<◌, ◌≤◌, ℕ, ℤ, Bool, true, false, cond, List, [], length, sym, subst, ◌∙◌, arith}
+use Rattle.std.specs.Prelude.{ltb, slice_index_or}
 use Rattle.std.proofs.lemmas.List.{get_or-map, length-map}
 use Rattle.list_totals.specs.Totals.{times}
 use Rattle.list_totals.proofs.Places.{times_contains}
 use Rattle.series_core.specs.Distance.{squared_distance}
+use Rattle.series_core.specs.declared.rows.TheConstants.{MAX_VALUES}
 use Rattle.mean_bound.proofs.BelowDistances.{mean_bound_below}
 use Rattle.mean_bound.proofs.Boxes.{box_below}
 use Rattle.mean_bound.proofs.Parts.{finer_below}
 use Rattle.mean_bound.specs.Boxes.{box_bound, box_of}
-use Rattle.mean_bound.specs.Finer.{finer_bound, finer_view}
+use Rattle.mean_bound.specs.Finer.{finer_bound, finer_means, finer_view}
 use Rattle.mean_bound.specs.MeanBound.{mean_bound, mean_view_of}
 use Rattle.isax_word.specs.declared.member.Member.{Member}
 use Rattle.subtree_build.specs.Index.{IndexParts, leaf_at}
-use Rattle.subtree_build.specs.Means.{all_means, finer_of, means_at, means_of}
+use Rattle.subtree_build.specs.Means.{all_means, finer_of, finer_points, means_at, means_of}
 use Rattle.subtree_build.specs.Members.{numbers_of, series_at}
 use Rattle.subtree_build.proofs.Meaning.{means_of_leaf}
 use Rattle.query_core.specs.Questions.{CanBeSearched, IsQuestion, Question, leaf_series}
@@ -60,15 +61,20 @@ box_is_below a ix l s searched real some =
     subst (λ ms. box_bound view (box_of ms) ≤ squared_distance (series_at c s) a.query) (sym own)
     (omega (arith, boxed, low))
 
+-- the bound by finer means, which may be none
+finer_or_none : (none : Bool) (n d : ℕ) (x q : List ℤ) → finer_bound (finer_view n q) (finer_means n x) ≤ d
+    → finer_bound (finer_view (cond none 1 n) q) (finer_means (cond none 1 n) x) ≤ d
+finer_or_none true n d x q below = omega arith
+finer_or_none false n d x q below = below
+
 -- the bound of a series by its finer means
 pub finer_is_below : (a : Question) (m : Member) → IsQuestion a → m.number < length a.collection.series
-    → finer_bound (finer_view a.layout.cuts.row_length a.query) (finer_of a.collection m)
+    → finer_bound (finer_view (finer_points a.collection) a.query) (finer_of a.collection m)
     ≤ squared_distance (series_at a.collection m.number) a.query
 finer_is_below a m is real =
-    let series = series_at a.collection m.number in
+    let c = a.collection in
+    let series = series_at c m.number in
     let whole = is.collection.each m.number [] real in
-    let some = is.collection.some_point in
-    let below = finer_below a.collection.points series a.query some is.collection.length_limit whole.points
+    let below = finer_below c.points series a.query is.collection.some_point is.collection.length_limit whole.points
     (is.query ∙ sym is.points) whole.values is.values in
-    subst (λ n. finer_bound (finer_view n a.query) (finer_of a.collection m) ≤ squared_distance series a.query)
-    is.points below
+    finer_or_none (ltb MAX_VALUES (length c.series * c.points)) c.points (squared_distance series a.query) series a.query below

@@ -3,6 +3,7 @@
 ghost use Rattle.std.specs.Prelude.{◌≡◌, ◌≤◌, IfOk};
 ghost use Rattle.series_core.specs.Answer.{answer};
 ghost use Rattle.subtree_build.specs.Fits.{Fits as IndexFits};
+ghost use Rattle.query_core.specs.Questions.{last_of};
 
 use crate::index_laws::search_law;
 use crate::task::Task;
@@ -10,6 +11,12 @@ use outside::NoMemory;
 use series_core::{KBest, PairList, Rows};
 use std::alloc::Global;
 use subtree_build::Index;
+
+/// Where more of 32 members of a sample than these are within the first limit, a closer one is not looked for.
+const NEARLY_ALL: u64 = 30;
+
+/// Where more of 32 members of a sample than these are within the closer limit, all rows are read.
+const FEW: u64 = 8;
 
 /// The answer alone, the k nearest rows, without what an outcome has for a certificate. One worker needs no queues, so
 /// it is the same for any number of them.
@@ -37,11 +44,25 @@ impl<'a, R: Rows> Task<'a, R> {
         ensures { IfOk result (λ best. best.pairs ≡ answer self.now.collection self.now.query self.now.k) }
     {
         search_law(self, index);
-        let limit = self.first_limit(alloc, index)?;
-        if self.means_tell(index, limit) {
+        let first = self.first_limit(alloc, index)?;
+        if !self.means_tell(index, first, NEARLY_ALL) {
+            return self.answer_by_rows(alloc, index, first);
+        }
+        let limit = self.closer_limit(alloc, index, first)?;
+        if self.means_tell(index, limit, FEW) {
             self.nearest_by_leaves(alloc, index, limit)
         } else {
-            self.nearest_by_rows(alloc, limit)
+            self.answer_by_rows(alloc, index, limit)
         }
+    }
+
+    // The list of the answer, by all rows.
+    fn answer_by_rows(&self, alloc: Global, index: &Index, limit: u64) -> Result<KBest, NoMemory>
+        requires fits { IndexFits self.now.collection self.now.layout index.now }
+        requires limit { last_of self.now ≤ limit }
+        ensures { IfOk result (λ best. best.pairs ≡ answer self.now.collection self.now.query self.now.k) }
+    {
+        search_law(self, index);
+        self.nearest_by_rows(alloc, limit)
     }
 }

@@ -1,13 +1,14 @@
 //! The leaves that may have a member within a limit, each with its bound, and the answer by them.
 //! In which order they are scanned changes how many are passed over, and never what is found.
 ghost use Rattle.std.specs.Prelude.{◌≡◌, ℕ, ◌+◌, ◌<◌, ◌≤◌, ◌++◌, ◌∷◌, List, [], IfOk, length};
+ghost use Rattle.std.specs.List.{All};
 ghost use Rattle.list_totals.specs.Totals.{once_below, one_if_same, times};
 ghost use Rattle.series_core.specs.Answer.{answer};
 ghost use Rattle.subtree_build.specs.Fits.{Fits as IndexFits};
 ghost use Rattle.subtree_build.specs.Outline.{leaf_numbers};
 ghost use Rattle.subtree_build.specs.Start.{node_at};
 ghost use Rattle.search_machine.specs.Sound.{ListSound};
-ghost use Rattle.query_core.specs.NearLeaves.{AreNear, IsBelowLeaf, IsLeafEntry};
+ghost use Rattle.query_core.specs.NearLeaves.{AreNear, IsBelowLeaf, IsLeafEntry, leaves_in};
 ghost use Rattle.query_core.specs.Questions.{last_of, search_over};
 
 use crate::index_laws::search_law;
@@ -30,7 +31,8 @@ impl<'a, R: Rows> Task<'a, R> {
         requires limit { last_of self.now ≤ limit }
         ensures { IfOk result (λ best. best.pairs ≡ answer self.now.collection self.now.query self.now.k) }
     {
-        let entries = self.near_leaves(alloc, index, limit)?;
+        let mut entries = self.near_leaves(alloc, index, limit)?;
+        entries.sort_unstable_by_key(|entry| entry.bound);
         let mut list = KBest::new(alloc, self.k())?;
         self.scan_leaves(index, &entries, limit, &mut list);
         Ok(list)
@@ -44,6 +46,27 @@ impl<'a, R: Rows> Task<'a, R> {
             AreNear g limit (λ l. once_below l (length index.now.leaves)) entries.now }
         requires list { list.old ≡ record { k = self.now.k; pairs = [] } }
         ensures { list.new.pairs ≡ answer self.now.collection self.now.query self.now.k }
+    {
+        search_law(self, index);
+        self.scan_entries(index, entries, limit, list);
+    }
+
+    /// Scans the leaves of these entries into an empty list, which then has what is near of the members of all of them.
+    pub(crate) fn scan_entries(
+        &self,
+        index: &Index,
+        entries: &[Entry],
+        limit: u64,
+        list: &mut KBest,
+    )
+        requires fits { IndexFits self.now.collection self.now.layout index.now }
+        requires limit { last_of self.now ≤ limit }
+        requires leaves { All (IsLeafEntry (search_over self.now index.now 1 1)) entries.now }
+        requires once { (l : ℕ) → times l (leaves_in entries.now) ≤ 1 }
+        requires list { list.old ≡ record { k = self.now.k; pairs = [] } }
+        ensures k { list.new.k ≡ self.now.k }
+        ensures size { length list.new.pairs ≤ self.now.k }
+        ensures sound { ListSound (search_over self.now index.now 1 1) (leaves_in entries.now) list.new.pairs }
     {
         search_law(self, index);
         for entry in entries {
@@ -70,8 +93,13 @@ impl<'a, R: Rows> Task<'a, R> {
         self.scan_leaf(index, entry.leaf, limit, list);
     }
 
-    // The leaves that may have a member within the limit, each once, those of least bound first.
-    fn near_leaves(&self, alloc: Global, index: &Index, limit: u64) -> Result<Vec<Entry>, NoMemory>
+    /// The leaves that may have a member within the limit, each once.
+    pub(crate) fn near_leaves(
+        &self,
+        alloc: Global,
+        index: &Index,
+        limit: u64,
+    ) -> Result<Vec<Entry>, NoMemory>
         requires fits { IndexFits self.now.collection self.now.layout index.now }
         ensures { let g = search_over self.now index.now 1 1 in
             IfOk result (λ es. AreNear g limit (λ l. once_below l (length index.now.leaves)) es.items) }
@@ -81,7 +109,6 @@ impl<'a, R: Rows> Task<'a, R> {
         for i in 0..index.root_count() {
             self.add_leaves(index, i, limit, &mut entries)?;
         }
-        entries.sort_unstable_by_key(|entry| entry.bound);
         Ok(entries)
     }
 

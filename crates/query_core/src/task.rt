@@ -2,6 +2,7 @@
 ghost use Rattle.std.specs.Prelude.{◌≡◌, ◌<◌, ◌≤◌, length};
 ghost use Rattle.mean_bound.specs.Finer.{finer_view};
 ghost use Rattle.mean_bound.specs.MeanBound.{mean_view_of};
+ghost use Rattle.subtree_build.specs.Means.{finer_points};
 ghost use Rattle.query_core.specs.Questions.{IsQuestion, view_in, last_of};
 
 use best_word::Floor;
@@ -10,6 +11,7 @@ use lower_bound::QueryView;
 use mean_bound::{FinerCuts, FinerView, MeanView};
 use series_core::{MAX_BEST, Rows, values_fit};
 use std::marker::Model;
+use subtree_build::finer_length;
 
 /// A query over rows: the k nearest of them are wanted. It is seen as the question that it asks.
 #[derive(Drop)]
@@ -28,6 +30,7 @@ impl<'a, R: Rows> Model for Task<'a, R> {
     ghost use Rattle.lower_bound.specs.Bound.{view_of};
     ghost use Rattle.mean_bound.specs.MeanBound.{mean_view_of};
     ghost use Rattle.mean_bound.specs.Finer.{finer_view};
+    ghost use Rattle.subtree_build.specs.Means.{finer_points};
 
     ghost Value = { Question };
 
@@ -44,7 +47,7 @@ impl<'a, R: Rows> Model for Task<'a, R> {
       k = t.k;
       layout = t.view.layout;
     }) × (t.view ≡ view_of t.view.layout t.query.now) × (t.means ≡ mean_view_of t.view.layout.cuts t.query.now)
-        × (t.finer ≡ finer_view t.view.layout.cuts.row_length t.query.now) };
+        × (t.finer ≡ finer_view (finer_points (R.collection t.rows.now)) t.query.now) };
 }
 
 /// The distance of the last pair of the answer, or `NONE` where there are fewer than k series: no limit falls below it.
@@ -76,7 +79,7 @@ impl<'a, R: Rows> Task<'a, R> {
             k,
             view: QueryView::new(layout, query),
             means: MeanView::new(&layout.cuts, query),
-            finer: FinerView::new(&FinerCuts::new(layout.cuts.length()), query),
+            finer: finer_view_of(rows, query),
         }
     }
 
@@ -98,7 +101,7 @@ impl<'a, R: Rows> Task<'a, R> {
 
     /// The query as bounds by finer means see it.
     pub(crate) fn finer(&self) -> &FinerView
-        ensures finer { result.now ≡ finer_view self.now.layout.cuts.row_length self.now.query }
+        ensures finer { result.now ≡ finer_view (finer_points self.now.collection) self.now.query }
         ensures question { IsQuestion self.now }
     {
         &self.finer
@@ -111,4 +114,15 @@ impl<'a, R: Rows> Task<'a, R> {
     {
         &self.view
     }
+}
+
+// A query to rows as bounds by their finer means see it.
+fn finer_view_of<R: Rows>(rows: &R, query: &[i16]) -> FinerView
+    requires { length query.now ≡ (R.collection rows.now).points }
+    ensures { result ≡ finer_view (finer_points (R.collection rows.now)) query.now }
+{
+    // for the fact that the rows are a collection
+    let _count = rows.count();
+    let points = finer_length(rows);
+    FinerView::new(&FinerCuts::new(points), &query[..points as usize])
 }

@@ -3,3 +3,4 @@ pub mod Walks
 pub mod Differences
 pub mod Squares
 pub mod NearLists
+pub mod Halves

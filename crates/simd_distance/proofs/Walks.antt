@@ -1,5 +1,5 @@
 -- The distance as it is walked from the front: one place at a time (`distance_from_place`), a part at a time
--- (`distance_from_part`), and to the end (`distance_of_rest`).
+-- (`distance_from_part`, `distance_of_slice`), and to the end (`distance_of_rest`).
 use Rattle.std.proofs.Common.{◌≡◌, ℕ, ◌+◌, ◌-◌, ◌<◌, ◌≤◌, ℤ, pos, List, [], ◌∷◌, ◌++◌, length, drop, take, get_or, add-one, zero-add, drop-cons, sym, ap, ◌∙◌, arith}
 use Rattle.std.proofs.lemmas.List.{take_all, length-drop}
 use Rattle.std.proofs.lemmas.Simd.{chunk-drop, length-chunk}
@@ -40,6 +40,14 @@ distance_from_part xs ys i n m is in_xs in_ys =
     ap (λ l. squared_distance l (drop i ys)) first
     ∙ ap (squared_distance (take n (drop i xs) ++ drop m xs)) second
     ∙ distance_of_parts (take n (drop i xs)) (drop m xs) (take n (drop i ys)) (drop m ys) long
+
+-- what a slice has of n values from a place on is those values
+pub distance_of_slice : (xs ys : List ℤ) (i n : ℕ)
+    → squared_distance (take (i + n - i) (drop i xs)) (take (i + n - i) (drop i ys))
+    ≡ squared_distance (take n (drop i xs)) (take n (drop i ys))
+distance_of_slice xs ys i n =
+    let is : i + n - i ≡ n = omega arith in
+    ap (λ m. squared_distance (take m (drop i xs)) (take m (drop i ys))) is
 
 -- what a slice has from a place to its end is what is left there
 pub distance_of_rest : (xs ys : List ℤ) (i : ℕ)

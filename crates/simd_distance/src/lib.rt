@@ -2,9 +2,11 @@
 //! One function computes it value by value, and one in lanes that gives up as soon as a limit is passed.
 #![tactic(auto)]
 
+mod blocks;
 mod far;
 mod kernel;
 mod lanes;
+mod low;
 mod near;
 mod plain;
 

@@ -50,7 +50,7 @@ fn squares_of_low(numbers: u32x16) -> u32x16
 }
 
 /// The sums of four lanes each, neighbours first.
-fn sums_of_four(squares: u32x16) -> u64x4
+pub(crate) fn sums_of_four(squares: u32x16) -> u64x4
     requires lanes { length squares ≡ 16 }
     requires small { Each1 (λ n. n ≤ 1073676289) squares }
     ensures { sum_l result ≡ sum_l squares }
@@ -78,7 +78,7 @@ fn bits_of_all(lanes: u32x16) -> u32
 }
 
 /// The sums of two vectors, lane by lane, told by their sum.
-fn sums_added(a: u64x4, b: u64x4) -> u64x4
+pub(crate) fn sums_added(a: u64x4, b: u64x4) -> u64x4
     requires { sum_l a + sum_l b < 2 ^ 64 }
     ensures { sum_l result ≡ sum_l a + sum_l b }
 {
@@ -86,7 +86,7 @@ fn sums_added(a: u64x4, b: u64x4) -> u64x4
 }
 
 /// The sum of the lanes.
-fn sum_of(lanes: u64x4) -> u64
+pub(crate) fn sum_of(lanes: u64x4) -> u64
     requires { sum_l lanes < 2 ^ 64 }
     ensures { result ≡ sum_l lanes }
 {

@@ -68,7 +68,7 @@ all_leaves_numbered first (t ∷ trees) =
     ∙ ap (range_with_len first) (sym (length-append (leaves_of t) rest))
 
 -- the leaf numbers of nodes are the leaves of their outlines
-numbers_of_outlines : (nodes : List Node)
+pub numbers_of_outlines : (nodes : List Node)
     → flat_map leaf_numbers nodes ≡ flat_map (λ (t : Tree ℕ). leaves_of t) (map outline nodes)
 numbers_of_outlines [] = refl
 numbers_of_outlines (n ∷ nodes) = ap (λ xs. leaf_numbers n ++ xs) (numbers_of_outlines nodes)

@@ -28,7 +28,7 @@ segments_below leaves word (split segment low high) w is stands =
     (length-child_word word segment true ∙ is) stands.2)
 
 -- what holds of all items of each list holds of all items of the lists put together
-all_pieces : {X Y : Type 0} (P : Y → Type 0) (h : X → List Y) (xs : List X)
+pub all_pieces : {X Y : Type 0} (P : Y → Type 0) (h : X → List Y) (xs : List X)
     → All (λ x. All P (h x)) xs → All P (flat_map h xs)
 all_pieces P h [] each = All-nil P
 all_pieces P h (x ∷ xs) each =

@@ -29,3 +29,6 @@ pub mod Placing
 pub mod Rooting
 pub mod Assembling
 pub mod Flattened
+pub mod Numbering
+pub mod Assembled
+pub mod FinerPoints

@@ -1,12 +1,13 @@
 -- Means in the order of all members: cut by the places of leaves they are those of the leaves (`means_are_own`), what holds of
 -- the members of all leaves holds of all members (`all_cut`), and one more stands behind (`map_push`); the means of a leaf
--- of an index that fits are those of its members (`means_of_leaf`), one by one (`means_of_one`); and so for finer means.
+-- of an index that fits are those of its members (`means_of_leaf`), one by one (`means_of_one`); and so for finer means; and tables by them are tables (`tables_are`).
 use Rattle.std.proofs.Common.{◌≡◌, ℕ, ◌+◌, ◌-◌, ◌*◌, ◌/◌, ◌%◌, ◌<◌, List, [], ◌∷◌, ◌++◌, length, take, drop, map, get_or, refl, sym, ap, ◌∙◌, subst, arith, All}
-use Rattle.std.proofs.lemmas.List.{take-append-drop, take-map, drop-map, map-append, take_more, take_all, take-append-le, length-drop, get_or-map, ext_get_or}
+use Rattle.std.proofs.lemmas.List.{length-map, take-append-drop, take-map, drop-map, map-append, take_more, take_all, take-append-le, length-drop, get_or-map, ext_get_or}
 use Rattle.std.proofs.lemmas.List.FromFn.{length-map-range_with_len, get_or-map-range_with_len}
 use Rattle.std.proofs.Math.Nat.{mod-lt}
 use Rattle.std.proofs.lemmas.List.Elements.{All-nil, All-append, All-head, All-tail}
 use Rattle.series_core.specs.Collection.{Collection}
+use Rattle.mean_bound.proofs.Parts.{part_few}
 use Rattle.mean_bound.specs.Finer.{part_count, part_means}
 use Rattle.isax_word.specs.declared.layout.Layout.{Layout}
 use Rattle.isax_word.specs.declared.member.Member.{Member}
@@ -17,8 +18,9 @@ use Rattle.subtree_build.specs.Division.{leaf_with}
 use Rattle.subtree_build.specs.Grown.{cut_leaves, members_in}
 use Rattle.subtree_build.specs.Fits.{Fits}
 use Rattle.subtree_build.specs.Index.{IndexParts, leaf_at, no_leaf}
-use Rattle.subtree_build.specs.Means.{means_of, all_means, leaf_means, means_at, finer_of, all_finer, leaf_finer, finer_at}
-use Rattle.subtree_build.specs.Places.{leaves_seen, means_seen, finer_seen}
+use Rattle.subtree_build.specs.Means.{means_of, all_means, leaf_means, means_at, finer_of, finer_points, all_finer, leaf_finer, finer_at}
+use Rattle.subtree_build.specs.declared.tables.Tables.{Tables}
+use Rattle.subtree_build.specs.Places.{leaves_seen, means_seen, finer_seen, AreTables, AreTablesOf}
 use Rattle.subtree_build.specs.Members.{series_at}
 use Rattle.subtree_build.proofs.Flattened.{length_pieces, drop_pieces, take_pieces, in_pieces, first_piece, drop_at, above_none}
 
@@ -95,33 +97,33 @@ means_there c layout members i m inside item =
     ap (means_of c layout) item ∙ sym (get_or-map (means_of c layout) members i m [] inside)
 
 -- a member has a `Means` for each part
-finer_long : (c : Collection) (m : Member) → length (finer_of c m) ≡ part_count c.points
-finer_long c m = length-map-range_with_len (part_means c.points (series_at c m.number)) 0 (part_count c.points)
+finer_long : (c : Collection) (m : Member) → length (finer_of c m) ≡ part_count (finer_points c)
+finer_long c m = length-map-range_with_len (part_means (finer_points c) (series_at c m.number)) 0 (part_count (finer_points c))
 
 -- so all of them together have so many
 pub length_finer : (c : Collection) (members : List Member)
-    → length (all_finer c members) ≡ length members * part_count c.points
-length_finer c members = length_pieces (finer_of c) (part_count c.points) (finer_long c) members
+    → length (all_finer c members) ≡ length members * part_count (finer_points c)
+length_finer c members = length_pieces (finer_of c) (part_count (finer_points c)) (finer_long c) members
 
 -- the finer means at a place are those of a part of a member
 pub finer_there : (c : Collection) (members : List Member) (i : ℕ) (m : Member)
-    → i < length members * part_count c.points → m ≡ get_or members (i / part_count c.points) m
-    → part_means c.points (series_at c m.number) (i % part_count c.points) ≡ get_or (all_finer c members) i []
+    → i < length members * part_count (finer_points c) → m ≡ get_or members (i / part_count (finer_points c)) m
+    → part_means (finer_points c) (series_at c m.number) (i % part_count (finer_points c)) ≡ get_or (all_finer c members) i []
 finer_there c members i m low item =
-    let n = part_count c.points in
+    let n = part_count (finer_points c) in
     let some : 0 < n = above_none (length members) n i low in
-    ap (λ (x : Member). part_means c.points (series_at c x.number) (i % n)) item
-    ∙ sym (get_or-map-range_with_len (part_means c.points (series_at c (get_or members (i / n) m).number)) 0 n (i % n)
+    ap (λ (x : Member). part_means (finer_points c) (series_at c x.number) (i % n)) item
+    ∙ sym (get_or-map-range_with_len (part_means (finer_points c) (series_at c (get_or members (i / n) m).number)) 0 n (i % n)
     (i % n) [] (mod-lt i some) (omega arith))
     ∙ sym (in_pieces (finer_of c) n (finer_long c) members i m [] low)
 
 -- the finer means of all members, cut by places, are those of the leaves at the places
 pub finer_are_own : (c : Collection) (members : List Member) (finer : List (List ℕ)) (places : List LeafPlace)
     → finer ≡ all_finer c members
-    → finer_seen (part_count c.points) finer places ≡ map (leaf_finer c) (leaves_seen members places)
+    → finer_seen (part_count (finer_points c)) finer places ≡ map (leaf_finer c) (leaves_seen members places)
 finer_are_own c members finer [] are = refl
 finer_are_own c members finer (p ∷ places) are =
-    let n = part_count c.points in
+    let n = part_count (finer_points c) in
     let count = p.end - p.first in
     let here : take (count * n) (drop (p.first * n) finer) ≡ all_finer c (take count (drop p.first members))
     = ap (λ (ms : List (List ℕ)). take (count * n) (drop (p.first * n) ms)) are
@@ -140,9 +142,27 @@ finer_of_leaf c layout ix l fits real =
 -- and those of each of them stand behind those of the members before it
 pub finer_of_one : (c : Collection) (members : List Member) (i : ℕ) (m : Member) → i < length members
     → m ≡ get_or members i m
-    → take (part_count c.points) (drop (i * part_count c.points) (all_finer c members)) ≡ finer_of c m
+    → take (part_count (finer_points c)) (drop (i * part_count (finer_points c)) (all_finer c members)) ≡ finer_of c m
 finer_of_one c members i m inside item =
-    let n = part_count c.points in
+    let n = part_count (finer_points c) in
     ap (take n) (drop_pieces (finer_of c) n (finer_long c) i members)
     ∙ ap (λ (ms : List Member). take n (all_finer c ms)) (drop_at members i m inside item)
     ∙ first_piece (finer_of c) n (finer_long c) m (drop (i + 1) members)
+
+-- the tables of the members and places are tables beside them
+pub tables_are : (rows : Collection) (layout : Layout) (members : List Member) (places : List LeafPlace) (t : Tables)
+    → AreTablesOf rows layout members places t → AreTables members places t
+tables_are rows layout members places t are = record {
+  means_each = ap (λ (ms : List (List ℕ)). length ms) are.means ∙ length-map members (means_of rows layout);
+  few_parts = omega (arith, are.parts, part_few (finer_points rows));
+  finer_each = ap (λ (ms : List (List ℕ)). length ms) are.finer ∙ length_finer rows members
+      ∙ ap (λ n. length members * n) (sym are.parts);
+  boxes_are = are.boxes;
+}
+
+-- the slices that were handed on are the lists
+pub own_tables : (rows : Collection) (layout : Layout) (members lent : List Member) (places shown : List LeafPlace) (t : Tables)
+    → AreTablesOf rows layout lent shown t → lent ≡ members → shown ≡ places → AreTablesOf rows layout members places t
+own_tables rows layout members lent places shown t are same_members same_places =
+    subst (λ (ps : List LeafPlace). AreTablesOf rows layout members ps t) same_places
+    (subst (λ (ms : List Member). AreTablesOf rows layout ms shown t) same_members are)

@@ -120,7 +120,7 @@ ranges first (t ∷ trees) (n ∷ nodes) count are few (suc i) node at =
     (ranges (first + length (leaves_of t)) trees nodes count behind (omega (arith, many, few)) i node at)
 
 -- the leaves below each node are a range, where the nodes are those of trees
-pub are_ranges : (trees : List (Tree TreeLeaf)) (nodes : List Node) (firsts : List ℕ) (places : List LeafPlace)
+pub are_ranges : {A : Type 0} (trees : List (Tree A)) (nodes : List Node) (firsts : List ℕ) (places : List LeafPlace)
     → map outline nodes ≡ all_numbered 0 trees → firsts ≡ tree_firsts 0 trees
     → length places ≡ length (flat_map (λ t. leaves_of t) trees)
     → length nodes ≡ length trees → AreRanges nodes firsts places

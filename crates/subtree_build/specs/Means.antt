@@ -1,7 +1,8 @@
 -- The means and the finer means of members: those of their series' segments, member by member and leaf by leaf.
-use Rattle.std.specs.Prelude.{ℕ, List, [], map, slice_index_or}
+use Rattle.std.specs.Prelude.{ℕ, ◌*◌, List, [], cond, length, ltb, map, slice_index_or}
 use Rattle.std.specs.List.{flat_map}
 use Rattle.series_core.specs.Collection.{Collection}
+use Rattle.series_core.specs.declared.rows.TheConstants.{MAX_VALUES}
 use Rattle.isax_word.specs.declared.layout.Layout.{Layout}
 use Rattle.isax_word.specs.declared.member.Member.{Member}
 use Rattle.mean_bound.specs.Means.{row_means}
@@ -25,9 +26,14 @@ leaf_means c layout x = all_means c layout x.members
 abbrev pub means_at : List (List (List ℕ)) → ℕ → List (List ℕ)
 means_at means l = slice_index_or means l []
 
+-- the length by which finer means are cut: that of a series. A collection of more values than a file may hold is of windows that
+-- overlap, and has none, as a series of one value has.
+abbrev pub finer_points : Collection → ℕ
+finer_points c = cond (ltb MAX_VALUES (length c.series * c.points)) 1 c.points
+
 -- the finer means of a member's series, part by part
 abbrev pub finer_of : Collection → Member → List (List ℕ)
-finer_of c m = finer_means c.points (series_at c m.number)
+finer_of c m = finer_means (finer_points c) (series_at c m.number)
 
 -- the finer means of members, one after another
 abbrev pub all_finer : Collection → List Member → List (List ℕ)

@@ -1,11 +1,11 @@
 -- Where an index keeps things: the members of each leaf in the row of all members, and the leaves below each root child.
-use Rattle.std.specs.Prelude.{◌≡◌, ℕ, ◌+◌, ◌-◌, ◌*◌, ◌≤◌, List, [], ◌∷◌, Some, length, map, take, drop, slice_get, slice_index}
-use Rattle.std.specs.List.{All, range_with_len}
+use Rattle.std.specs.Prelude.{◌≡◌, ℕ, ◌+◌, ◌-◌, ◌*◌, ◌^◌, ◌<◌, ◌≤◌, List, [], ◌∷◌, Some, length, map, take, drop, slice_get, slice_index}
+use Rattle.std.specs.List.{All, range_with_len, flat_map}
 use Rattle.series_core.specs.Collection.{Collection}
 use Rattle.mean_bound.specs.Boxes.{Box, box_of}
 use Rattle.mean_bound.specs.Finer.{part_count}
 use Rattle.isax_word.specs.declared.layout.Layout.{Layout}
-use Rattle.subtree_build.specs.Means.{all_finer, all_means}
+use Rattle.subtree_build.specs.Means.{all_finer, all_means, finer_points}
 use Rattle.isax_word.specs.declared.member.Member.{Member}
 use Rattle.subtree_build.specs.declared.leaf.GrownLeaf.{GrownLeaf}
 use Rattle.subtree_build.specs.declared.leaf.LeafPlace.{LeafPlace}
@@ -52,6 +52,10 @@ pub record IsPlace (count : ℕ) (p : LeafPlace) : Type 0 where
 abbrev pub ArePlaces : List Member → List LeafPlace → Type 0
 ArePlaces members places = All (IsPlace (length members)) places
 
+-- the members of the leaves at places are all of these, in their order
+abbrev pub AreAllSeen : List Member → List LeafPlace → Type 0
+AreAllSeen members places = (flat_map (λ x. x.members) (leaves_seen members places) ≡ members) × (length members < 2 ^ 32)
+
 -- the tables beside the members: the means of each, so many finer ones, and the box of each place's means
 pub record AreTables (members : List Member) (places : List LeafPlace) (t : Tables) : Type 0 where
   pub means_each : length t.means.items ≡ length members
@@ -63,7 +67,7 @@ pub record AreTables (members : List Member) (places : List LeafPlace) (t : Tabl
 pub record AreTablesOf (c : Collection) (layout : Layout) (members : List Member) (places : List LeafPlace) (t : Tables)
     : Type 0 where
   pub means : t.means.items ≡ all_means c layout members
-  pub parts : t.parts ≡ part_count c.points
+  pub parts : t.parts ≡ part_count (finer_points c)
   pub finer : t.finer.items ≡ all_finer c members
   pub boxes : t.boxes.items ≡ boxes_seen t.means.items places
 

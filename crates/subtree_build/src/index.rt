@@ -1,7 +1,8 @@
 //! The index: root children by root number, the nodes and the range of leaves below each, the leaves in order, and in that
 //! order the members of all leaves in one row, and beside it their means, the finer ones, and the box of each leaf's means.
-ghost use Rattle.std.specs.Prelude.{◌≡◌, ◌<◌, ◌≤◌, ◌^◌, IfOk, length, map, Some, slice_get, slice_index};
+ghost use Rattle.std.specs.Prelude.{◌≡◌, ◌<◌, ◌≤◌, ◌^◌, All, IfOk, OnOk, IsErrOf, length, map, Some, slice_get, slice_index};
 ghost use Rattle.mean_bound.specs.Boxes.{box_of};
+ghost use Rattle.subtree_build.specs.Assembly.{HasMeansOf, IsOfParts, MakeIndex};
 ghost use Rattle.subtree_build.specs.Division.{roots_of, tree, tree_leaves};
 ghost use Rattle.subtree_build.specs.Fits.{Fits, IsTreeOf};
 ghost use Rattle.subtree_build.specs.Grown.{cut_leaves, members_in};
@@ -11,13 +12,16 @@ ghost use Rattle.subtree_build.specs.Outline.{outline};
 ghost use Rattle.subtree_build.specs.Places.{tree_firsts, IsRange};
 ghost use Rattle.subtree_build.specs.Start.{node_at};
 ghost use Rattle.subtree_build.specs.Tree.{all_numbered};
+ghost use Rattle.subtree_build.specs.declared.assembly.Assembly.TheVariants.{Parts};
 
-use crate::leaf::LeafPlace;
+use crate::assembly::{Assembly, make_index};
+use crate::leaf::{LeafPlace, MemberList};
+use crate::leaf_row::{Gathered, LeafWords, gather_leaves, words_below};
 use crate::node::Node;
 use crate::part::{Joined, placed};
 use crate::settings::Settings;
-use crate::tables::{Tables, tables_of};
-use isax_word::Word;
+use crate::tables::{Tables, blank_tables, tables_of};
+use isax_word::{Layout, Word};
 use mean_bound::{MeanBox, Means};
 use outside::NoMemory;
 use series_core::Rows;
@@ -43,7 +47,7 @@ impl Model for Index {
     ghost use Rattle.std.specs.Coded.{codes};
     ghost use Rattle.subtree_build.specs.contracts.node.Node as node;
     ghost use Rattle.subtree_build.specs.Index.{IndexParts, IsIndex};
-    ghost use Rattle.subtree_build.specs.Places.{leaves_seen, means_seen, finer_seen, ArePlaces, AreRanges, AreTables};
+    ghost use Rattle.subtree_build.specs.Places.{leaves_seen, means_seen, finer_seen, AreAllSeen, ArePlaces, AreRanges, AreTables};
 
     ghost Value = { IndexParts };
 
@@ -67,7 +71,8 @@ impl Model for Index {
       finer = finer_seen x.tables.parts x.tables.finer.items x.leaves.items;
     }) × ArePlaces x.members.items x.leaves.items
         × AreRanges x.nodes.items x.firsts.items x.leaves.items
-        × AreTables x.members.items x.leaves.items x.tables };
+        × AreTables x.members.items x.leaves.items x.tables
+        × AreAllSeen x.members.items x.leaves.items };
 }
 
 impl Index {
@@ -109,6 +114,111 @@ impl Index {
             alloc,
             rows,
             &settings.layout,
+            members.as_slice(),
+            leaves.as_slice(),
+            workers,
+        )?;
+        Ok(Index {
+            segments,
+            roots,
+            nodes,
+            firsts,
+            leaves,
+            members,
+            tables,
+        })
+    }
+
+    /// The index of these parts, whose leaves are words by their nodes. Parts where they make no index, and only there. The
+    /// means of its members are those of no rows: `with_means` makes these.
+    pub fn assemble(
+        alloc: Global,
+        segments: u32,
+        roots: Vec<u32>,
+        nodes: Vec<Node>,
+        leaves: Vec<MemberList>,
+    ) -> Result<Index, Assembly>
+        requires some_segments { 1 ≤ segments }
+        requires few_segments { segments ≤ 16 }
+        requires few_leaves { length leaves.items < 2 ^ 32 }
+        ensures parts { IfOk result (IsOfParts segments roots.items nodes.items leaves.items) }
+        ensures made { OnOk result (MakeIndex segments roots.items nodes.items (length leaves.items)) }
+        ensures refused { IsErrOf result Parts → ¬ MakeIndex segments roots.items nodes.items (length leaves.items) }
+    {
+        let count = leaves.len() as u32;
+        if !make_index(segments, roots.as_slice(), nodes.as_slice(), count) {
+            return Err(Assembly::Parts);
+        }
+        Ok(Index::of_parts(alloc, segments, roots, nodes, leaves)?)
+    }
+
+    /// The index of parts that make one.
+    fn of_parts(
+        alloc: Global,
+        segments: u32,
+        roots: Vec<u32>,
+        nodes: Vec<Node>,
+        leaves: Vec<MemberList>,
+    ) -> Result<Index, NoMemory>
+        requires some_segments { 1 ≤ segments }
+        requires few_segments { segments ≤ 16 }
+        requires few_leaves { length leaves.items < 2 ^ 32 }
+        requires made { MakeIndex segments roots.items nodes.items (length leaves.items) }
+        ensures { IfOk result (IsOfParts segments roots.items nodes.items leaves.items) }
+    {
+        let LeafWords { words, firsts } = words_below(
+            alloc,
+            segments,
+            roots.as_slice(),
+            nodes.as_slice(),
+        )?;
+        let Gathered {
+            leaves: own,
+            members,
+        } = gather_leaves(alloc, words.as_slice(), leaves.as_slice())?;
+        drop(leaves);
+        let leaves = placed(alloc, own.as_slice())?;
+        let tables = blank_tables(alloc, members.as_slice(), leaves.as_slice())?;
+        Ok(Index {
+            segments,
+            roots,
+            nodes,
+            firsts,
+            leaves,
+            members,
+            tables,
+        })
+    }
+
+    /// The same tree with the means of its members by these rows, each member a series of them, made by 1 or more workers.
+    pub fn with_means<H: Threads + Sync, R: Rows + Sync>(
+        self,
+        rt: &H,
+        alloc: Global,
+        rows: &R,
+        layout: &Layout,
+        workers: u32,
+    ) -> Result<Index, NoMemory>
+        requires length { layout.now.cuts.row_length ≡ (R.collection rows.now).points }
+        requires series { All (λ x. All (λ m. m.number < length (R.collection rows.now).series) x.members) self.leaves }
+        requires some { 1 ≤ workers }
+        ensures { IfOk result (HasMeansOf (R.collection rows.now) layout.now self) }
+    {
+        let Index {
+            segments,
+            roots,
+            nodes,
+            firsts,
+            leaves,
+            members,
+            tables,
+        } = self;
+        drop(tables);
+        let tables = tables_of(
+            rt,
+            alloc,
+            rows,
+            layout,
             members.as_slice(),
             leaves.as_slice(),
             workers,

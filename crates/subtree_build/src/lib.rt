@@ -1,10 +1,12 @@
 //! The iSAX tree of a collection: its series divided by root number, and then bit by bit.
 #![tactic(auto)]
 
+mod assembly;
 mod building;
 mod index;
 mod laws;
 mod leaf;
+mod leaf_row;
 mod means;
 mod node;
 mod part;
@@ -17,13 +19,17 @@ mod subtree;
 mod summaries;
 mod tables;
 
+pub use assembly::Assembly;
 pub use index::Index;
 pub use laws::{leaf_bound_is_below_distances, leaf_bound_is_no_less};
 pub use leaf::{MemberList, TreeLeaf};
+pub use means::finer_length;
 pub use node::Node;
 pub use phases::build;
 pub use settings::Settings;
 
+#[cfg(test)]
+mod assembly_tests;
 #[cfg(test)]
 mod drawn;
 #[cfg(test)]

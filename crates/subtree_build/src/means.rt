@@ -2,13 +2,13 @@
 //! stretch of members, so that a row is read once for either.
 ghost use Rattle.std.specs.Prelude.{◌≡◌, ℕ, ◌*◌, ◌^◌, ◌<◌, ◌≤◌, [], All, IfOk, length, slice_index_or};
 ghost use Rattle.mean_bound.specs.Finer.{part_count, part_means};
-ghost use Rattle.subtree_build.specs.Means.{all_finer, all_means};
+ghost use Rattle.subtree_build.specs.Means.{all_finer, all_means, finer_points};
 ghost use Rattle.subtree_build.specs.Members.{series_at};
 
 use isax_word::Layout;
 use mean_bound::{FinerCuts, Means};
 use outside::NoMemory;
-use series_core::Rows;
+use series_core::{MAX_VALUES, Rows};
 use std::alloc::Global;
 use std::thread;
 use std::thread::Threads;
@@ -70,6 +70,22 @@ fn means_at<R: Rows>(rows: &R, layout: &Layout, members: &[Member], i: usize) ->
     Means::of(&layout.cuts, rows.row(members[i].number))
 }
 
+/// The length by which the finer means of rows are cut: their own, or 1, so that there are none, where they have more values than a file
+/// may hold. Such rows are windows that overlap, and finer means would take more than what they lie in.
+pub fn finer_length<R: Rows>(rows: &R) -> u32
+    ensures value { result ≡ finer_points (R.collection rows.now) }
+    ensures some { 1 ≤ result }
+    ensures limit { result ≤ (R.collection rows.now).points }
+    ensures short { result ≤ 65536 }
+{
+    let values = u64::from(rows.count()) * u64::from(rows.length());
+    if values > u64::from(MAX_VALUES) {
+        1
+    } else {
+        rows.length()
+    }
+}
+
 /// The finer means of members, each of which is a series of the rows: one `Means` for each part of it.
 pub(crate) fn finer_of_all<H: Threads + Sync, R: Rows + Sync>(
     rt: &H,
@@ -79,7 +95,7 @@ pub(crate) fn finer_of_all<H: Threads + Sync, R: Rows + Sync>(
     members: &[Member],
     workers: u32,
 ) -> Result<Vec<Means>, NoMemory>
-    requires length { cuts.now ≡ (R.collection rows.now).points }
+    requires length { cuts.now ≡ finer_points (R.collection rows.now) }
     requires series { All (λ m. m.number < length (R.collection rows.now).series) members.now }
     requires few { length members.now < 2 ^ 32 }
     requires some { 1 ≤ workers }
@@ -99,7 +115,7 @@ fn fill_finer<H: Threads + Sync, R: Rows + Sync>(
     workers: u32,
     finer: &mut [Means],
 )
-    requires length { cuts.now ≡ (R.collection rows.now).points }
+    requires length { cuts.now ≡ finer_points (R.collection rows.now) }
     requires series { All (λ m. m.number < length (R.collection rows.now).series) members.now }
     requires some { 1 ≤ workers }
     requires places { length finer.old ≡ length members.now * part_count cuts.now }
@@ -117,7 +133,7 @@ fn fill_finer<H: Threads + Sync, R: Rows + Sync>(
 
 /// The means at place `i`: those of the part whose number is `i` by the number of parts, of the member before it.
 fn finer_at<R: Rows>(rows: &R, cuts: &FinerCuts, members: &[Member], i: usize) -> Means
-    requires length { cuts.now ≡ (R.collection rows.now).points }
+    requires length { cuts.now ≡ finer_points (R.collection rows.now) }
     requires series { All (λ m. m.number < length (R.collection rows.now).series) members.now }
     requires inside { i < length members.now * part_count cuts.now }
     ensures { result ≡ slice_index_or (all_finer (R.collection rows.now) members.now) i [] }
@@ -129,7 +145,7 @@ fn finer_at<R: Rows>(rows: &R, cuts: &FinerCuts, members: &[Member], i: usize) -
 
 /// The means of one part of a member.
 fn means_of_part<R: Rows>(rows: &R, cuts: &FinerCuts, member: &Member, part: u32) -> Means
-    requires length { cuts.now ≡ (R.collection rows.now).points }
+    requires length { cuts.now ≡ finer_points (R.collection rows.now) }
     requires series { member.now.number < length (R.collection rows.now).series }
     requires part { part < part_count cuts.now }
     ensures { result ≡ part_means cuts.now (series_at (R.collection rows.now) member.now.number) part }

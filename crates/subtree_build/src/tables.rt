@@ -1,9 +1,9 @@
 //! The tables beside the members of an index: their means, their finer means, and the box of each leaf's means.
 ghost use Rattle.std.specs.Prelude.{◌≡◌, ◌<◌, ◌≤◌, ◌^◌, All, IfOk, length};
-ghost use Rattle.subtree_build.specs.Places.{boxes_seen, AreTablesOf, IsPlace};
+ghost use Rattle.subtree_build.specs.Places.{boxes_seen, AreTables, AreTablesOf, IsPlace};
 
 use crate::leaf::LeafPlace;
-use crate::means::{finer_of_all, means_of_all};
+use crate::means::{finer_length, finer_of_all, means_of_all};
 use isax_word::Layout;
 use mean_bound::{FinerCuts, MeanBox, Means};
 use outside::NoMemory;
@@ -38,7 +38,7 @@ pub(crate) fn tables_of<H: Threads + Sync, R: Rows + Sync>(
     requires some { 1 ≤ workers }
     ensures { IfOk result (AreTablesOf (R.collection rows.now) layout.now members.now places.now) }
 {
-    let cuts = FinerCuts::new(layout.cuts.length());
+    let cuts = FinerCuts::new(finer_length(rows));
     let means = means_of_all(rt, alloc, rows, layout, members, workers)?;
     let finer = finer_of_all(rt, alloc, rows, &cuts, members, workers)?;
     let boxes = boxes_of(alloc, means.as_slice(), places)?;
@@ -46,6 +46,25 @@ pub(crate) fn tables_of<H: Threads + Sync, R: Rows + Sync>(
         means,
         parts: cuts.parts(),
         finer,
+        boxes,
+    })
+}
+
+/// Tables of members and of the places of leaves among them, by no rows: every mean is 0, and there are no finer ones.
+pub(crate) fn blank_tables(
+    alloc: Global,
+    members: &[Member],
+    places: &[LeafPlace],
+) -> Result<Tables, NoMemory>
+    requires { All (IsPlace (length members.now)) places.now }
+    ensures { IfOk result (AreTables members.now places.now) }
+{
+    let means = vec![in alloc; Means::zeros(); members.len()]?;
+    let boxes = boxes_of(alloc, means.as_slice(), places)?;
+    Ok(Tables {
+        means,
+        parts: 0,
+        finer: Vec::new(alloc),
         boxes,
     })
 }

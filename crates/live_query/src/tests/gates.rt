@@ -1,15 +1,11 @@
 //! Gates that watch the workers: each worker's turns are counted without a gap over both parts, and two workers come to their
 //! first turn side by side.
 use super::forms::{Form, searched};
-use breakpoints::Table;
-use isax_word::Layout;
-use outside::{Gate, NoGate};
+use super::points::{index_of, three_points, two_segments};
+use outside::Gate;
 use query_core::Task;
-use segment_sums::Cuts;
-use series_core::Flat;
 use std::sync::atomic::{AtomicU64, Ordering};
 use std::test::*;
-use subtree_build::{Settings, build};
 
 /// How often one hold looks for the other worker.
 const LOOKS: u32 = 1_000_000_000;
@@ -64,18 +60,10 @@ impl Gate for Meeting {
 #[test]
 fn two_workers_come_side_by_side_and_count_their_turns(rt: HostRuntime) -> Result<(), Fail> {
     let alloc = rt.alloc();
-    let rows = Flat::from_values(2, [0, 0, 0, 20000, 300, 0].to_vec(alloc)?);
-    let layout = Layout {
-        cuts: Cuts::new(2, 2),
-        table: Table::Flat,
-    };
-    let settings = Settings {
-        layout,
-        leaf_size: 1,
-    };
-    let index = build(&rt, alloc, &rows, &settings, 1, &NoGate)?;
-    let query = [0, 0];
-    let task = Task::new(&rows, &query, 3, &layout);
+    let flat = three_points(alloc)?;
+    let layout = two_segments();
+    let index = index_of(&rt, alloc, &flat, &layout)?;
+    let task = Task::new(&flat, &[0, 0], 3, &layout);
     for locked in [false, true] {
         let form = Form {
             workers: 2,

@@ -58,6 +58,16 @@ fn drawn_value(rng: &mut SplitMix64) -> i16 {
     }
 }
 
+/// A series of four values.
+fn drawn_series(rng: &mut SplitMix64) -> [i16; 4] {
+    [
+        drawn_value(rng),
+        drawn_value(rng),
+        drawn_value(rng),
+        drawn_value(rng),
+    ]
+}
+
 /// So many series of four values, at most 100 of them.
 fn drawn_collection(alloc: Global, rng: &mut SplitMix64, count: u32) -> Result<Flat, NoMemory> {
     let values = drawn_values(alloc, rng, count.min(100))?;
@@ -70,13 +80,7 @@ fn drawn_values(alloc: Global, rng: &mut SplitMix64, count: u32) -> Result<Vec<i
 {
     let mut values = Vec::new(alloc);
     for _series in 0..count {
-        let series = [
-            drawn_value(rng),
-            drawn_value(rng),
-            drawn_value(rng),
-            drawn_value(rng),
-        ];
-        values.extend_from_slice(&series)?;
+        values.extend_from_slice(&drawn_series(rng))?;
     }
     Ok(values)
 }
@@ -181,16 +185,33 @@ fn finds_what_a_plain_sort_finds(rt: HostRuntime) -> Result<(), Fail> {
         };
         let rows = drawn_collection(alloc, &mut rng, count)?;
         let shape = drawn_shape(&mut rng);
-        let query = [
-            drawn_value(&mut rng),
-            drawn_value(&mut rng),
-            drawn_value(&mut rng),
-            drawn_value(&mut rng),
-        ];
+        let query = drawn_series(&mut rng);
         assert!(rt;
             agrees(&rt, alloc, &rows, &query, shape)?,
             "round {round}: {count} series, {shape:?}"
         );
+    }
+    Ok(())
+}
+
+#[test]
+fn sixty_four_workers_find_what_a_plain_sort_finds(rt: HostRuntime) -> Result<(), Fail> {
+    let alloc = rt.alloc();
+    let mut rng = SplitMix64::seed_from_u64(64);
+    for queues in [1, 64] {
+        for count in [0, 1, 7, 100] {
+            let rows = drawn_collection(alloc, &mut rng, count)?;
+            let shape = Shape {
+                workers: 64,
+                queues,
+                ..drawn_shape(&mut rng)
+            };
+            let query = drawn_series(&mut rng);
+            assert!(rt;
+                agrees(&rt, alloc, &rows, &query, shape)?,
+                "{count} series, {shape:?}"
+            );
+        }
     }
     Ok(())
 }

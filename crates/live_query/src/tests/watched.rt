@@ -3,18 +3,15 @@
 ghost use Rattle.std.specs.Prelude.{◌≡◌};
 
 use super::forms::{Form, searched};
-use breakpoints::Table;
-use isax_word::Layout;
+use super::points::{BY_DISTANCE, index_of, three_points, two_segments};
 use outside::NoGate;
 use query_core::{Outcome, Task};
-use segment_sums::Cuts;
-use series_core::{Flat, Pair, Rows};
+use series_core::{Flat, Rows};
 use std::alloc::Global;
 use std::sync::Wait;
 use std::sync::atomic::{AtomicU64, Ordering};
 use std::test::*;
 use std::thread::Threads;
-use subtree_build::{Settings, build};
 
 /// How often one hold looks for the other.
 const LOOKS: u32 = 1_000_000_000;
@@ -93,19 +90,11 @@ fn watched_search<T: Threads + Wait + Sync>(
     if k < 1 || k > 3 {
         return Err(Fail::new("no such search"));
     }
-    let flat = Flat::from_values(2, [0, 0, 0, 20000, 300, 0].to_vec(alloc)?);
-    let layout = Layout {
-        cuts: Cuts::new(2, 2),
-        table: Table::Flat,
-    };
-    let settings = Settings {
-        layout,
-        leaf_size: 1,
-    };
-    let index = build(rt, alloc, &flat, &settings, 2, &NoGate)?;
+    let flat = three_points(alloc)?;
+    let layout = two_segments();
+    let index = index_of(rt, alloc, &flat, &layout)?;
     let rows = Watched::over(flat, held);
-    let query = [0, 0];
-    let task = Task::new(&rows, &query, k, &layout);
+    let task = Task::new(&rows, &[0, 0], k, &layout);
     let form = Form {
         workers: 2,
         queues: 2,
@@ -115,18 +104,13 @@ fn watched_search<T: Threads + Wait + Sync>(
     Ok((outcome, rows))
 }
 
-const fn pair(distance: u64, number: u32) -> Pair {
-    Pair { distance, number }
-}
-
 #[test]
 fn cut_leaves_are_not_asked_for(rt: HostRuntime) -> Result<(), Fail> {
-    let pairs = [pair(0, 0)];
     for locked in [false, true] {
         let (outcome, rows) = watched_search(&rt, rt.alloc(), 1, false, locked)?;
         assert_eq!(rt;
             outcome.pairs.items.as_slice(),
-            pairs.as_slice(),
+            &BY_DISTANCE[..1],
             "locked {locked}"
         );
         assert_eq!(rt; rows.times(0), 1, "series 0 is asked for, locked {locked}");
@@ -138,12 +122,11 @@ fn cut_leaves_are_not_asked_for(rt: HostRuntime) -> Result<(), Fail> {
 
 #[test]
 fn two_workers_search_side_by_side(rt: HostRuntime) -> Result<(), Fail> {
-    let pairs = [pair(0, 0), pair(90000, 2), pair(400000000, 1)];
     for locked in [false, true] {
         let (outcome, rows) = watched_search(&rt, rt.alloc(), 3, true, locked)?;
         assert_eq!(rt;
             outcome.pairs.items.as_slice(),
-            pairs.as_slice(),
+            BY_DISTANCE.as_slice(),
             "locked {locked}"
         );
         assert_eq!(rt;

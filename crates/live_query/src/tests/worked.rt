@@ -1,16 +1,13 @@
 //! A small search as worked by hand: its whole outcome, whatever the number of workers.
 use super::forms::{Form, searched};
-use breakpoints::Table;
-use isax_word::Layout;
+use super::points::{BY_BOUND, BY_DISTANCE, index_of, three_points, two_segments};
 use outside::NoGate;
 use query_core::{Fate, Outcome, Start, Task};
-use segment_sums::Cuts;
-use series_core::{Entry, Flat, Pair};
+use series_core::Entry;
 use std::alloc::Global;
 use std::sync::Wait;
 use std::test::*;
 use std::thread::Threads;
-use subtree_build::{Settings, build};
 
 /// How many workers search, and whether over locked queues.
 const WAYS: [(u32, bool); 6] = [
@@ -22,10 +19,6 @@ const WAYS: [(u32, bool); 6] = [
     (8, true),
 ];
 
-const fn pair(distance: u64, number: u32) -> Pair {
-    Pair { distance, number }
-}
-
 /// Whether there is a line of this number with these taken entries and this kept limit.
 fn is_line(outcome: &Outcome, number: usize, taken: &[Entry], kept: u64) -> bool {
     match outcome.lines.items.get(number) {
@@ -34,8 +27,8 @@ fn is_line(outcome: &Outcome, number: usize, taken: &[Entry], kept: u64) -> bool
     }
 }
 
-/// The search of `(0,0) (0,20000) (300,0)` for the k nearest to (0,0), in leaves of one, over two queues, with locks or without.
-fn three_points<T: Threads + Wait + Sync>(
+/// The search for the k points nearest to (0,0), over two queues, with locks or without.
+fn near_points<T: Threads + Wait + Sync>(
     rt: &T,
     alloc: Global,
     k: u32,
@@ -45,18 +38,10 @@ fn three_points<T: Threads + Wait + Sync>(
     if k < 1 || k > 3 || workers < 1 || workers > 64 {
         return Err(Fail::new("no such search"));
     }
-    let rows = Flat::from_values(2, [0, 0, 0, 20000, 300, 0].to_vec(alloc)?);
-    let layout = Layout {
-        cuts: Cuts::new(2, 2),
-        table: Table::Flat,
-    };
-    let settings = Settings {
-        layout,
-        leaf_size: 1,
-    };
-    let index = build(rt, alloc, &rows, &settings, 1, &NoGate)?;
-    let query = [0, 0];
-    let task = Task::new(&rows, &query, k, &layout);
+    let flat = three_points(alloc)?;
+    let layout = two_segments();
+    let index = index_of(rt, alloc, &flat, &layout)?;
+    let task = Task::new(&flat, &[0, 0], k, &layout);
     let form = Form {
         workers,
         queues: 2,
@@ -67,14 +52,13 @@ fn three_points<T: Threads + Wait + Sync>(
 
 #[test]
 fn one_leaf_is_scanned_and_two_are_cut(rt: HostRuntime) -> Result<(), Fail> {
-    let pairs = [pair(0, 0)];
     let start = Start { leaf: 0, limit: 0 };
     let fates = [Fate::Start, Fate::Bound(65536), Fate::Bound(268435456)];
     for (workers, locked) in WAYS {
-        let outcome = three_points(&rt, rt.alloc(), 1, workers, locked)?;
+        let outcome = near_points(&rt, rt.alloc(), 1, workers, locked)?;
         assert_eq!(rt;
             outcome.pairs.items.as_slice(),
-            pairs.as_slice(),
+            &BY_DISTANCE[..1],
             "{workers} workers, locked {locked}"
         );
         assert_eq!(rt;
@@ -102,14 +86,12 @@ fn one_leaf_is_scanned_and_two_are_cut(rt: HostRuntime) -> Result<(), Fail> {
 
 #[test]
 fn each_leaf_is_taken_from_its_queue(rt: HostRuntime) -> Result<(), Fail> {
-    let pairs = [pair(0, 0), pair(90000, 2), pair(400000000, 1)];
     let fates = [Fate::Start, Fate::Queue(1), Fate::Queue(0)];
-    let entries = [(268435456, 2), (65536, 1)];
     for (workers, locked) in WAYS {
-        let outcome = three_points(&rt, rt.alloc(), 3, workers, locked)?;
+        let outcome = near_points(&rt, rt.alloc(), 3, workers, locked)?;
         assert_eq!(rt;
             outcome.pairs.items.as_slice(),
-            pairs.as_slice(),
+            BY_DISTANCE.as_slice(),
             "{workers} workers, locked {locked}"
         );
         assert_eq!(rt;
@@ -122,8 +104,8 @@ fn each_leaf_is_taken_from_its_queue(rt: HostRuntime) -> Result<(), Fail> {
             2,
             "{workers} workers, locked {locked}"
         );
-        for (line, (bound, leaf)) in outcome.lines.items.iter().zip(entries) {
-            let taken = [Entry { bound, leaf }];
+        for (line, entry) in outcome.lines.items.iter().zip(BY_BOUND.iter().rev()) {
+            let taken = [*entry];
             assert_eq!(rt;
                 line.taken.items.as_slice(),
                 taken.as_slice(),

@@ -24,12 +24,12 @@ next_part xs ys i long same =
 pub returns-then-sum-limit : goal.returns-then-sum-limit
 returns-then-sum-limit c =
     let parts = first_part c.args.x.now c.args.q.now (omega arith) c.requires.same_length in
-    omega (arith, c.part_distance-sum.ensures)
+    omega (arith, c.near_part.ensures)
 
 pub loop-block-init : goal.loop-block-init
 loop-block-init c =
     let parts = first_part c.args.x.now c.args.q.now (omega arith) c.requires.same_length in
-    omega (arith, c.part_distance-sum.ensures)
+    record { whole = omega (arith, c.near_part.ensures); small = omega arith }
 
 pub overflow_add-sum : goal.overflow_add-sum
 overflow_add-sum c =
@@ -37,19 +37,22 @@ overflow_add-sum c =
     let q = c.args.q.now in
     let step = next_part x q c.loop-block.block (omega arith) c.requires.same_length in
     let whole = distance_each x q c.values_fit.ensures c.values_fit-2.ensures in
-    record { fits = omega (arith, c.loop-block.invariant, c.part_distance-sum-in-loop-block.ensures) }
+    record { fits = omega (arith, c.loop-block.invariant.whole, c.near_part-in-loop-block.ensures) }
 
 pub returns-then-sum-limit-2 : goal.returns-then-sum-limit-2
 returns-then-sum-limit-2 c =
     let step = next_part c.args.x.now c.args.q.now c.loop-block.block (omega arith)
     c.requires.same_length in
-    omega (arith, c.loop-block.invariant, c.part_distance-sum-in-loop-block.ensures)
+    omega (arith, c.loop-block.invariant.whole, c.near_part-in-loop-block.ensures)
 
 pub loop-block-preserved : goal.loop-block-preserved
 loop-block-preserved c =
     let step = next_part c.args.x.now c.args.q.now c.loop-block.block (omega arith)
     c.requires.same_length in
-    omega (arith, c.loop-block.invariant, c.part_distance-sum-in-loop-block.ensures)
+    record {
+      whole = omega (arith, c.loop-block.invariant.whole, c.near_part-in-loop-block.ensures);
+      small = omega arith;
+    }
 
 -- what is behind the last block
 last_part : (xs ys : List ℤ) (i : ℕ)
@@ -69,6 +72,6 @@ overflow_add-sum-2 c =
     ≡ squared_distance x q
     = subst (λ (i : ℕ). c.loop-block.sum
     + squared_distance (drop (32 + i * 64) x) (drop (32 + i * 64) q) ≡ squared_distance x q) all
-    c.loop-block.invariant in
+    c.loop-block.invariant.whole in
     let whole = distance_each x q c.values_fit.ensures c.values_fit-2.ensures in
     record { fits = omega (arith, c.rest_distance-sum.ensures) }

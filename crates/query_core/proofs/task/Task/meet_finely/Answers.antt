@@ -2,7 +2,7 @@
 use Rattle.std.proofs.Common.{◌≡◌, ap, ◌∙◌, List, arith}
 use Rattle.mean_bound.specs.Finer.{finer_bound, finer_view}
 use Rattle.mean_bound.specs.MeanBound.{View, mean_bound, mean_view_of}
-use Rattle.subtree_build.specs.Means.{finer_of}
+use Rattle.subtree_build.specs.Means.{finer_of, finer_points}
 use Rattle.query_core.proofs.BelowMeans.{finer_is_below}
 use Rattle.query_core.proofs.Meeting.{MayAdd, meet_above, meet_far}
 use Rattle.query_core.proofs.task.Task.meet_finely.Goals as goal
@@ -26,7 +26,7 @@ pub returns-then-bound-most-2-clause-pairs : goal.returns-then-bound-most-2-clau
 returns-then-bound-most-2-clause-pairs g c =
     let a = c.args.self.now in
     let m = c.args.member.now in
-    let view = finer_view a.layout.cuts.row_length a.query in
+    let view = finer_view (finer_points a.collection) a.query in
     let bound : c.bound-2.result ≡ finer_bound view (finer_of a.collection m) =
     c.bound-2.ensures.value
     ∙ ap (λ (vs : List View). finer_bound vs c.args.finer.now) c.finer.ensures.finer

@@ -8,7 +8,7 @@ use Rattle.query_core.specs.NearLeaves.{AreNear}
 use Rattle.query_core.specs.Questions.{search_over}
 use Rattle.query_core.proofs.BelowRoots.{below_count}
 use Rattle.query_core.proofs.FarRoots.{root_more}
-use Rattle.query_core.proofs.LeavesNear.{as_looked, in_order}
+use Rattle.query_core.proofs.LeavesNear.{as_looked}
 use Rattle.query_core.proofs.task.Task.near_leaves.Goals as goal
 
 pub loop-i-preserved : goal.loop-i-preserved
@@ -31,8 +31,6 @@ returns g c =
     let roots = map leaf_numbers ix.nodes in
     let all : take c.loop-i.i roots ≡ roots
     = take_all c.loop-i.i roots (omega (arith, length-map ix.nodes leaf_numbers, index.one_node_each)) in
-    in_order ground c.args.limit (λ l. once_below l (length ix.leaves)) c.loop-i.entries.items
-    c.sort_unstable_by_key.new.self.items c.sort_unstable_by_key.ensures.permutation
-    (as_looked ground c.args.limit (λ m. total (times m) (take c.loop-i.i roots))
+    as_looked ground c.args.limit (λ m. total (times m) (take c.loop-i.i roots))
     (λ l. once_below l (length ix.leaves)) c.loop-i.entries.items
-    (λ m. ap (total (times m)) all ∙ below_count ix index m) c.loop-i.invariant)
+    (λ m. ap (total (times m)) all ∙ below_count ix index m) c.loop-i.invariant

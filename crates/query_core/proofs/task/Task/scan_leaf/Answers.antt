@@ -8,10 +8,10 @@ use Rattle.isax_word.specs.declared.member.Member.{Member}
 use Rattle.mean_bound.specs.Finer.{finer_view, part_count, part_view}
 use Rattle.mean_bound.specs.MeanBound.{View}
 use Rattle.subtree_build.specs.Index.{IndexParts, leaf_at}
-use Rattle.subtree_build.specs.Means.{all_finer, finer_at}
+use Rattle.subtree_build.specs.Means.{all_finer, finer_at, finer_points}
 use Rattle.subtree_build.specs.Fits.{Fits as IndexFits}
 use Rattle.subtree_build.proofs.Meaning.{finer_of_leaf, finer_of_one, length_finer}
-use Rattle.query_core.specs.Questions.{IsMemberOf, IsQuestion, Question}
+use Rattle.query_core.specs.Questions.{IsMemberOf, Question}
 use Rattle.query_core.proofs.Homes.{leaf_is_members}
 use Rattle.query_core.proofs.Meeting.{scan_more}
 use Rattle.query_core.proofs.task.Task.scan_leaf.Goals as goal
@@ -30,13 +30,12 @@ own_finer a ix l members finer fits real are is =
     is ∙ finer_of_leaf a.collection a.layout ix l fits real ∙ ap (all_finer a.collection) (sym are)
 
 -- there are as many parts as the query has
-same_parts : (a : Question) (views : List View) (parts : ℕ) → IsQuestion a → parts ≡ length views
-    → views ≡ finer_view a.layout.cuts.row_length a.query → parts ≡ part_count a.collection.points
-same_parts a views parts question count are =
+same_parts : (a : Question) (views : List View) (parts : ℕ) → parts ≡ length views
+    → views ≡ finer_view (finer_points a.collection) a.query → parts ≡ part_count (finer_points a.collection)
+same_parts a views parts count are =
     count
     ∙ ap (λ (vs : List View). length vs) are
-    ∙ length-map-range_with_len (part_view a.layout.cuts.row_length a.query) 0 (part_count a.layout.cuts.row_length)
-    ∙ ap part_count (sym question.points)
+    ∙ length-map-range_with_len (part_view (finer_points a.collection) a.query) 0 (part_count (finer_points a.collection))
 
 pub of_member-own-requires : goal.of_member-own-requires
 of_member-own-requires g c =
@@ -45,7 +44,7 @@ of_member-own-requires g c =
     let finer = c.leaf_finer-finer.result.now in
     let own = own_finer a c.args.index.now c.args.leaf members finer c.requires.fits c.requires.leaf
     c.leaf_members-members.ensures c.leaf_finer-finer.ensures in
-    let parts = same_parts a c.finer.result.now c.parts-parts.result c.finer.ensures.question
+    let parts = same_parts a c.finer.result.now c.parts-parts.result
     c.parts-parts.ensures.count c.finer.ensures.finer in
     let long : length finer ≡ length members * c.parts-parts.result
     = ap (λ (ms : List (List ℕ)). length ms) own ∙ length_finer a.collection members
@@ -74,7 +73,7 @@ meet_finely-most-requires-clause-finer g c =
     let n = c.parts-parts.result in
     let own = own_finer a c.args.index.now c.args.leaf members finer c.requires.fits c.requires.leaf
     c.leaf_members-members.ensures c.leaf_finer-finer.ensures in
-    let parts = same_parts a c.finer.result.now n c.finer.ensures.question c.parts-parts.ensures.count c.finer.ensures.finer in
+    let parts = same_parts a c.finer.result.now n c.parts-parts.ensures.count c.finer.ensures.finer in
     c.of_member-own.ensures
     ∙ ap (λ (ms : List (List ℕ)). take n (drop (i * n) ms)) own
     ∙ ap (λ k. take k (drop (i * k) (all_finer a.collection members))) parts

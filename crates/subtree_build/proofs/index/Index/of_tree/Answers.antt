@@ -1,6 +1,5 @@
 -- What is the tree of a collection keeps the facts of every index, and fits; and each thing lies at its place.
-use Rattle.std.proofs.Common.{rules, ◌≡◌, ℕ, ◌^◌, ◌*◌, ◌<◌, List, ◌∙◌, sym, ap, length, subst, arith, All}
-use Rattle.isax_word.specs.declared.member.Member.{Member}
+use Rattle.std.proofs.Common.{rules, ◌≡◌, ℕ, ◌^◌, ◌<◌, List, ◌∙◌, sym, ap, length, subst, arith, All}
 use Rattle.subtree_build.specs.declared.leaf.GrownLeaf.{GrownLeaf}
 use Rattle.subtree_build.specs.declared.leaf.LeafPlace.{LeafPlace}
 use Rattle.subtree_build.specs.Grown.{members_in}
@@ -11,18 +10,17 @@ use Rattle.subtree_build.specs.Outline.{outline}
 use Rattle.subtree_build.specs.Tree.{Tree}
 use Rattle.series_core.specs.Collection.{Collection}
 use Rattle.isax_word.specs.declared.layout.Layout.{Layout}
-use Rattle.mean_bound.proofs.Parts.{part_few}
 use Rattle.subtree_build.specs.declared.part.Joined.{Joined}
-use Rattle.subtree_build.specs.declared.tables.Tables.{Tables}
 use Rattle.subtree_build.specs.Grown.{cut_leaves}
-use Rattle.subtree_build.specs.Means.{means_of}
-use Rattle.subtree_build.specs.Places.{places_from, means_seen, finer_seen, ArePlaces, AreTables, AreTablesOf}
+use Rattle.subtree_build.specs.Places.{places_from, leaves_seen, means_seen, finer_seen, AreAllSeen, ArePlaces}
+use Rattle.std.specs.Prelude.{flat_map}
+use Rattle.subtree_build.proofs.Assembled.{all_in_row}
 use Rattle.subtree_build.proofs.Fitting.{tree_fits, real_in_tree}
-use Rattle.subtree_build.proofs.Meaning.{all_cut, means_are_own, finer_are_own, length_finer}
+use Rattle.subtree_build.proofs.Meaning.{all_cut, means_are_own, finer_are_own, own_tables, tables_are}
 use Rattle.subtree_build.proofs.OfCollection.{IsReal}
 use Rattle.subtree_build.proofs.Growing.{length-cut}
 use Rattle.subtree_build.proofs.Indexing.{length-all_numbered, tree_is_index}
-use Rattle.subtree_build.proofs.Placed.{length-places, tree_is_seen, are_places, are_ranges, few_members}
+use Rattle.subtree_build.proofs.Placed.{length-places, seen_is_cut, tree_is_seen, are_places, are_ranges, few_members}
 use Rattle.subtree_build.proofs.index.Index.of_tree.Goals as goal
 
 pub placed-requires : goal.placed-requires
@@ -73,23 +71,16 @@ tables_of-requires-clause-places g c =
     (c.in_ok-leaves.ensures ∙ ap (places_from 0) c.as_slice.ensures.value) in
     search (rules, lie)
 
--- the tables of the members and places are tables beside them
-tables_are : (rows : Collection) (layout : Layout) (members : List Member) (places : List LeafPlace) (t : Tables)
-    → AreTablesOf rows layout members places t → AreTables members places t
-tables_are rows layout members places t are = record {
-  means_each = ap (λ (ms : List (List ℕ)). length ms) are.means ∙ length-map members (means_of rows layout);
-  few_parts = omega (arith, are.parts, part_few rows.points);
-  finer_each = ap (λ (ms : List (List ℕ)). length ms) are.finer ∙ length_finer rows members
-      ∙ ap (λ n. length members * n) (sym are.parts);
-  boxes_are = are.boxes;
-}
-
--- the slices that were handed on are the lists
-own_tables : (rows : Collection) (layout : Layout) (members lent : List Member) (places shown : List LeafPlace) (t : Tables)
-    → AreTablesOf rows layout lent shown t → lent ≡ members → shown ≡ places → AreTablesOf rows layout members places t
-own_tables rows layout members lent places shown t are same_members same_places =
-    subst (λ (ps : List LeafPlace). AreTablesOf rows layout members ps t) same_places
-    (subst (λ (ms : List Member). AreTablesOf rows layout ms shown t) same_members are)
+-- and the leaves have all members
+all_seen : (joined : Joined) (places : List LeafPlace) → members_in joined.leaves.items ≡ length joined.members.items
+    → places ≡ places_from 0 joined.leaves.items → members_in joined.leaves.items < 2 ^ 32
+    → AreAllSeen joined.members.items places
+all_seen joined places whole are few = (
+  ap (flat_map (λ (x : TreeLeaf). x.members))
+      (ap (leaves_seen joined.members.items) are ∙ seen_is_cut joined.members.items 0 joined.leaves.items)
+      ∙ all_in_row joined.leaves.items joined.members.items whole,
+  omega (arith, whole, few),
+)
 
 pub invariant_of-result : goal.invariant_of-result
 invariant_of-result g c =
@@ -120,6 +111,9 @@ invariant_of-result g c =
       tables_are rows layout joined.members.items c.in_ok-leaves.leaves.items c.in_ok-tables.tables
           (own_tables rows layout joined.members.items _ c.in_ok-leaves.leaves.items _ c.in_ok-tables.tables
           c.in_ok-tables.ensures c.as_slice-2.ensures.value c.as_slice-3.ensures.value),
+      all_seen joined c.in_ok-leaves.leaves.items c.requires.whole places
+          (few_members rows layout size joined.leaves.items joined.members.items c.segments-segments.ensures.divides
+          c.count-count.ensures.sound c.requires.leaves c.requires.whole),
     )
 
 pub returns-clause-tree : goal.returns-clause-tree

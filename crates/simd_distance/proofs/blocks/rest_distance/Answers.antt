@@ -2,7 +2,7 @@
 use Rattle.std.proofs.Common.{◌*◌, ◌/◌, length, arith}
 use Rattle.series_core.proofs.Limits.{distance_each}
 use Rattle.simd_distance.proofs.Walks.{distance_from_part, distance_of_rest}
-use Rattle.simd_distance.proofs.kernel.rest_distance.Goals as goal
+use Rattle.simd_distance.proofs.blocks.rest_distance.Goals as goal
 
 pub overflow_add-result : goal.overflow_add-result
 overflow_add-result c =

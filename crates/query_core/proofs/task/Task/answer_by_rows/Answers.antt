@@ -9,16 +9,16 @@ use Rattle.query_core.specs.Questions.{search_over}
 use Rattle.query_core.proofs.BelowRoots.{times_range}
 use Rattle.query_core.proofs.Nearest.{answer_scanned}
 use Rattle.query_core.proofs.TeamPlays.{if_ok}
-use Rattle.query_core.proofs.task.Task.nearest.Goals as goal
+use Rattle.query_core.proofs.task.Task.answer_by_rows.Goals as goal
 
-pub returns-else-means_tell : goal.returns-else-means_tell
-returns-else-means_tell g c =
+pub returns : goal.returns
+returns g c =
     let a = c.args.self.now in
     let ground = search_over a c.args.index.now 1 1 in
     let fits = c.search_law.ensures.fits 1 1 (omega arith) (omega arith) in
-    let limit = c.in_ok-limit.limit in
+    let limit = c.args.limit in
     let numbers = range_with_len 0 (length a.collection.series) in
-    let enough : last ground ≤ limit = omega (arith, c.search_law.ensures.last 1 1, c.in_ok-limit.ensures.limit) in
+    let enough : last ground ≤ limit = omega (arith, c.search_law.ensures.last 1 1, c.requires.limit) in
     let count = length a.collection.series in
     let end : 0 + count ≡ count = omega arith in
     let each : (s : ℕ) → times s numbers ≡ once_below s count

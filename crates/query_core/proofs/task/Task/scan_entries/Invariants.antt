@@ -3,7 +3,7 @@ use Rattle.std.proofs.Common.{◌≡◌, ◌≤◌, length, take}
 use Rattle.search_machine.specs.Sound.{ListSound}
 use Rattle.query_core.specs.NearLeaves.{leaves_in}
 use Rattle.query_core.specs.Questions.{search_over}
-use Rattle.query_core.proofs.task.Task.scan_leaves.Given as goal
+use Rattle.query_core.proofs.task.Task.scan_entries.Given as goal
 
 abbrev pub invariant-loop-entry : goal.invariant-loop-entry
 invariant-loop-entry g l = record {

@@ -1,0 +1,9 @@
+pub mod Growing
+pub mod Takings
+pub mod Holding
+pub mod Counting
+pub mod LastCalls
+pub mod Fitting
+pub mod PartsSoFar
+pub mod Dealing
+pub mod Endings

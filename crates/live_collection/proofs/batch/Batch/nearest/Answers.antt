@@ -1,0 +1,12 @@
+-- The index fits the series that the task asks of.
+use Rattle.std.proofs.Common.{subst, sym}
+use Rattle.query_core.specs.Questions.{Question}
+use Rattle.subtree_build.specs.Fits.{Fits}
+use Rattle.live_collection.proofs.Fitting.{Fits-had}
+use Rattle.live_collection.proofs.batch.Batch.nearest.Goals as goal
+
+pub one_worker_answer-requires-clause-fits : goal.one_worker_answer-requires-clause-fits
+one_worker_answer-requires-clause-fits c =
+    let batch = c.args.self.now in
+    subst (λ (a : Question). Fits a.collection a.layout batch.index) (sym c.new-task.ensures)
+    (Fits-had batch.series batch.layout batch.index batch.fits)

@@ -1,0 +1,86 @@
+-- The leaves lie in one row, and make the index of the parts.
+use Rattle.std.proofs.Common.{ℕ, List, length, ap, sym, subst, arith}
+use Rattle.isax_word.specs.declared.word.Part.{Part}
+use Rattle.isax_word.specs.declared.member.Member.{Member}
+use Rattle.subtree_build.specs.declared.leaf.LeafPlace.{LeafPlace}
+use Rattle.subtree_build.specs.declared.node.Node.{Node}
+use Rattle.subtree_build.specs.Assembly.{all_words}
+use Rattle.subtree_build.specs.Grown.{members_in}
+use Rattle.subtree_build.specs.Places.{ArePlaces, AreTables}
+use Rattle.subtree_build.proofs.Assembled.{a_row, long_words, row_is_index, row_lies, row_ranges, row_is_all, row_of_parts}
+use Rattle.subtree_build.proofs.index.Index.of_parts.Goals as goal
+
+pub words_below-requires-clause-few : goal.words_below-requires-clause-few
+words_below-requires-clause-few c =
+    omega (
+      arith,
+      ap (λ (rs : List ℕ). length (all_words c.args.segments rs c.as_slice-2.result.now)) c.as_slice.ensures.value,
+      ap (λ (ns : List Node). length (all_words c.args.segments c.args.roots.items ns)) c.as_slice-2.ensures.value,
+      long_words c.args.segments c.args.roots.items c.args.nodes.items (length c.args.leaves.items) c.requires.made,
+      c.requires.few_leaves,
+    )
+
+pub gather_leaves-requires : goal.gather_leaves-requires
+gather_leaves-requires c =
+    omega (
+      arith,
+      ap (λ (ws : List (List Part)). length ws) c.as_slice-3.ensures.value,
+      ap (λ (ws : List (List Part)). length ws) c.in_ok-words.ensures.words,
+      ap (λ (rs : List ℕ). length (all_words c.args.segments rs c.as_slice-2.result.now)) c.as_slice.ensures.value,
+      ap (λ (ns : List Node). length (all_words c.args.segments c.args.roots.items ns)) c.as_slice-2.ensures.value,
+      long_words c.args.segments c.args.roots.items c.args.nodes.items (length c.args.leaves.items) c.requires.made,
+      ap (λ (ls : List (List Member)). length ls) c.as_slice-4.ensures.value,
+    )
+
+pub placed-requires : goal.placed-requires
+placed-requires c =
+    omega (arith, ap members_in c.as_slice-5.ensures.value, c.in_ok-own.ensures.whole, c.in_ok-own.ensures.few)
+
+pub blank_tables-requires : goal.blank_tables-requires
+blank_tables-requires c =
+    let row = a_row c.args.segments c.args.roots.items c.as_slice.result.now c.args.nodes.items c.as_slice-2.result.now
+    c.in_ok-words.field-0.words.items c.as_slice-3.result.now c.in_ok-words.field-0.firsts.items c.args.leaves.items
+    c.as_slice-4.result.now c.in_ok-own.field-0.leaves.items c.as_slice-5.result.now c.in_ok-own.field-0.members.items
+    c.in_ok-leaves.leaves.items c.requires.some_segments c.requires.few_segments c.requires.few_leaves c.requires.made
+    c.as_slice.ensures.value c.as_slice-2.ensures.value c.as_slice-3.ensures.value c.as_slice-4.ensures.value
+    c.as_slice-5.ensures.value c.in_ok-words.ensures.words c.in_ok-words.ensures.firsts c.in_ok-own.ensures.leaves
+    c.in_ok-own.ensures.whole c.in_ok-own.ensures.few c.in_ok-leaves.ensures in
+    let lie = row_lies c.args.segments c.args.roots.items c.args.nodes.items c.in_ok-words.field-0.words.items c.in_ok-words.field-0.firsts.items
+    c.args.leaves.items c.in_ok-own.field-0.leaves.items c.in_ok-own.field-0.members.items c.in_ok-leaves.leaves.items row in
+    let M : List Member → Type 0 = λ ms. ArePlaces ms c.as_slice-7.result.now in
+    let L : List LeafPlace → Type 0 = λ ps. ArePlaces c.in_ok-own.field-0.members.items ps in
+    subst M (sym c.as_slice-6.ensures.value) (subst L (sym c.as_slice-7.ensures.value) lie)
+
+pub invariant_of-result : goal.invariant_of-result
+invariant_of-result c =
+    let row = a_row c.args.segments c.args.roots.items c.as_slice.result.now c.args.nodes.items c.as_slice-2.result.now
+    c.in_ok-words.field-0.words.items c.as_slice-3.result.now c.in_ok-words.field-0.firsts.items c.args.leaves.items
+    c.as_slice-4.result.now c.in_ok-own.field-0.leaves.items c.as_slice-5.result.now c.in_ok-own.field-0.members.items
+    c.in_ok-leaves.leaves.items c.requires.some_segments c.requires.few_segments c.requires.few_leaves c.requires.made
+    c.as_slice.ensures.value c.as_slice-2.ensures.value c.as_slice-3.ensures.value c.as_slice-4.ensures.value
+    c.as_slice-5.ensures.value c.in_ok-words.ensures.words c.in_ok-words.ensures.firsts c.in_ok-own.ensures.leaves
+    c.in_ok-own.ensures.whole c.in_ok-own.ensures.few c.in_ok-leaves.ensures in
+    let M : List Member → Type 0 = λ ms. AreTables ms c.as_slice-7.result.now c.in_ok-tables.tables in
+    let L : List LeafPlace → Type 0 = λ ps. AreTables c.in_ok-own.field-0.members.items ps c.in_ok-tables.tables in (
+      row_is_index c.args.segments c.args.roots.items c.args.nodes.items c.in_ok-words.field-0.words.items c.in_ok-words.field-0.firsts.items
+          c.args.leaves.items c.in_ok-own.field-0.leaves.items c.in_ok-own.field-0.members.items c.in_ok-leaves.leaves.items row _ _,
+      row_lies c.args.segments c.args.roots.items c.args.nodes.items c.in_ok-words.field-0.words.items c.in_ok-words.field-0.firsts.items
+          c.args.leaves.items c.in_ok-own.field-0.leaves.items c.in_ok-own.field-0.members.items c.in_ok-leaves.leaves.items row,
+      row_ranges c.args.segments c.args.roots.items c.args.nodes.items c.in_ok-words.field-0.words.items c.in_ok-words.field-0.firsts.items
+          c.args.leaves.items c.in_ok-own.field-0.leaves.items c.in_ok-own.field-0.members.items c.in_ok-leaves.leaves.items row,
+      subst L c.as_slice-7.ensures.value (subst M c.as_slice-6.ensures.value c.in_ok-tables.ensures),
+      row_is_all c.args.segments c.args.roots.items c.args.nodes.items c.in_ok-words.field-0.words.items c.in_ok-words.field-0.firsts.items
+          c.args.leaves.items c.in_ok-own.field-0.leaves.items c.in_ok-own.field-0.members.items c.in_ok-leaves.leaves.items row,
+    )
+
+pub returns : goal.returns
+returns c =
+    let row = a_row c.args.segments c.args.roots.items c.as_slice.result.now c.args.nodes.items c.as_slice-2.result.now
+    c.in_ok-words.field-0.words.items c.as_slice-3.result.now c.in_ok-words.field-0.firsts.items c.args.leaves.items
+    c.as_slice-4.result.now c.in_ok-own.field-0.leaves.items c.as_slice-5.result.now c.in_ok-own.field-0.members.items
+    c.in_ok-leaves.leaves.items c.requires.some_segments c.requires.few_segments c.requires.few_leaves c.requires.made
+    c.as_slice.ensures.value c.as_slice-2.ensures.value c.as_slice-3.ensures.value c.as_slice-4.ensures.value
+    c.as_slice-5.ensures.value c.in_ok-words.ensures.words c.in_ok-words.ensures.firsts c.in_ok-own.ensures.leaves
+    c.in_ok-own.ensures.whole c.in_ok-own.ensures.few c.in_ok-leaves.ensures in
+    row_of_parts c.args.segments c.args.roots.items c.args.nodes.items c.in_ok-words.field-0.words.items c.in_ok-words.field-0.firsts.items
+    c.args.leaves.items c.in_ok-own.field-0.leaves.items c.in_ok-own.field-0.members.items c.in_ok-leaves.leaves.items row _ _

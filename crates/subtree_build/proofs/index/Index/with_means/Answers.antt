@@ -1,0 +1,65 @@
+-- The means by the rows are tables beside the same leaves.
+use Rattle.std.proofs.Common.{rules, ◌<◌, All, List, length, ap, sym, refl, ◌∙◌, subst}
+use Rattle.isax_word.specs.declared.member.Member.{Member}
+use Rattle.subtree_build.specs.declared.leaf.TreeLeaf.{TreeLeaf}
+use Rattle.subtree_build.specs.Assembly.{HasMeansOf}
+use Rattle.subtree_build.specs.Index.{IndexParts}
+use Rattle.subtree_build.specs.Places.{leaves_seen, means_seen, finer_seen}
+use Rattle.subtree_build.proofs.Assembled.{other_means}
+use Rattle.subtree_build.proofs.LeafWords.{all_pieces}
+use Rattle.subtree_build.proofs.Meaning.{finer_are_own, means_are_own, own_tables, tables_are}
+use Rattle.subtree_build.proofs.index.Index.with_means.Goals as goal
+
+pub tables_of-requires-clause-series : goal.tables_of-requires-clause-series
+tables_of-requires-clause-series g c =
+    let rows = g.R.Rows.collection c.args.rows.now in
+    let x = c.self.inside in
+    let Q : Member → Type 0 = λ m. m.number < length rows.series in
+    let P : IndexParts → Type 0 = λ ix. All (λ (y : TreeLeaf). All Q y.members) ix.leaves in
+    let A : List Member → Type 0 = λ ms. All Q ms in
+    let each = subst P (sym c.self.view_is) c.requires.series in
+    let real = subst A (c.self.invariant.4.0 ∙ sym c.as_slice.ensures.value)
+    (all_pieces Q (λ (y : TreeLeaf). y.members) (leaves_seen x.members.items x.leaves.items) each) in
+    search (rules, real)
+
+pub invariant_of-result : goal.invariant_of-result
+invariant_of-result g c =
+    let rows = g.R.Rows.collection c.args.rows.now in
+    let layout = c.args.layout.now in
+    let x = c.self.inside in
+    let kept = c.self.invariant in
+    let own = own_tables rows layout x.members.items _ x.leaves.items _ c.in_ok-tables.tables c.in_ok-tables.ensures
+    c.as_slice.ensures.value c.as_slice-2.ensures.value in (
+      other_means _ _ _ kept.0,
+      kept.1,
+      kept.2,
+      tables_are rows layout x.members.items x.leaves.items c.in_ok-tables.tables own,
+      kept.4,
+    )
+
+pub returns : goal.returns
+returns g c =
+    let rows = g.R.Rows.collection c.args.rows.now in
+    let layout = c.args.layout.now in
+    let x = c.self.inside in
+    let t = c.in_ok-tables.tables in
+    let own = own_tables rows layout x.members.items _ x.leaves.items _ t c.in_ok-tables.ensures c.as_slice.ensures.value
+    c.as_slice-2.ensures.value in
+    let after : IndexParts = record {
+      segments = x.segments;
+      roots = x.roots.items;
+      nodes = x.nodes.items;
+      leaves = leaves_seen x.members.items x.leaves.items;
+      means = means_seen t.means.items x.leaves.items;
+      finer = finer_seen t.parts t.finer.items x.leaves.items;
+    } in
+    let P : IndexParts → Type 0 = λ ix. HasMeansOf rows layout ix after in
+    subst P c.self.view_is (record {
+      segments = refl;
+      roots = refl;
+      nodes = refl;
+      leaves = refl;
+      own_means = means_are_own rows layout x.members.items t.means.items x.leaves.items own.means;
+      own_finer = ap (λ n. finer_seen n t.finer.items x.leaves.items) own.parts
+          ∙ finer_are_own rows x.members.items t.finer.items x.leaves.items own.finer;
+    })
