@@ -1,14 +1,29 @@
-//! Runs whose outside fails at one place: each open, each read and each write in turn. What was written before is a
-//! beginning of the right text.
+//! Runs whose outside fails at one place: each open, each read and each write in turn, until none is left. What was written
+//! before is a beginning of the right text.
 
 use super::fixture::{Outside, run_line};
 use crate::{Status, Which};
 use outside::NoGate;
+use std::alloc::Global;
+use std::process::Abort;
+use std::sync::Wait;
 use std::test::Fail;
+use std::thread::Threads;
 
 // Words of each command that reads files, how many reads its files take in pieces of 16 bytes with their ends, and its text.
-const COMMANDS: [(&str, [u64; 3], &str); 4] = [
+const COMMANDS: [(&str, [u64; 3], &str); 7] = [
     ("nearest A Q", [4, 3, 0], "query 0\n1 0 4\n"),
+    ("nearest A Q --sealed", [4, 3, 0], "query 0\n1 0 4\n"),
+    (
+        "nearest A Q --segments 2 --certificate --workers 1",
+        [4, 3, 0],
+        CERTIFICATE,
+    ),
+    (
+        "nearest A Q --segments 2 --certificate --workers 1 --sealed",
+        [4, 3, 0],
+        CERTIFICATE,
+    ),
     (
         "nearest A2 Q --k 2 --segments 2 --leaf 1",
         [6, 3, 0],
@@ -19,7 +34,7 @@ const COMMANDS: [(&str, [u64; 3], &str); 4] = [
 ];
 
 // A certificate of the nearest of the four series: 97 bytes.
-const CERTIFICATE: &[u8] = b"query 0\n1 0 4\nstart 1 4\nqueue 0\nqueue 1\n\
+const CERTIFICATE: &str = "query 0\n1 0 4\nstart 1 4\nqueue 0\nqueue 1\n\
     leaf 0 word 0:1,0:1 bound 10\nleaf 1 word 1:1,1:1 scanned\n";
 
 // The status where read number `read` fails, of files that take so many reads each.
@@ -44,7 +59,8 @@ fn each_read_may_fail(rt: HostRuntime) -> Result<(), Fail> {
                 read,
                 ..Outside::sound(16)
             };
-            let ended = run_line(&rt, rt.alloc(), line, CERTIFICATE, outside, &NoGate)?;
+            let certificate = CERTIFICATE.as_bytes();
+            let ended = run_line(&rt, rt.alloc(), line, certificate, outside, &NoGate)?;
             let wanted = status_of(read, reads);
             assert_eq!(rt; ended.status, wanted, "{line}, read {read}");
             let written = if wanted == Status::Done { text } else { "" };
@@ -58,6 +74,60 @@ fn each_read_may_fail(rt: HostRuntime) -> Result<(), Fail> {
     Ok(())
 }
 
+// Which of the files a failed read is of, in the order in which they are read; 3 where no read failed.
+fn place_of(status: Status) -> Option<u32> {
+    match status {
+        Status::ReadFault(Which::Series) => Some(0),
+        Status::ReadFault(Which::Queries) => Some(1),
+        Status::ReadFault(Which::Certificate) => Some(2),
+        Status::Done => Some(3),
+        _ => None,
+    }
+}
+
+// Each read of pieces of so many bytes fails in turn, until none is left.
+fn reads_fail_in_turn<H: Threads + Wait + Abort + Sync>(
+    rt: &H,
+    alloc: Global,
+    line: &str,
+    text: &str,
+    piece: usize,
+) -> Result<(), Fail> {
+    let mut last = Some(0);
+    for read in 1..=200u64 {
+        let outside = Outside {
+            read,
+            ..Outside::sound(piece)
+        };
+        let certificate = CERTIFICATE.as_bytes();
+        let ended = run_line(rt, alloc, line, certificate, outside, &NoGate)?;
+        let place = place_of(ended.status);
+        assert!(rt; last <= place, "{line}, read {read} of {piece}");
+        last = place;
+        let written = if place == Some(3) { text } else { "" };
+        assert_eq!(rt;
+            ended.out.written(),
+            written.as_bytes(),
+            "{line}, read {read} of {piece}"
+        );
+        if place == Some(3) {
+            break;
+        }
+    }
+    assert_eq!(rt; last, Some(3), "{line}: no read of {piece} is left");
+    Ok(())
+}
+
+#[test]
+fn each_read_of_a_small_piece_may_fail(rt: HostRuntime) -> Result<(), Fail> {
+    for (line, _, text) in COMMANDS {
+        for piece in [1, 2, 7] {
+            reads_fail_in_turn(&rt, rt.alloc(), line, text, piece)?;
+        }
+    }
+    Ok(())
+}
+
 #[test]
 fn each_open_may_fail(rt: HostRuntime) -> Result<(), Fail> {
     for (line, reads, text) in COMMANDS {
@@ -66,7 +136,14 @@ fn each_open_may_fail(rt: HostRuntime) -> Result<(), Fail> {
                 open,
                 ..Outside::sound(16)
             };
-            let ended = run_line(&rt, rt.alloc(), line, CERTIFICATE, outside, &NoGate)?;
+            let ended = run_line(
+                &rt,
+                rt.alloc(),
+                line,
+                CERTIFICATE.as_bytes(),
+                outside,
+                &NoGate,
+            )?;
             let [_, _, certificate] = reads;
             let wanted = match open {
                 1 => Status::ReadFault(Which::Series),
@@ -86,31 +163,43 @@ fn each_open_may_fail(rt: HostRuntime) -> Result<(), Fail> {
     Ok(())
 }
 
+// Each write of pieces of so many bytes fails in turn, until none is left: one more than the text takes.
+fn writes_fail_in_turn<H: Threads + Wait + Abort + Sync>(
+    rt: &H,
+    alloc: Global,
+    line: &str,
+    text: &str,
+    piece: usize,
+) -> Result<(), Fail> {
+    for write in 1..=text.len().div_ceil(piece.max(1)).saturating_add(1) {
+        let outside = Outside {
+            write: write as u64,
+            ..Outside::sound(piece)
+        };
+        let certificate = CERTIFICATE.as_bytes();
+        let ended = run_line(rt, alloc, line, certificate, outside, &NoGate)?;
+        let before = write.saturating_sub(1).saturating_mul(piece);
+        let wanted = if before < text.len() {
+            Status::WriteFault
+        } else {
+            Status::Done
+        };
+        assert_eq!(rt; ended.status, wanted, "{line}, write {write} of {piece}");
+        let written = &text.as_bytes()[..before.min(text.len())];
+        assert_eq!(rt;
+            ended.out.written(),
+            written,
+            "{line}, write {write} of {piece}"
+        );
+    }
+    Ok(())
+}
+
 #[test]
 fn each_write_may_fail(rt: HostRuntime) -> Result<(), Fail> {
     for (line, _, text) in COMMANDS {
-        for piece in [1, 2, 7, 16] {
-            // One write more than the text takes.
-            for write in 1..=text.len().div_ceil(piece).saturating_add(1) {
-                let outside = Outside {
-                    write: write as u64,
-                    ..Outside::sound(piece)
-                };
-                let ended = run_line(&rt, rt.alloc(), line, CERTIFICATE, outside, &NoGate)?;
-                let before = write.saturating_sub(1).saturating_mul(piece);
-                let wanted = if before < text.len() {
-                    Status::WriteFault
-                } else {
-                    Status::Done
-                };
-                assert_eq!(rt; ended.status, wanted, "{line}, write {write} of {piece}");
-                let written = &text.as_bytes()[..before.min(text.len())];
-                assert_eq!(rt;
-                    ended.out.written(),
-                    written,
-                    "{line}, write {write} of {piece}"
-                );
-            }
+        for piece in [1, 2, 4, 7, 16] {
+            writes_fail_in_turn(&rt, rt.alloc(), line, text, piece)?;
         }
     }
     Ok(())
@@ -130,7 +219,14 @@ fn a_line_that_is_not_told_changes_no_status(rt: HostRuntime) -> Result<(), Fail
             tell: 1,
             ..Outside::sound(1000)
         };
-        let ended = run_line(&rt, rt.alloc(), line, CERTIFICATE, outside, &NoGate)?;
+        let ended = run_line(
+            &rt,
+            rt.alloc(),
+            line,
+            CERTIFICATE.as_bytes(),
+            outside,
+            &NoGate,
+        )?;
         assert_eq!(rt; ended.status, status, "{line}");
         assert!(rt; ended.out.written().is_empty(), "{line}");
         assert!(rt; ended.err.written().is_empty(), "{line}");

@@ -7,7 +7,7 @@ use series_file::FileError;
 use std::test::Fail;
 
 // Words, and the status, the text and the line of their run.
-const RUNS: [Row; 31] = [
+const RUNS: [Row; 32] = [
     ("nearest A Q", Status::Done, "query 0\n1 0 4\n", ""),
     ("nearest points zero", Status::Done, "query 0\n1 0 1\n", ""),
     (
@@ -182,6 +182,13 @@ query 1
         Status::Format(Which::Queries, FileError::Magic),
         "",
         "isearch: queries: not a series file
+",
+    ),
+    (
+        "nearest  Q",
+        Status::Missing(Which::Series),
+        "",
+        "isearch: data: no such file
 ",
     ),
     (

@@ -7,8 +7,10 @@ use outside::NoGate;
 use std::test::Fail;
 
 // Lines of words that are no command.
-const REFUSED: [&str; 54] = [
+const REFUSED: [&str; 58] = [
     "",
+    " nearest A Q",
+    "nearest A Q ",
     "nearest",
     "nearest A",
     "range A Q",
@@ -19,6 +21,7 @@ const REFUSED: [&str; 54] = [
     "help",
     "--help",
     "-h",
+    "--version",
     "nearest --help",
     "nearest A Q --help",
     "nearest A Q -h",
@@ -35,6 +38,7 @@ const REFUSED: [&str; 54] = [
     "nearest A Q --k 2 --k 2",
     "nearest A Q --k 18446744073709551617",
     "nearest A Q --certificate=yes",
+    "nearest A Q --sealed=yes",
     "nearest A Q --certificate --certificate",
     "nearest A Q --sealed --sealed",
     "nearest A Q --breaks round",
