@@ -7,3 +7,4 @@ pub mod Fitting
 pub mod PartsSoFar
 pub mod Dealing
 pub mod Endings
+pub mod Sends

@@ -1,6 +1,9 @@
-//! What no clause says: that the calls answer with ample memory, rows from outside, and the end.
+//! What no clause says: that the calls answer with ample memory, rows from outside, the end, and a writer and two readers in
+//! threads.
 ghost use Rattle.std.specs.Prelude.{◌≡◌, ◌≤◌, IfOk};
 ghost use Rattle.live_collection.specs.Sides.{AreAllReaders, IsWriterOf, points_of};
+
+mod threads;
 
 use crate::{AppendError, LiveCollection, MAX_BATCHES, Reader, Writer};
 use breakpoints::Table;
