@@ -1,0 +1,9 @@
+pub mod NumbersRead
+pub mod NodesRead
+pub mod RootsRead
+pub mod Again
+pub mod Sound
+pub mod SoundWhole
+pub mod WholeRead
+pub mod Saves
+pub mod Ascents

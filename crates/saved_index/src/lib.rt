@@ -1,0 +1,22 @@
+//! A saved index: the one text of an index over a collection, and its reader, which believes nothing of the bytes.
+#![tactic(auto)]
+
+mod error;
+mod header;
+mod laws;
+mod node;
+mod numbers;
+mod reading;
+mod roots;
+mod savable;
+mod saving;
+
+pub use error::IndexFault;
+pub use laws::{one_text_law, reading_law};
+pub use savable::can_save;
+pub use saving::save;
+
+#[cfg(test)]
+mod plain_reader;
+#[cfg(test)]
+mod tests;
