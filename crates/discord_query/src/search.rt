@@ -18,6 +18,9 @@ use subtree_build::Index;
 /// How many leaves on each side are looked through before a series is searched for its nearest other.
 const REACH: u32 = 8192;
 
+/// How many members of a series' own leaf are measured before its means are made.
+const AT_ONCE: usize = 4;
+
 /// What all workers search: rows, their index, the leaf of each series, and how many discords are wanted.
 #[derive(Drop)]
 pub(crate) struct Search<'a, R> {
@@ -77,12 +80,36 @@ impl<'a, R: Rows> Search<'a, R> {
             _ => return false,
         };
         let nearer = NONE - limit - 1;
+        if self.has_near_at_once(number, home, nearer) {
+            return true;
+        }
         let view = self.view(number);
         for step in 0..REACH.min(self.index.leaf_count()) {
             if self.has_near(number, &view, home.wrapping_add(step), nearer) {
                 return true;
             }
             if self.has_near(number, &view, home.wrapping_sub(step + 1), nearer) {
+                return true;
+            }
+        }
+        false
+    }
+
+    /// Whether one of the first members of a leaf is of another series within a radius of this one. They are measured with no look
+    /// at their means: mostly one of them is near enough, and a view of the series costs more than some rows.
+    fn has_near_at_once(&self, number: u32, leaf: u32, radius: u64) -> bool
+        requires ready { IsReady R.collection self.now }
+        requires number { number < length (R.collection self.now.rows.now).series }
+        ensures { result ≡ true → HasNearOther (R.collection self.now.rows.now) number radius }
+    {
+        if leaf >= self.index.leaf_count() {
+            return false;
+        }
+        for (i, member) in self.index.leaf_members(leaf).iter().enumerate() {
+            if i >= AT_ONCE {
+                return false;
+            }
+            if self.is_near_other(number, member, radius) {
                 return true;
             }
         }
