@@ -1,8 +1,7 @@
 //! A certificate of the k nearest to one query: written from a search, and checked without any index.
-ghost use Rattle.std.specs.Prelude.{◌≡◌, ◌≤◌, ◌++◌, ℕ, List, IfOk, length};
-ghost use Rattle.certificate.specs.Printed.{IsCertificate};
+ghost use Rattle.std.specs.Prelude.{◌≡◌, ◌≤◌, IfOk, length};
 ghost use Rattle.certificate.specs.Verdict.{HaveAnswers};
-ghost use Rattle.query_core.specs.Questions.{Question};
+ghost use Rattle.examples.specs.Written.{HasCertificate, asked};
 
 use certificate::{Block, CertError, Reject, check, print, read};
 use isax_word::Layout;
@@ -34,14 +33,8 @@ pub fn written<T: Threads + Sync, R: Rows + Sync>(
     requires rows { (R.collection rows.now).points ≡ settings.now.layout.cuts.row_length }
     requires length { length query.now ≡ settings.now.layout.cuts.row_length }
     requires k { (1 ≤ k) × (k ≤ 1024) }
-    ensures { let asked : Question = record {
-      collection = R.collection rows.now;
-      query = query.now;
-      k = k;
-      layout = settings.now.layout;
-    } in
-        IfOk result (λ text. (answers : List ℕ) × (lines : List ℕ)
-        × IsCertificate asked settings.now.leaf_size 1 lines × (text.items ≡ answers ++ lines)) }
+    ensures { IfOk result (λ text. HasCertificate (asked (R.collection rows.now) query.now k settings.now.layout)
+        settings.now.leaf_size text.items) }
 {
     let index = build(rt, alloc, rows, settings, 4, &NoGate)?;
     let task = Task::new(rows, query, k, &settings.layout);
