@@ -1,11 +1,12 @@
 -- Leaves that were looked at, as entries: one that is near is added (`one_near`), one that is far is not (`one_far`), all below
 -- a root child that is far are not (`all_far`), and entries may be put into another order (`in_order`).
-use Rattle.std.proofs.Common.{◌≡◌, ℕ, ◌+◌, ◌<◌, ◌≤◌, List, [], ◌∷◌, ◌++◌, length, map, take, drop, get_or, sum_by, refl, sym, ap, subst, ◌∙◌, ⊎_elim, ◌⊎◌, inl, inr, arith}
+use Rattle.std.proofs.Common.{◌≡◌, ℕ, ◌+◌, ◌<◌, ◌≤◌, List, [], ◌∷◌, ◌++◌, Bool, true, false, cond, length, map, take, drop, get_or, sum_by, refl, sym, ap, subst, ◌∙◌, ⊎_elim, ◌⊎◌, inl, inr, append-nil, arith}
+use Rattle.std.specs.Prelude.{nat_le}
 use Rattle.std.specs.List.{All}
 use Rattle.std.specs.List.Sorted.{IsPermutation}
-use Rattle.std.proofs.lemmas.Bool.{cases_lt}
+use Rattle.std.proofs.lemmas.Bool.{cases_lt, le-leb, lt-leb}
 use Rattle.std.proofs.lemmas.List.{map-append, take-append-drop, take_more}
-use Rattle.std.proofs.lemmas.List.Elements.{All-append, All-cons, All-nil}
+use Rattle.std.proofs.lemmas.List.Elements.{All-append, All-cons, All-head, All-nil, All-tail, filter-append}
 use Rattle.std.proofs.lemmas.List.Sums.{sum_by-cons}
 use Rattle.std.proofs.lemmas.List.Sorted.{All-permutation, IsPermutation-map, sum_by-IsPermutation}
 use Rattle.list_totals.specs.Totals.{one_if_same, times}
@@ -13,7 +14,7 @@ use Rattle.list_totals.proofs.Totals.{times_append, times_push}
 use Rattle.series_core.specs.declared.queue_words.Entry.{Entry}
 use Rattle.search_machine.specs.Ground.{Ground}
 use Rattle.search_machine.proofs.Counts.{counts_or_not, equal_counts, times_cons}
-use Rattle.query_core.specs.NearLeaves.{AreNear, IsBelowLeaf, IsFar, IsLeafEntry, leaves_in}
+use Rattle.query_core.specs.NearLeaves.{AreNear, IsBelowLeaf, IsFar, IsLeafEntry, leaves_in, within_bound}
 
 -- the leaves of entries and of one more
 pub leaves_more : (es : List Entry) (e : Entry) → leaves_in (es ++ e ∷ []) ≡ leaves_in es ++ e.leaf ∷ []
@@ -24,10 +25,10 @@ pub leaves_next : (es : List Entry) (i : ℕ) (d : Entry) → i < length es
     → leaves_in (take (i + 1) es) ≡ leaves_in (take i es) ++ (get_or es i d).leaf ∷ []
 leaves_next es i d inside = ap leaves_in (take_more es i d inside) ∙ leaves_more (take i es) (get_or es i d)
 
--- of leaves that stand in no two entries, the next is not among those so far
-pub leaf_unmet : (es : List Entry) (i : ℕ) (d : Entry) → i < length es → ((l : ℕ) → times l (leaves_in es) ≤ 1)
-    → times (get_or es i d).leaf (leaves_in (take i es)) ≡ 0
-leaf_unmet es i d inside once =
+-- the leaf of the next entry stands once more in all entries than in those so far
+pub leaf_once_more : (es : List Entry) (i : ℕ) (d : Entry) → i < length es
+    → times (get_or es i d).leaf (leaves_in (take i es)) + 1 ≤ times (get_or es i d).leaf (leaves_in es)
+leaf_once_more es i d inside =
     let l = (get_or es i d).leaf in
     let parts : times l (leaves_in (take (i + 1) es)) + times l (leaves_in (drop (i + 1) es)) ≡ times l (leaves_in es)
     = sym (times_append l (leaves_in (take (i + 1) es)) (leaves_in (drop (i + 1) es)))
@@ -36,10 +37,104 @@ leaf_unmet es i d inside once =
     let more : times l (leaves_in (take (i + 1) es)) ≡ times l (leaves_in (take i es)) + one_if_same l l
     = ap (times l) (leaves_next es i d inside) ∙ times_push l (leaves_in (take i es)) l in
     let one = equal_counts l l refl in
-    let most = once l in
     omega arith
 
+-- leaves stand as often in entries in another order
+pub same_count : (es ds : List Entry) → IsPermutation es ds → (l : ℕ) → times l (leaves_in ds) ≡ times l (leaves_in es)
+same_count es ds moved l =
+    sym (total_is (leaves_in ds))
+    ∙ sum_by-IsPermutation (one_if_same l) (leaves_in es) (leaves_in ds)
+    (IsPermutation-map (λ (e : Entry). e.leaf) es ds moved)
+    ∙ total_is (leaves_in es)
+  where
+    total_is : (ls : List ℕ) → sum_by (one_if_same l) ls ≡ times l ls
+    total_is [] = refl
+    total_is (m ∷ ms) = sum_by-cons (one_if_same l) m ms ∙ ap (λ n. one_if_same l m + n) (total_is ms)
+
+-- the first entry is within the limit
+first_within : (v : ℕ) (e : Entry) (es : List Entry) → e.bound ≤ v → within_bound v (e ∷ es) ≡ e ∷ within_bound v es
+first_within v e es low =
+    ap (λ (b : Bool). cond b (e ∷ within_bound v es) (within_bound v es)) (le-leb e.bound v low)
+
+-- the first entry is not
+first_beyond : (v : ℕ) (e : Entry) (es : List Entry) → v < e.bound → within_bound v (e ∷ es) ≡ within_bound v es
+first_beyond v e es above =
+    ap (λ (b : Bool). cond b (e ∷ within_bound v es) (within_bound v es)) (lt-leb e.bound v above)
+
+-- of the entries so far and the next
+within_more : (v : ℕ) (es : List Entry) (i : ℕ) (d : Entry) → i < length es
+    → within_bound v (take (i + 1) es) ≡ within_bound v (take i es) ++ within_bound v (get_or es i d ∷ [])
+within_more v es i d inside =
+    ap (within_bound v) (take_more es i d inside)
+    ∙ filter-append (λ (e : Entry). nat_le e.bound v) (take i es) (get_or es i d ∷ [])
+
+-- one more entry is within the limit
+pub one_within : (v : ℕ) (es : List Entry) (i : ℕ) (d : Entry) → i < length es → (get_or es i d).bound ≤ v
+    → within_bound v (take (i + 1) es) ≡ within_bound v (take i es) ++ get_or es i d ∷ []
+one_within v es i d inside low =
+    within_more v es i d inside
+    ∙ ap (λ (ds : List Entry). within_bound v (take i es) ++ ds) (first_within v (get_or es i d) [] low)
+
+-- one more entry is not
+pub none_within : (v : ℕ) (es : List Entry) (i : ℕ) (d : Entry) → i < length es → v < (get_or es i d).bound
+    → within_bound v (take (i + 1) es) ≡ within_bound v (take i es)
+none_within v es i d inside above =
+    within_more v es i d inside
+    ∙ ap (λ (ds : List Entry). within_bound v (take i es) ++ ds) (first_beyond v (get_or es i d) [] above)
+    ∙ append-nil (within_bound v (take i es))
+
+-- a leaf stands no more often in the entries within a limit than in all
+pub within_times : (v l : ℕ) (es : List Entry) → times l (leaves_in (within_bound v es)) ≤ times l (leaves_in es)
+within_times v l [] = omega arith
+within_times v l (e ∷ es) = ⊎_elim
+    (λ (above : v < e.bound).
+    let same = ap (λ (ds : List Entry). times l (leaves_in ds)) (first_beyond v e es above) in
+    let rest = within_times v l es in
+    omega arith)
+    (λ (low : e.bound ≤ v).
+    let same = ap (λ (ds : List Entry). times l (leaves_in ds)) (first_within v e es low) in
+    let rest = within_times v l es in
+    omega arith)
+    (cases_lt v e.bound)
+
+-- what holds of all entries holds of those within a limit
+pub within_all : (g : Ground) (v : ℕ) (es : List Entry) → All (IsLeafEntry g) es → All (IsLeafEntry g) (within_bound v es)
+within_all g v [] all = All-nil (IsLeafEntry g)
+within_all g v (e ∷ es) all =
+    let rest = within_all g v es (All-tail (IsLeafEntry g) e es all) in
+    ⊎_elim
+    (λ (above : v < e.bound). subst (All (IsLeafEntry g)) (sym (first_beyond v e es above)) rest)
+    (λ (low : e.bound ≤ v). subst (All (IsLeafEntry g)) (sym (first_within v e es low))
+    (All-cons (IsLeafEntry g) e (within_bound v es) (All-head (IsLeafEntry g) e es all) rest))
+    (cases_lt v e.bound)
+
 module _ (g : Ground) (v : ℕ) where
+  -- members of a leaf whose bound is above the limit are far
+  beyond_far : (l bound : ℕ) → IsBelowLeaf g l bound → v < bound → (m : ℕ) → m ≡ l → IsFar g v m
+  beyond_far l bound low above m e s member =
+      let most = low s (subst (λ (n : ℕ). 0 < times s (g.members n)) e member) in omega arith
+
+  -- a leaf of entries is one of those within the limit, or is far
+  pub within_or_far : (l : ℕ) (es : List Entry) → All (IsLeafEntry g) es → 0 < times l (leaves_in es)
+      → (0 < times l (leaves_in (within_bound v es))) ⊎ IsFar g v l
+  within_or_far l [] all there = absurd (omega arith)
+  within_or_far l (e ∷ es) all there = ⊎_elim
+      (λ (above : v < e.bound). ⊎_elim
+      (λ (h : l ≡ e.leaf). inr (beyond_far e.leaf e.bound (All-head (IsLeafEntry g) e es all).low above l h))
+      (λ (t : 0 < times l (leaves_in es)).
+      subst (λ (ds : List Entry). (0 < times l (leaves_in ds)) ⊎ IsFar g v l) (sym (first_beyond v e es above))
+      (within_or_far l es (All-tail (IsLeafEntry g) e es all) t))
+      (times_cons l e.leaf (leaves_in es) there))
+      (λ (low : e.bound ≤ v).
+      let same = ap (λ (ds : List Entry). times l (leaves_in ds)) (first_within v e es low) in ⊎_elim
+      (λ (h : l ≡ e.leaf). inl (let one = equal_counts l e.leaf h in omega arith))
+      (λ (t : 0 < times l (leaves_in es)). ⊎_elim
+      (λ (k : 0 < times l (leaves_in (within_bound v es))). inl (omega arith))
+      (λ (far : IsFar g v l). inr far)
+      (within_or_far l es (All-tail (IsLeafEntry g) e es all) t))
+      (times_cons l e.leaf (leaves_in es) there))
+      (cases_lt v e.bound)
+
   -- no leaf was looked at yet
   pub none_near : AreNear g v (λ l. 0) []
   none_near = record {
@@ -104,9 +199,8 @@ module _ (g : Ground) (v : ℕ) where
       (all_far looked es (l ∷ []) far are)
     where
       far : (m : ℕ) → 0 < times m (l ∷ []) → IsFar g v m
-      far m some s member = ⊎_elim
-          (λ (e : m ≡ l).
-          let most = low s (subst (λ (n : ℕ). 0 < times s (g.members n)) e member) in omega arith)
+      far m some = ⊎_elim
+          (λ (e : m ≡ l). beyond_far l bound low above m e)
           (λ (h : 0 < times m []). absurd (omega arith))
           (times_cons m l [] some)
 
@@ -115,21 +209,9 @@ module _ (g : Ground) (v : ℕ) where
       → AreNear g v looked ds
   in_order looked es ds moved are = record {
     entries = All-permutation (IsLeafEntry g) es ds moved are.entries;
-    once = λ l. let most = are.once l in let e = same l in omega arith;
+    once = λ l. let most = are.once l in let e = same_count es ds moved l in omega arith;
     whole = λ l some. ⊎_elim
-        (λ (h : 0 < times l (leaves_in es)). inl (let e = same l in omega arith))
+        (λ (h : 0 < times l (leaves_in es)). inl (let e = same_count es ds moved l in omega arith))
         (λ (far : IsFar g v l). inr far)
         (are.whole l some);
   }
-    where
-      total_is : (l : ℕ) (ls : List ℕ) → sum_by (one_if_same l) ls ≡ times l ls
-      total_is l [] = refl
-      total_is l (m ∷ ms) =
-          sum_by-cons (one_if_same l) m ms ∙ ap (λ n. one_if_same l m + n) (total_is l ms)
-
-      same : (l : ℕ) → times l (leaves_in ds) ≡ times l (leaves_in es)
-      same l =
-          sym (total_is l (leaves_in ds))
-          ∙ sum_by-IsPermutation (one_if_same l) (leaves_in es) (leaves_in ds)
-          (IsPermutation-map (λ (e : Entry). e.leaf) es ds moved)
-          ∙ total_is l (leaves_in es)

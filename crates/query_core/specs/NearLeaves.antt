@@ -1,6 +1,6 @@
 -- The leaves that may have a member within a limit, as entries.
-use Rattle.std.specs.Prelude.{ℕ, ◌<◌, ◌≤◌, ◌⊎◌, List, map}
-use Rattle.std.specs.List.{All}
+use Rattle.std.specs.Prelude.{ℕ, ◌<◌, ◌≤◌, ◌⊎◌, List, map, nat_le}
+use Rattle.std.specs.List.{All, filter}
 use Rattle.list_totals.specs.Totals.{times}
 use Rattle.series_core.specs.declared.queue_words.Entry.{Entry}
 use Rattle.search_machine.specs.Ground.{Ground}
@@ -8,6 +8,10 @@ use Rattle.search_machine.specs.Ground.{Ground}
 -- the leaves of entries
 abbrev pub leaves_in : List Entry → List ℕ
 leaves_in es = map (λ e. e.leaf) es
+
+-- the entries whose bound is not above v
+abbrev pub within_bound : ℕ → List Entry → List Entry
+within_bound v es = filter (λ e. nat_le e.bound v) es
 
 -- no member of leaf l is nearer than a bound
 abbrev pub IsBelowLeaf : Ground → ℕ → ℕ → Type 0

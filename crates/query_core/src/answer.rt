@@ -15,9 +15,6 @@ use subtree_build::Index;
 /// Where more of 32 members of a sample than these are within the first limit, a closer one is not looked for.
 const NEARLY_ALL: u64 = 30;
 
-/// Where more of 32 members of a sample than these are within the closer limit, all rows are read.
-const FEW: u64 = 3;
-
 /// The answer alone, the k nearest rows, without what an outcome has for a certificate. One worker needs no queues, so
 /// it is the same for any number of them.
 pub fn one_worker_answer<R: Rows>(
@@ -45,19 +42,15 @@ impl<'a, R: Rows> Task<'a, R> {
     {
         search_law(self, index);
         let first = self.first_limit(alloc, index)?;
-        if !self.means_tell(index, first, NEARLY_ALL) {
-            return self.answer_by_rows(alloc, index, first);
-        }
-        let limit = self.closer_limit(alloc, index, first)?;
-        if self.means_tell(index, limit, FEW) {
-            self.nearest_by_leaves(alloc, index, limit)
+        if self.means_tell(index, first, NEARLY_ALL) {
+            self.nearest_by_leaves(alloc, index, first)
         } else {
-            self.answer_by_rows(alloc, index, limit)
+            self.answer_by_rows(alloc, index, first)
         }
     }
 
-    // The list of the answer, by all rows.
-    fn answer_by_rows(&self, alloc: Global, index: &Index, limit: u64) -> Result<KBest, NoMemory>
+    /// The list of the answer, by all rows.
+    pub(crate) fn answer_by_rows(&self, alloc: Global, index: &Index, limit: u64) -> Result<KBest, NoMemory>
         requires fits { IndexFits self.now.collection self.now.layout index.now }
         requires limit { last_of self.now ≤ limit }
         ensures { IfOk result (λ best. best.pairs ≡ answer self.now.collection self.now.query self.now.k) }

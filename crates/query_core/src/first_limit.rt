@@ -1,26 +1,19 @@
-//! What a search for the answer alone learns before it begins: a first limit, a closer one, and whether means tell its members
-//! apart.
-ghost use Rattle.std.specs.Prelude.{◌≡◌, ℕ, ◌≤◌, IfOk};
-ghost use Rattle.std.specs.List.{All};
-ghost use Rattle.list_totals.specs.Totals.{times};
+//! What a search for the answer alone learns before it begins: a first limit, and whether means tell its members apart.
+ghost use Rattle.std.specs.Prelude.{◌≤◌, IfOk};
 ghost use Rattle.subtree_build.specs.Fits.{Fits as IndexFits};
-ghost use Rattle.query_core.specs.NearLeaves.{IsLeafEntry, leaves_in};
-ghost use Rattle.query_core.specs.Questions.{last_of, search_over};
+ghost use Rattle.query_core.specs.Questions.{last_of};
 
 use crate::index_laws::search_law;
 use crate::scan::distance_of_worst;
 use crate::task::Task;
 use mean_bound::Means;
 use outside::NoMemory;
-use series_core::{Entry, KBest, NONE, Rows};
+use series_core::{KBest, NONE, Rows};
 use std::alloc::Global;
 use subtree_build::Index;
 
 /// Of how many leaves the means are tried.
 const SAMPLE: u32 = 16;
-
-/// How many leaves of least bound are scanned for a closer limit.
-const CLOSEST: usize = 64;
 
 impl<'a, R: Rows> Task<'a, R> {
     /// A limit that is not below the last distance: that of the k-th pair of the start leaf's members, and where these are fewer,
@@ -41,46 +34,6 @@ impl<'a, R: Rows> Task<'a, R> {
             self.scan_leaf(index, leaf, NONE, &mut list);
         }
         Ok(distance_of_worst(&list))
-    }
-
-    /// A limit that is not below the last distance either: that of the k-th pair of the members of the leaves of least bound.
-    pub(crate) fn closer_limit(
-        &self,
-        alloc: Global,
-        index: &Index,
-        limit: u64,
-    ) -> Result<u64, NoMemory>
-        requires fits { IndexFits self.now.collection self.now.layout index.now }
-        requires limit { last_of self.now ≤ limit }
-        ensures limit { IfOk result (λ v. last_of self.now ≤ v) }
-    {
-        let mut entries = self.near_leaves(alloc, index, limit)?;
-        if entries.len() <= CLOSEST {
-            return self.limit_of_leaves(alloc, index, &entries, limit);
-        }
-        let (closest, _, _) = entries.select_nth_unstable_by_key(CLOSEST, |entry| entry.bound);
-        self.limit_of_leaves(alloc, index, closest, limit)
-    }
-
-    // A limit that is not below the last distance: that of the k-th pair of the members of these leaves, or the limit that was
-    // known where it is less.
-    fn limit_of_leaves(
-        &self,
-        alloc: Global,
-        index: &Index,
-        entries: &[Entry],
-        limit: u64,
-    ) -> Result<u64, NoMemory>
-        requires fits { IndexFits self.now.collection self.now.layout index.now }
-        requires limit { last_of self.now ≤ limit }
-        requires leaves { All (IsLeafEntry (search_over self.now index.now 1 1)) entries.now }
-        requires once { (l : ℕ) → times l (leaves_in entries.now) ≤ 1 }
-        ensures limit { IfOk result (λ v. last_of self.now ≤ v) }
-    {
-        search_law(self, index);
-        let mut list = KBest::new(alloc, self.k())?;
-        self.scan_entries(index, entries, limit, &mut list);
-        Ok(distance_of_worst(&list).min(limit))
     }
 
     /// Whether the means and the finer means of a sample of leaves lie above the limit for all but at most so many of 32 members.

@@ -1,9 +1,8 @@
-//! The leaves that may have a member within a limit, each with its bound, and the answer by them.
+//! The leaves that may have a member within a limit, each with its bound, and how they are scanned.
 //! In which order they are scanned changes how many are passed over, and never what is found.
 ghost use Rattle.std.specs.Prelude.{◌≡◌, ℕ, ◌+◌, ◌<◌, ◌≤◌, ◌++◌, ◌∷◌, List, [], IfOk, length};
 ghost use Rattle.std.specs.List.{All};
 ghost use Rattle.list_totals.specs.Totals.{once_below, one_if_same, times};
-ghost use Rattle.series_core.specs.Answer.{answer};
 ghost use Rattle.subtree_build.specs.Fits.{Fits as IndexFits};
 ghost use Rattle.subtree_build.specs.Outline.{leaf_numbers};
 ghost use Rattle.subtree_build.specs.Start.{node_at};
@@ -20,38 +19,8 @@ use std::alloc::Global;
 use subtree_build::Index;
 
 impl<'a, R: Rows> Task<'a, R> {
-    /// The list of the answer, by the leaves that may have a member within the limit.
-    pub(crate) fn nearest_by_leaves(
-        &self,
-        alloc: Global,
-        index: &Index,
-        limit: u64,
-    ) -> Result<KBest, NoMemory>
-        requires fits { IndexFits self.now.collection self.now.layout index.now }
-        requires limit { last_of self.now ≤ limit }
-        ensures { IfOk result (λ best. best.pairs ≡ answer self.now.collection self.now.query self.now.k) }
-    {
-        let mut entries = self.near_leaves(alloc, index, limit)?;
-        entries.sort_unstable_by_key(|entry| entry.bound);
-        let mut list = KBest::new(alloc, self.k())?;
-        self.scan_leaves(index, &entries, limit, &mut list);
-        Ok(list)
-    }
-
-    // Scans the leaves of these entries into an empty list. One whose bound is above the k-th pair so far is passed over.
-    fn scan_leaves(&self, index: &Index, entries: &[Entry], limit: u64, list: &mut KBest)
-        requires fits { IndexFits self.now.collection self.now.layout index.now }
-        requires limit { last_of self.now ≤ limit }
-        requires near { let g = search_over self.now index.now 1 1 in
-            AreNear g limit (λ l. once_below l (length index.now.leaves)) entries.now }
-        requires list { list.old ≡ record { k = self.now.k; pairs = [] } }
-        ensures { list.new.pairs ≡ answer self.now.collection self.now.query self.now.k }
-    {
-        search_law(self, index);
-        self.scan_entries(index, entries, limit, list);
-    }
-
-    /// Scans the leaves of these entries into an empty list, which then has what is near of the members of all of them.
+    /// Scans the leaves of these entries into a list. One whose bound is above the k-th pair so far is passed over: it has nothing
+    /// that the list would keep at the end.
     pub(crate) fn scan_entries(
         &self,
         index: &Index,
@@ -62,11 +31,11 @@ impl<'a, R: Rows> Task<'a, R> {
         requires fits { IndexFits self.now.collection self.now.layout index.now }
         requires limit { last_of self.now ≤ limit }
         requires leaves { All (IsLeafEntry (search_over self.now index.now 1 1)) entries.now }
-        requires once { (l : ℕ) → times l (leaves_in entries.now) ≤ 1 }
-        requires list { list.old ≡ record { k = self.now.k; pairs = [] } }
-        ensures k { list.new.k ≡ self.now.k }
-        ensures size { length list.new.pairs ≤ self.now.k }
-        ensures sound { ListSound (search_over self.now index.now 1 1) (leaves_in entries.now) list.new.pairs }
+        requires list { (list.old.k ≡ self.now.k) × (length list.old.pairs ≤ self.now.k) }
+        ensures list { (list.new.k ≡ self.now.k) × (length list.new.pairs ≤ self.now.k) }
+        ensures met { let g = search_over self.now index.now 1 1 in (met : List ℕ)
+            → ((l : ℕ) → times l (met ++ leaves_in entries.now) ≤ 1) → ListSound g met list.old.pairs
+            → ListSound g (met ++ leaves_in entries.now) list.new.pairs }
     {
         search_law(self, index);
         for entry in entries {
@@ -74,8 +43,8 @@ impl<'a, R: Rows> Task<'a, R> {
         }
     }
 
-    // Scans the leaf of an entry where the entry's bound is not above the k-th pair so far.
-    fn scan_entry(&self, index: &Index, entry: &Entry, limit: u64, list: &mut KBest)
+    /// Scans the leaf of an entry where the entry's bound is not above the k-th pair so far.
+    pub(crate) fn scan_entry(&self, index: &Index, entry: &Entry, limit: u64, list: &mut KBest)
         requires fits { IndexFits self.now.collection self.now.layout index.now }
         requires limit { last_of self.now ≤ limit }
         requires entry { IsLeafEntry (search_over self.now index.now 1 1) entry.now }

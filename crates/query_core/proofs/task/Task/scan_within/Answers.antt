@@ -1,0 +1,54 @@
+-- What lies beyond the limit is as good as scanned, and the order changes nothing.
+use Rattle.std.proofs.Common.{◌≡◌, ◌+◌, ◌≤◌, ◌++◌, List, ℕ, sym, subst, arith}
+use Rattle.std.specs.List.{All}
+use Rattle.std.specs.List.Sorted.{IsPermutation}
+use Rattle.std.proofs.lemmas.List.Sorted.{All-permutation}
+use Rattle.list_totals.specs.Totals.{times}
+use Rattle.list_totals.proofs.Totals.{times_append}
+use Rattle.series_core.specs.declared.queue_words.Entry.{Entry}
+use Rattle.search_machine.specs.Ground.{last}
+use Rattle.search_machine.specs.Sound.{ListSound}
+use Rattle.query_core.specs.NearLeaves.{IsLeafEntry, leaves_in, within_bound}
+use Rattle.query_core.specs.Questions.{search_over}
+use Rattle.query_core.proofs.LeavesNear.{same_count, within_all, within_times}
+use Rattle.query_core.proofs.Nearest.{beyond_met, same_leaves}
+use Rattle.query_core.proofs.task.Task.scan_within.Goals as goal
+
+pub scan_entries-requires-clause-leaves : goal.scan_entries-requires-clause-leaves
+scan_entries-requires-clause-leaves g c =
+    let ground = search_over c.args.self.now c.args.index.now 1 1 in
+    subst (All (IsLeafEntry ground)) (sym c.deref.ensures.value)
+    (All-permutation (IsLeafEntry ground) c.in_ok-within.within.items c.sort_unstable_by_key.new.self.items
+    c.sort_unstable_by_key.ensures.permutation
+    (subst (All (IsLeafEntry ground)) (sym c.in_ok-within.ensures)
+    (within_all ground c.args.limit c.args.entries.now c.requires.leaves)))
+
+pub returns-clause-met : goal.returns-clause-met
+returns-clause-met g c met once sound =
+    let ground = search_over c.args.self.now c.args.index.now 1 1 in
+    let fits = c.search_law.ensures.fits 1 1 (omega arith) (omega arith) in
+    let es = c.args.entries.now in
+    let v = c.args.limit in
+    let kept = c.deref.result.now in
+    let moved : IsPermutation (within_bound v es) kept
+    = subst (λ (ds : List Entry). IsPermutation ds kept) c.in_ok-within.ensures
+    (subst (IsPermutation c.in_ok-within.within.items) (sym c.deref.ensures.value)
+    c.sort_unstable_by_key.ensures.permutation) in
+    let same : (l : ℕ) → times l (met ++ leaves_in kept) ≡ times l (met ++ leaves_in (within_bound v es))
+    = λ l.
+    let a = times_append l met (leaves_in kept) in
+    let b = times_append l met (leaves_in (within_bound v es)) in
+    let e = same_count (within_bound v es) kept moved l in
+    omega arith in
+    let fewer : (l : ℕ) → times l (met ++ leaves_in kept) ≤ 1
+    = λ l.
+    let a = times_append l met (leaves_in (within_bound v es)) in
+    let b = times_append l met (leaves_in es) in
+    let e = same l in
+    let f = within_times v l es in
+    let most = once l in
+    omega arith in
+    let enough : last ground ≤ v = omega (arith, c.search_law.ensures.last 1 1, c.requires.limit) in
+    beyond_met ground fits met es v c.scan_entries.new.list.pairs enough c.requires.leaves
+    (same_leaves ground (met ++ leaves_in kept) (met ++ leaves_in (within_bound v es)) c.scan_entries.new.list.pairs same
+    (c.scan_entries.ensures.met met fewer sound))

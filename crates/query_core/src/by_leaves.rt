@@ -1,0 +1,94 @@
+//! The answer by the leaves that are near: those of least bound are scanned first, which tells a closer limit, and the list that they
+//! gave is handed on to the leaves that are left.
+ghost use Rattle.std.specs.Prelude.{◌≡◌, ℕ, ◌≤◌, ◌++◌, List, IfOk, length};
+ghost use Rattle.std.specs.List.{All};
+ghost use Rattle.list_totals.specs.Totals.{times};
+ghost use Rattle.series_core.specs.Answer.{answer};
+ghost use Rattle.subtree_build.specs.Fits.{Fits as IndexFits};
+ghost use Rattle.search_machine.specs.Sound.{ListSound};
+ghost use Rattle.query_core.specs.NearLeaves.{IsLeafEntry, leaves_in, within_bound};
+ghost use Rattle.query_core.specs.Questions.{last_of, search_over};
+
+use crate::index_laws::search_law;
+use crate::scan::distance_of_worst;
+use crate::task::Task;
+use outside::NoMemory;
+use series_core::{Entry, KBest, Rows};
+use std::alloc::Global;
+use subtree_build::Index;
+
+/// How many leaves of least bound are scanned for a closer limit.
+const CLOSEST: usize = 64;
+
+/// Where more of 32 members of a sample than these are within the closer limit, all rows are read.
+const FEW: u64 = 3;
+
+impl<'a, R: Rows> Task<'a, R> {
+    /// The list of the answer, by the leaves that may have a member within the limit, or by all rows where the closer limit shows that
+    /// means tell too little.
+    pub(crate) fn nearest_by_leaves(
+        &self,
+        alloc: Global,
+        index: &Index,
+        first: u64,
+    ) -> Result<KBest, NoMemory>
+        requires fits { IndexFits self.now.collection self.now.layout index.now }
+        requires limit { last_of self.now ≤ first }
+        ensures { IfOk result (λ best. best.pairs ≡ answer self.now.collection self.now.query self.now.k) }
+    {
+        search_law(self, index);
+        let mut near = self.near_leaves(alloc, index, first)?;
+        let mut list = KBest::new(alloc, self.k())?;
+        if near.len() <= CLOSEST {
+            self.scan_within(alloc, index, &near, first, &mut list)?;
+            return Ok(list);
+        }
+        let (closest, next, others) = near.select_nth_unstable_by_key(CLOSEST, |entry| entry.bound);
+        self.scan_within(alloc, index, closest, first, &mut list)?;
+        let limit = distance_of_worst(&list).min(first);
+        if !self.means_tell(index, limit, FEW) {
+            return self.answer_by_rows(alloc, index, limit);
+        }
+        self.scan_entry(index, next, limit, &mut list);
+        self.scan_within(alloc, index, others, limit, &mut list)?;
+        Ok(list)
+    }
+
+    // Scans the leaves of these entries into a list, in ascending order of their bounds. What lies beyond the limit is left out.
+    fn scan_within(
+        &self,
+        alloc: Global,
+        index: &Index,
+        entries: &[Entry],
+        limit: u64,
+        list: &mut KBest,
+    ) -> Result<(), NoMemory>
+        requires fits { IndexFits self.now.collection self.now.layout index.now }
+        requires limit { last_of self.now ≤ limit }
+        requires leaves { All (IsLeafEntry (search_over self.now index.now 1 1)) entries.now }
+        requires list { (list.old.k ≡ self.now.k) × (length list.old.pairs ≤ self.now.k) }
+        ensures list { IfOk result (λ _. (list.new.k ≡ self.now.k) × (length list.new.pairs ≤ self.now.k)) }
+        ensures met { let g = search_over self.now index.now 1 1 in IfOk result (λ _. (met : List ℕ)
+            → ((l : ℕ) → times l (met ++ leaves_in entries.now) ≤ 1) → ListSound g met list.old.pairs
+            → ListSound g (met ++ leaves_in entries.now) list.new.pairs) }
+    {
+        search_law(self, index);
+        let mut within = within_bound(alloc, entries, limit)?;
+        within.sort_unstable_by_key(|entry| entry.bound);
+        self.scan_entries(index, &within, limit, list);
+        Ok(())
+    }
+}
+
+// The entries whose bound is not above the limit.
+fn within_bound(alloc: Global, entries: &[Entry], limit: u64) -> Result<Vec<Entry>, NoMemory>
+    ensures { IfOk result (λ es. es.items ≡ within_bound limit entries.now) }
+{
+    let mut within = Vec::new(alloc);
+    for entry in entries {
+        if entry.bound <= limit {
+            within.push(*entry)?;
+        }
+    }
+    Ok(within)
+}
