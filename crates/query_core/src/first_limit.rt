@@ -15,6 +15,9 @@ use subtree_build::Index;
 /// Of how many leaves the means are tried.
 const SAMPLE: u32 = 16;
 
+/// Of how many members of each of them.
+const MEMBERS: usize = 32;
+
 impl<'a, R: Rows> Task<'a, R> {
     /// A limit that is not below the last distance: that of the k-th pair of the start leaf's members, and where these are fewer,
     /// of those of the next leaves too.
@@ -49,7 +52,7 @@ impl<'a, R: Rows> Task<'a, R> {
                 break;
             }
             let finer = index.leaf_finer(leaf);
-            for (place, means) in index.leaf_means(leaf).iter().enumerate() {
+            for (place, means) in index.leaf_means(leaf).iter().enumerate().take(MEMBERS) {
                 members = members.wrapping_add(1);
                 near = near.wrapping_add(u64::from(self.may_be_near(means, finer, place, limit)));
             }
