@@ -7,3 +7,7 @@ pub mod SoundWhole
 pub mod WholeRead
 pub mod Saves
 pub mod Ascents
+pub mod TreeSaves
+pub mod LeavesTold
+pub mod OfSaved
+pub mod NoFault
