@@ -19,11 +19,10 @@ use Rattle.subtree_build.specs.Fits.{HasItsWord, MembersAreSeries, WordContainsM
 use Rattle.subtree_build.specs.Index.{IndexParts}
 use Rattle.subtree_build.specs.Members.{numbers_of, series_at}
 use Rattle.saved_index.specs.declared.error.IndexFault.TheVariants.{Length, Count, Unfit, TooLong}
-use Rattle.saved_index.specs.Faults.{WordedLeaf, fault_of, first_unfit, index_fault, is_fit, layout_for, saved_leaves, suits}
+use Rattle.saved_index.specs.Faults.{WordedLeaf, fault_of, first_unfit, index_fault, is_fit, saved_leaves, suits}
 use Rattle.saved_index.specs.IndexText.{IndexText, saved_of}
 use Rattle.saved_index.specs.Laws.{IsIndexOf}
 use Rattle.saved_index.specs.Reading.{saved_in}
-use Rattle.saved_index.specs.Saved.{Saved}
 use Rattle.saved_index.proofs.Again.{saved_again}
 use Rattle.saved_index.proofs.LeavesTold.{worded_leaf}
 use Rattle.saved_index.proofs.OfSaved.{leaves_of_saved}

@@ -1,8 +1,7 @@
 -- What is saved of an index says what the index is: its nodes (`nodes_of_saved`), its leaves (`leaves_of_saved`), and over one
 -- collection the whole of it (`same_index`).
-use Rattle.std.proofs.Common.{◌≡◌, ℕ, zero, suc, ◌+◌, List, [], ◌∷◌, ◌++◌, length, map, refl, sym, ap, ◌∙◌, All}
+use Rattle.std.proofs.Common.{◌≡◌, ℕ, ◌+◌, List, [], ◌∷◌, ◌++◌, length, map, refl, sym, ap, ◌∙◌, All}
 use Rattle.std.specs.Prelude.{flat_map}
-use Rattle.std.specs.List.{range_with_len}
 use Rattle.std.proofs.lemmas.List.{length-map, map-append}
 use Rattle.std.proofs.lemmas.List.Elements.{All-head, All-tail}
 use Rattle.series_core.specs.Collection.{Collection}
@@ -23,7 +22,7 @@ use Rattle.subtree_build.proofs.Numbering.{nodes_are_numbered}
 use Rattle.saved_index.specs.Faults.{WordedLeaf, saved_leaves}
 use Rattle.saved_index.specs.IndexText.{filled, header_for, numbers_in_leaf, saved_of}
 use Rattle.saved_index.specs.Laws.{AreSame, IsIndexOf}
-use Rattle.saved_index.specs.Saved.{Header, Saved}
+use Rattle.saved_index.specs.Saved.{Saved}
 use Rattle.saved_index.proofs.LeavesTold.{leaves_by_number, leaves_told, worded_leaf}
 
 -- the leaves of a filled tree hold the numbers of the members of the tree's leaves
