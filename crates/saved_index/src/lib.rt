@@ -2,9 +2,11 @@
 #![tactic(auto)]
 
 mod error;
+mod fitting;
 mod header;
 mod laws;
 mod loading;
+mod members;
 mod node;
 mod numbers;
 mod reading;
