@@ -3,5 +3,8 @@ pub mod Saved
 pub mod Reading
 pub mod Fields
 pub mod IndexText
+pub mod Faults
 pub mod Laws
 pub mod Parsed
+pub mod Loading
+pub mod Membership

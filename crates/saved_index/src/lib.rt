@@ -2,8 +2,11 @@
 #![tactic(auto)]
 
 mod error;
+mod fitting;
 mod header;
 mod laws;
+mod loading;
+mod members;
 mod node;
 mod numbers;
 mod reading;
@@ -12,7 +15,8 @@ mod savable;
 mod saving;
 
 pub use error::IndexFault;
-pub use laws::{one_text_law, reading_law};
+pub use laws::{no_fault_law, one_text_law, reading_law, text_tells_index_law, tree_law};
+pub use loading::{LoadedIndex, load};
 pub use savable::can_save;
 pub use saving::save;
 
