@@ -39,13 +39,13 @@ pub adds_asking : (at : ℕ) (groups : List Group) (i : ℕ) (g : Group) (a : As
 adds_asking at groups i g a last here line right =
     let new : Group = record { batch = g.batch; askings = g.askings ++ (a ∷ []) } in record {
       lines =
-        push_last group_lines groups i g new (asking_line a) last here
-        (ap (λ t. append_line g.batch.name ∷ t) (map_push asking_line g.askings a));
+          push_last group_lines groups i g new (asking_line a) last here
+          (ap (λ t. append_line g.batch.name ∷ t) (map_push asking_line g.askings a));
       numbers =
-        push_last group_numbers groups i g new at last here
-        (ap (λ t. g.batch.line ∷ t) (map_push (λ (b : Asking). b.queries.line) g.askings a)
-        ∙ ap (λ n. g.batch.line ∷ (map (λ (b : Asking). b.queries.line) g.askings ++ (n ∷ []))) line);
+          push_last group_numbers groups i g new at last here
+          (ap (λ t. g.batch.line ∷ t) (map_push (λ (b : Asking). b.queries.line) g.askings a)
+          ∙ ap (λ n. g.batch.line ∷ (map (λ (b : Asking). b.queries.line) g.askings ++ (n ∷ []))) line);
       right =
-        keep_last IsGroup groups i g new here
-        (λ (is : IsGroup g). record { name = is.name; askings = all_push IsAsking g.askings a is.askings right });
+          keep_last IsGroup groups i g new here
+          (λ (is : IsGroup g). record { name = is.name; askings = all_push IsAsking g.askings a is.askings right });
     }

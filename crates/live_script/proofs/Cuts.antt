@@ -15,9 +15,9 @@ lacks_before byte [] (suc i) below none = absurd (omega arith)
 lacks_before byte (c ∷ text) (suc i) below none =
     and_from (not (c == byte)) (lacks byte (take i text))
     (⊎_elim
-      (λ (is : (c == byte) ≡ true). absurd (none zero (omega arith) is))
-      (λ (other : (c == byte) ≡ false). not_from_false (c == byte) other)
-      (cases_Bool (c == byte)))
+    (λ (is : (c == byte) ≡ true). absurd (none zero (omega arith) is))
+    (λ (other : (c == byte) ≡ false). not_from_false (c == byte) other)
+    (cases_Bool (c == byte)))
     (lacks_before byte text i (omega arith) (λ k h e. none (suc k) (omega arith) e))
 
 -- a text that has the byte at none of its places lacks it
@@ -34,9 +34,9 @@ pub cut_here : (byte : ℕ) (text : List ℕ) (i : ℕ) → i < length text
 cut_here byte text i below none here = record {
   first = lacks_before byte text i (omega arith) none;
   joined =
-    sym (take-append-drop i text)
-    ∙ ap (λ (t : List ℕ). take i text ++ t) (drop_more text i 0 below)
-    ∙ ap (λ c. take i text ++ (c ∷ drop (i + 1) text)) (eqb-true (get_or text i 0) byte here);
+      sym (take-append-drop i text)
+      ∙ ap (λ (t : List ℕ). take i text ++ t) (drop_more text i 0 below)
+      ∙ ap (λ c. take i text ++ (c ∷ drop (i + 1) text)) (eqb-true (get_or text i 0) byte here);
 }
 
 -- a text that has the byte does not lack it
@@ -52,7 +52,7 @@ lacks_not byte (c ∷ front) behind lacking =
 pub lacks_right : (byte : ℕ) (front behind : List ℕ) → lacks byte (front ++ behind) ≡ true → lacks byte behind ≡ true
 lacks_right byte front behind lacking =
     (and_parts (lacks byte front) (lacks byte behind)
-      (sym (list_all-append (λ c. not (c == byte)) front behind) ∙ lacking)).1
+    (sym (list_all-append (λ c. not (c == byte)) front behind) ∙ lacking)).1
 
 -- what two texts lack, both together lack
 pub lacks_both : (byte : ℕ) (front behind : List ℕ) → lacks byte front ≡ true → lacks byte behind ≡ true
@@ -67,17 +67,17 @@ same_cut byte [] [] behind more first second e = (refl, cc)
 same_cut byte [] (d ∷ other) behind more first second e =
     let same : byte ≡ d = cc in
     absurd (both_ways (d == byte)
-      (not-true (d == byte) (and_parts (not (d == byte)) (lacks byte other) second).0)
-      (eq-eqb d byte (sym same)))
+    (not-true (d == byte) (and_parts (not (d == byte)) (lacks byte other) second).0)
+    (eq-eqb d byte (sym same)))
 same_cut byte (c ∷ front) [] behind more first second e =
     let same : c ≡ byte = cc in
     absurd (both_ways (c == byte)
-      (not-true (c == byte) (and_parts (not (c == byte)) (lacks byte front) first).0)
-      (eq-eqb c byte same))
+    (not-true (c == byte) (and_parts (not (c == byte)) (lacks byte front) first).0)
+    (eq-eqb c byte same))
 same_cut byte (c ∷ front) (d ∷ other) behind more first second e =
     let head : c ≡ d = cc in
     let tail : front ++ (byte ∷ behind) ≡ other ++ (byte ∷ more) = cc in
     let rest = same_cut byte front other behind more
-      (and_parts (not (c == byte)) (lacks byte front) first).1
-      (and_parts (not (d == byte)) (lacks byte other) second).1 tail in
+    (and_parts (not (c == byte)) (lacks byte front) first).1
+    (and_parts (not (d == byte)) (lacks byte other) second).1 tail in
     (cc (head, rest.0), rest.1)

@@ -40,12 +40,12 @@ take_lines_are zero groups = refl
 take_lines_are (suc n) [] = refl
 take_lines_are (suc n) (g ∷ groups) =
     let size : n - length g.askings ≡ n - length (map asking_line g.askings) =
-      ap (λ m. n - m) (sym (length-map g.askings asking_line)) in
+    ap (λ m. n - m) (sym (length-map g.askings asking_line)) in
     ap (λ (t : List (List ℕ)). append_line g.batch.name ∷ t)
     (ap (λ (t : List (List ℕ)). t ++ script_lines (take_lines (n - length g.askings) groups))
-      (sym (take-map asking_line n g.askings))
+    (sym (take-map asking_line n g.askings))
     ∙ ap (λ (t : List (List ℕ)). take n (map asking_line g.askings) ++ t)
-      (take_lines_are (n - length g.askings) groups ∙ ap (λ m. take m (script_lines groups)) size)
+    (take_lines_are (n - length g.askings) groups ∙ ap (λ m. take m (script_lines groups)) size)
     ∙ sym (take_joined n (map asking_line g.askings) (script_lines groups)))
 
 -- what holds of each holds of the first
@@ -75,11 +75,11 @@ begins_less n count bytes less begins =
       right = take_lines_right n begins.groups begins.right;
       size = ap length are ∙ length-take-le n lines (omega arith);
       text =
-        begins.text
-        ∙ ap (λ (t : List (List ℕ)). lines_text t ++ begins.rest) (sym (take-append-drop n lines))
-        ∙ ap (λ (t : List ℕ). t ++ begins.rest) (flat_map-append (λ line. line ++ (10 ∷ [])) (take n lines) (drop n lines))
-        ∙ append_assoc (lines_text (take n lines)) (lines_text (drop n lines)) begins.rest
-        ∙ ap (λ (t : List (List ℕ)). lines_text t ++ (lines_text (drop n lines) ++ begins.rest)) (sym are);
+          begins.text
+          ∙ ap (λ (t : List (List ℕ)). lines_text t ++ begins.rest) (sym (take-append-drop n lines))
+          ∙ ap (λ (t : List ℕ). t ++ begins.rest) (flat_map-append (λ line. line ++ (10 ∷ [])) (take n lines) (drop n lines))
+          ∙ append_assoc (lines_text (take n lines)) (lines_text (drop n lines)) begins.rest
+          ∙ ap (λ (t : List (List ℕ)). lines_text t ++ (lines_text (drop n lines) ++ begins.rest)) (sym are);
     }
 
 -- of two faults none is before the other

@@ -58,7 +58,7 @@ same_lines [] ys rest more all others e few = (ys, refl, e)
 same_lines (x ∷ xs) [] rest more all others e few = absurd (omega arith)
 same_lines (x ∷ xs) (y ∷ ys) rest more all others e few =
     let cut = same_cut 10 x y (lines_text xs ++ rest) (lines_text ys ++ more) all.0 others.0
-      (sym (text_cons x xs rest) ∙ e ∙ text_cons y ys more) in
+    (sym (text_cons x xs rest) ∙ e ∙ text_cons y ys more) in
     let tail = same_lines xs ys rest more all.1 others.1 cut.1 (omega arith) in (
       tail.0,
       ap (λ (line : List ℕ). line ∷ ys) (sym cut.0) ∙ ap (λ (lines : List (List ℕ)). x ∷ lines) tail.1,

@@ -30,7 +30,7 @@ same_asking : (a b : Asking) → IsAsking a → IsAsking b → asking_line a ≡
 same_asking a b right other lines numbers =
     let asked : a.queries.name ++ (32 ∷ decimal a.k) ≡ b.queries.name ++ (32 ∷ decimal b.k) = cc in
     let cut = same_cut 32 a.queries.name b.queries.name (decimal a.k) (decimal b.k)
-      right.named.spaceless other.named.spaceless asked in
+    right.named.spaceless other.named.spaceless asked in
     ap (λ (line : ℕ). asking_of line a.queries.name a.k) numbers
     ∙ ap (λ (name : List ℕ). asking_of b.queries.line name a.k) cut.0
     ∙ ap (λ (k : ℕ). asking_of b.queries.line b.queries.name k) (same_decimal a.k b.k right.most other.most cut.1)
@@ -63,12 +63,12 @@ same_askings (a ∷ asked) [] gs hs all others lines numbers =
     absurd (no_asking_first hs a (map asking_line asked ++ script_lines gs) lines)
 same_askings (a ∷ asked) (b ∷ other) gs hs all others lines numbers =
     let line = same_parts (asking_line a) (asking_line b) (map asking_line asked ++ script_lines gs)
-      (map asking_line other ++ script_lines hs) lines in
+    (map asking_line other ++ script_lines hs) lines in
     let number = same_parts (asking_number a) (asking_number b) (map asking_number asked ++ script_numbers gs)
-      (map asking_number other ++ script_numbers hs) numbers in
+    (map asking_number other ++ script_numbers hs) numbers in
     let more = same_askings asked other gs hs all.1 others.1 line.1 number.1 in (
       ap (λ (c : Asking). c ∷ asked) (same_asking a b all.0 others.0 line.0 number.0)
-      ∙ ap (λ (cs : List Asking). b ∷ cs) more.0,
+          ∙ ap (λ (cs : List Asking). b ∷ cs) more.0,
       more.1,
       more.2,
     )
@@ -90,9 +90,9 @@ same_groups [] (h ∷ hs) all others lines numbers = absurd cc
 same_groups (g ∷ gs) [] all others lines numbers = absurd cc
 same_groups (g ∷ gs) (h ∷ hs) all others lines numbers =
     let line = same_parts (append_line g.batch.name) (append_line h.batch.name)
-      (map asking_line g.askings ++ script_lines gs) (map asking_line h.askings ++ script_lines hs) lines in
+    (map asking_line g.askings ++ script_lines gs) (map asking_line h.askings ++ script_lines hs) lines in
     let number = same_parts g.batch.line h.batch.line (map asking_number g.askings ++ script_numbers gs)
-      (map asking_number h.askings ++ script_numbers hs) numbers in
+    (map asking_number h.askings ++ script_numbers hs) numbers in
     let asked = same_askings g.askings h.askings gs hs all.0.askings others.0.askings line.1 number.1 in
     let more = same_groups gs hs all.1 others.1 asked.1 asked.2 in
     ap (λ (x : Group). x ∷ gs) (same_group g h line.0 number.0 asked.0) ∙ ap (λ (groups : List Group). h ∷ groups) more
@@ -103,7 +103,7 @@ same_text : (gs hs : List Group) → AllByRecursion IsGroup gs → AllByRecursio
     → script_lines gs ≡ script_lines hs
 same_text gs hs all others same few =
     let both = same_lines (script_lines gs) (script_lines hs) [] [] (script_one_line gs all) (script_one_line hs others)
-      (append-nil (script_text gs) ∙ same ∙ sym (append-nil (script_text hs))) few in
+    (append-nil (script_text gs) ∙ same ∙ sym (append-nil (script_text hs))) few in
     none both.0 both.1 both.2
   where
     none : (zs : List (List ℕ)) → script_lines hs ≡ script_lines gs ++ zs → [] ≡ lines_text zs ++ []
@@ -117,11 +117,11 @@ pub same_script : (bytes : List ℕ) (gs hs : List Group) → IsScript bytes gs 
 same_script bytes gs hs one other =
     let text : script_text gs ≡ script_text hs = sym one.text ∙ other.text in
     let lines : script_lines gs ≡ script_lines hs =
-      ⊎_elim
-      (λ (less : length (script_lines gs) < length (script_lines hs)).
-      same_text gs hs one.right other.right text (omega arith))
-      (λ (no_less : length (script_lines hs) ≤ length (script_lines gs)).
-      sym (same_text hs gs other.right one.right (sym text) no_less))
-      (cases_lt (length (script_lines gs)) (length (script_lines hs))) in
+    ⊎_elim
+    (λ (less : length (script_lines gs) < length (script_lines hs)).
+    same_text gs hs one.right other.right text (omega arith))
+    (λ (no_less : length (script_lines hs) ≤ length (script_lines gs)).
+    sym (same_text hs gs other.right one.right (sym text) no_less))
+    (cases_lt (length (script_lines gs)) (length (script_lines hs))) in
     same_groups gs hs one.right other.right lines
     (one.numbers ∙ ap (λ (ls : List (List ℕ)). range_with_len 1 (length ls)) lines ∙ sym other.numbers)

@@ -34,14 +34,14 @@ pub walk_on : (bytes rest line behind : List ℕ) (at : ℕ) (before after : Lis
 walk_on bytes rest line behind at before after walk is adds = record {
   right = adds.right walk.right;
   numbers =
-    adds.numbers ∙ ap (λ (ns : List ℕ). ns ++ ((at + 1) ∷ [])) walk.numbers ∙ sym (more_numbers at);
+      adds.numbers ∙ ap (λ (ns : List ℕ). ns ++ ((at + 1) ∷ [])) walk.numbers ∙ sym (more_numbers at);
   size =
-    ap length adds.lines ∙ length_push (script_lines before) line ∙ ap (λ n. n + 1) walk.size;
+      ap length adds.lines ∙ length_push (script_lines before) line ∙ ap (λ n. n + 1) walk.size;
   text =
-    walk.text
-    ∙ ap (λ (t : List ℕ). script_text before ++ t) is.joined
-    ∙ sym (text_push (script_lines before) line behind)
-    ∙ ap (λ (lines : List (List ℕ)). lines_text lines ++ behind) (sym adds.lines);
+      walk.text
+      ∙ ap (λ (t : List ℕ). script_text before ++ t) is.joined
+      ∙ sym (text_push (script_lines before) line behind)
+      ∙ ap (λ (lines : List (List ℕ)). lines_text lines ++ behind) (sym adds.lines);
 }
 
 -- there are no more lines than bytes
@@ -61,9 +61,9 @@ walk_ends bytes rest at groups walk none = record {
   right = walk.right;
   numbers = walk.numbers ∙ ap (range_with_len 1) (sym walk.size);
   text =
-    walk.text
-    ∙ ap (λ (t : List ℕ). script_text groups ++ t) (nil_from_length rest none)
-    ∙ append-nil (script_text groups);
+      walk.text
+      ∙ ap (λ (t : List ℕ). script_text groups ++ t) (nil_from_length rest none)
+      ∙ append-nil (script_text groups);
 }
 
 -- no line that may stand behind the groups is the first of the rest
@@ -95,7 +95,7 @@ follows_not (g ∷ groups) other line more right same none =
     (λ (batch : (name : List ℕ) × Appends line name). none.appends batch.0 batch.1)
     (λ (asked : (name : List ℕ) × (k : ℕ) × Asks line name k). none.asks (omega arith) asked.0 asked.1 asked.2)
     (all_middle IsLine (script_lines (g ∷ groups)) more line
-      (subst (AllByRecursion IsLine) same (script_are_lines other right)))
+    (subst (AllByRecursion IsLine) same (script_are_lines other right)))
 
 -- where the groups are stopped, no script of more lines begins the bytes
 no_longer : (bytes rest more : List ℕ) (at : ℕ) (groups other : List Group) → Walk bytes rest at groups
@@ -104,7 +104,7 @@ no_longer : (bytes rest more : List ℕ) (at : ℕ) (groups other : List Group) 
 no_longer bytes rest more at groups other walk stops right text longer =
     let size = walk.size in
     let both = same_lines (script_lines groups) (script_lines other) rest more (script_one_line groups walk.right)
-      (script_one_line other right) (sym walk.text ∙ text) (omega arith) in
+    (script_one_line other right) (sym walk.text ∙ text) (omega arith) in
     next both.0 both.1 both.2
   where
     next : (zs : List (List ℕ)) → script_lines other ≡ script_lines groups ++ zs → rest ≡ lines_text zs ++ more → ⊥
@@ -115,9 +115,9 @@ no_longer bytes rest more at groups other walk stops right text longer =
     next (z ∷ zs) is left =
         follows_not groups other z zs right is
         (stops z (lines_text zs ++ more)
-          (all_middle (λ line. lacks 10 line ≡ true) (script_lines groups) zs z
-            (subst AreLines is (script_one_line other right)))
-          (left ∙ text_cons z zs more))
+        (all_middle (λ line. lacks 10 line ≡ true) (script_lines groups) zs z
+        (subst AreLines is (script_one_line other right)))
+        (left ∙ text_cons z zs more))
 
 -- where something is left behind the groups, no script of as few lines is the whole
 no_shorter : (bytes rest : List ℕ) (at : ℕ) (groups other : List Group) → Walk bytes rest at groups → 0 < length rest
@@ -125,7 +125,7 @@ no_shorter : (bytes rest : List ℕ) (at : ℕ) (groups other : List Group) → 
 no_shorter bytes rest at groups other walk some is few =
     let size = walk.size in
     let both = same_lines (script_lines other) (script_lines groups) [] rest (script_one_line other is.right)
-      (script_one_line groups walk.right) (append-nil (script_text other) ∙ sym is.text ∙ walk.text) (omega arith) in
+    (script_one_line groups walk.right) (append-nil (script_text other) ∙ sym is.text ∙ walk.text) (omega arith) in
     let left = ap length both.2 in
     let parts = length-append (lines_text both.0) rest in
     absurd (omega arith)
@@ -142,13 +142,13 @@ walk_stops bytes rest at groups walk some stops = record {
     text = walk.text;
   };
   here = λ begins.
-    let size = begins.size in
-    no_longer bytes rest begins.rest at groups begins.groups walk stops begins.right begins.text (omega arith);
+      let size = begins.size in
+      no_longer bytes rest begins.rest at groups begins.groups walk stops begins.right begins.text (omega arith);
   more = λ other is.
-    ⊎_elim
-    (λ (longer : at < length (script_lines other)).
-    no_longer bytes rest [] at groups other walk stops is.right
+      ⊎_elim
+      (λ (longer : at < length (script_lines other)).
+      no_longer bytes rest [] at groups other walk stops is.right
       (is.text ∙ sym (append-nil (script_text other))) longer)
-    (λ (few : length (script_lines other) ≤ at). no_shorter bytes rest at groups other walk some is few)
-    (cases_lt at (length (script_lines other)));
+      (λ (few : length (script_lines other) ≤ at). no_shorter bytes rest at groups other walk some is few)
+      (cases_lt at (length (script_lines other)));
 }

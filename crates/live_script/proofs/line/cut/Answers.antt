@@ -8,7 +8,7 @@ use Rattle.live_script.proofs.line.cut.Goals as goal
 pub returns-in_err-at : goal.returns-in_err-at
 returns-in_err-at c =
     subst (λ (r : Option (Bor (List ℕ) × Bor (List ℕ))). MatchOption r (lacks c.args.byte c.args.text.now ≡ true)
-      (λ x. IsCut c.args.byte c.args.text.now x.0.now x.1.now))
+    (λ x. IsCut c.args.byte c.args.text.now x.0.now x.1.now))
     (sym c.from_residual.ensures)
     (lacks_all c.args.byte c.args.text.now (λ k below here. c.in_err-at.ensures k (omega arith) below here))
 

@@ -19,7 +19,7 @@ returns c =
         some = subst (λ (t : List ℕ). 0 < length t) same some;
         text = c.in-Ok.ensures.cases.1;
         spaceless =
-          spaceless c.args.bytes.now c.memchr.result c.memchr.ensures (sym c.is_some.ensures ∙ c.if-is_some.false);
+            spaceless c.args.bytes.now c.memchr.result c.memchr.ensures (sym c.is_some.ensures ∙ c.if-is_some.false);
         one_line = c.requires.one_line;
       },
       same,
