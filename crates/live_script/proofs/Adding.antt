@@ -1,11 +1,11 @@
 -- One more line behind the lines of a script, in its last group or as a group of its own.
-use Rattle.std.proofs.Common.{◌≡◌, ℕ, zero, suc, ◌+◌, ◌<◌, ◌≤◌, List, [], ◌∷◌, ◌++◌, length, map, get_or, set, refl, sym, ap, subst, ◌∙◌, arith}
+use Rattle.std.proofs.Common.{◌≡◌, ℕ, zero, suc, List, [], ◌∷◌, ◌++◌, length, map, get_or, set, sym, ap, subst, ◌∙◌, arith}
 use Rattle.std.specs.List.{AllByRecursion, flat_map}
 use Rattle.std.proofs.lemmas.List.{append-nil, append_assoc, map_push}
 use Rattle.live_script.specs.declared.script.Asking.{Asking}
 use Rattle.live_script.specs.declared.script.Group.{Group}
-use Rattle.live_script.specs.Lines.{IsName, IsAsked, append_line, ask_line}
-use Rattle.live_script.specs.Grammar.{IsAsking, IsGroup, asking_line, group_lines, group_numbers, script_lines, script_numbers, AddsLine}
+use Rattle.live_script.specs.Lines.{append_line}
+use Rattle.live_script.specs.Grammar.{IsAsking, IsGroup, asking_line, group_lines, group_numbers, AddsLine}
 
 -- what holds of each and of one more holds of each of them all
 all_push : {X : Type 0} (P : X → Type 0) (xs : List X) (y : X) → AllByRecursion P xs → P y → AllByRecursion P (xs ++ (y ∷ []))

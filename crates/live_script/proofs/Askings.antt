@@ -1,5 +1,5 @@
 -- A text is asked where its first space parts a name and a number.
-use Rattle.std.proofs.Common.{◌≡◌, ℕ, ◌≤◌, List, ◌∷◌, true, sym, subst, ◌∙◌}
+use Rattle.std.proofs.Common.{◌≡◌, ℕ, List, sym, subst, ◌∙◌}
 use Rattle.std.specs.Prelude.{decimal, ◌≢◌}
 use Rattle.live_script.specs.Lines.{IsName, IsCount, IsAsked, IsCut, asked_text}
 use Rattle.live_script.proofs.Cuts.{same_cut}

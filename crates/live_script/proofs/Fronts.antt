@@ -1,14 +1,13 @@
 -- The first lines of a script begin a script, so there is one first fault.
-use Rattle.std.proofs.Common.{◌≡◌, ℕ, zero, suc, ◌+◌, ◌-◌, ◌<◌, ◌≤◌, List, [], ◌∷◌, ◌++◌, length, map, take, drop, true, refl, sym, ap, subst, ◌∙◌, ⊎_elim, arith}
-use Rattle.std.specs.List.{AllByRecursion, flat_map}
+use Rattle.std.proofs.Common.{◌≡◌, ℕ, zero, suc, ◌+◌, ◌-◌, ◌<◌, ◌≤◌, List, [], ◌∷◌, ◌++◌, length, map, take, drop, refl, sym, ap, ◌∙◌, ⊎_elim, arith}
+use Rattle.std.specs.List.{AllByRecursion}
 use Rattle.std.proofs.lemmas.Bool.{cases_lt}
-use Rattle.std.proofs.lemmas.List.{append-nil, append_assoc, length-append, length-map, length-take-le, take-append-drop, take-append-le, take_all, take-map}
+use Rattle.std.proofs.lemmas.List.{append-nil, append_assoc, length-map, length-take-le, take-append-drop, take-append-le, take_all, take-map}
 use Rattle.std.proofs.lemmas.List.Concat.{flat_map-append}
 use Rattle.std.proofs.Math.Seq.{take-append-add}
-use Rattle.live_script.specs.declared.script.Asking.{Asking}
 use Rattle.live_script.specs.declared.script.Group.{Group}
 use Rattle.live_script.specs.Lines.{append_line}
-use Rattle.live_script.specs.Grammar.{IsAsking, IsGroup, Begins, IsFault, asking_line, group_lines, script_lines, script_text, lines_text}
+use Rattle.live_script.specs.Grammar.{IsAsking, IsGroup, Begins, IsFault, asking_line, script_lines, lines_text}
 
 -- the first n items of a joined list
 take_joined : {X : Type 0} (n : ℕ) (xs ys : List X) → take n (xs ++ ys) ≡ take n xs ++ take (n - length xs) ys

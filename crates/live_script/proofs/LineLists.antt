@@ -1,11 +1,11 @@
 -- Lists of lines and their text: a text is cut into lines in one way.
-use Rattle.std.proofs.Common.{◌≡◌, ℕ, zero, suc, ◌+◌, ◌^◌, ◌<◌, ◌≤◌, List, [], ◌∷◌, ◌++◌, length, map, true, refl, sym, ap, ◌∙◌, inl, inr, arith}
+use Rattle.std.proofs.Common.{◌≡◌, ℕ, ◌≤◌, List, [], ◌∷◌, ◌++◌, length, map, true, refl, sym, ap, ◌∙◌, inl, inr, arith}
 use Rattle.std.specs.Prelude.{◌⊎◌}
-use Rattle.std.specs.List.{AllByRecursion, flat_map}
-use Rattle.std.proofs.lemmas.List.{append-nil, append_assoc, length-append}
+use Rattle.std.specs.List.{AllByRecursion}
+use Rattle.std.proofs.lemmas.List.{append_assoc, length-append}
 use Rattle.live_script.specs.declared.script.Asking.{Asking}
 use Rattle.live_script.specs.declared.script.Group.{Group}
-use Rattle.live_script.specs.Lines.{lacks, IsName, IsAsked, append_line, ask_line, Appends, Asks}
+use Rattle.live_script.specs.Lines.{lacks, Appends, Asks}
 use Rattle.live_script.specs.Grammar.{IsAsking, IsGroup, asking_line, group_lines, script_lines, lines_text}
 use Rattle.live_script.proofs.Cuts.{same_cut}
 use Rattle.live_script.proofs.LineTexts.{append_one_line, ask_one_line}

@@ -1,13 +1,13 @@
 -- A text is the text of one script.
-use Rattle.std.proofs.Common.{◌≡◌, ℕ, zero, suc, ◌+◌, ◌<◌, ◌≤◌, List, [], ◌∷◌, ◌++◌, length, map, true, refl, sym, ap, ◌∙◌, ⊎_elim, arith}
+use Rattle.std.proofs.Common.{◌≡◌, ℕ, ◌<◌, ◌≤◌, List, [], ◌∷◌, ◌++◌, length, map, refl, sym, ap, ◌∙◌, ⊎_elim, arith}
 use Rattle.std.specs.Prelude.{decimal, codes}
-use Rattle.std.specs.List.{AllByRecursion, flat_map, range_with_len}
+use Rattle.std.specs.List.{AllByRecursion, range_with_len}
 use Rattle.std.proofs.lemmas.Bool.{cases_lt}
 use Rattle.std.proofs.lemmas.List.{append-nil, append_cancel_left}
 use Rattle.live_script.specs.declared.script.Asking.{Asking}
 use Rattle.live_script.specs.declared.script.Group.{Group}
-use Rattle.live_script.specs.Lines.{IsName, IsAsked, append_line, ask_line}
-use Rattle.live_script.specs.Grammar.{IsAsking, IsGroup, IsScript, asking_line, group_lines, group_numbers, script_lines, script_numbers, script_text, lines_text}
+use Rattle.live_script.specs.Lines.{append_line, ask_line}
+use Rattle.live_script.specs.Grammar.{IsAsking, IsGroup, IsScript, asking_line, script_lines, script_numbers, script_text, lines_text}
 use Rattle.live_script.proofs.Cuts.{same_cut}
 use Rattle.live_script.proofs.Numbers.{same_decimal}
 use Rattle.live_script.proofs.LineLists.{same_lines, script_one_line}

@@ -1,12 +1,12 @@
 -- How a script is read line by line: what is read so far, what is left, and which line is the first fault.
-use Rattle.std.proofs.Common.{◌≡◌, ℕ, zero, suc, ◌+◌, ◌-◌, ◌<◌, ◌≤◌, List, [], ◌∷◌, ◌++◌, length, map, take, true, refl, sym, ap, subst, ◌∙◌, ⊎_elim, arith}
-use Rattle.std.specs.List.{AllByRecursion, flat_map, range_with_len}
-use Rattle.std.proofs.lemmas.Bool.{cases_lt, cases_order}
+use Rattle.std.proofs.Common.{◌≡◌, ℕ, ◌+◌, ◌<◌, ◌≤◌, List, [], ◌∷◌, ◌++◌, length, true, refl, sym, ap, subst, ◌∙◌, ⊎_elim, arith}
+use Rattle.std.specs.List.{AllByRecursion, range_with_len}
+use Rattle.std.proofs.lemmas.Bool.{cases_lt}
 use Rattle.std.proofs.lemmas.List.{append-nil, length-append, length_push, map-id, nil_from_length}
 use Rattle.std.proofs.lemmas.List.FromFn.{map-range_with_len_more}
 use Rattle.live_script.specs.declared.script.Group.{Group}
-use Rattle.live_script.specs.Lines.{lacks, IsName, IsCut, append_line, Appends, Asks}
-use Rattle.live_script.specs.Grammar.{IsGroup, IsScript, Begins, IsFault, AddsLine, NoneFollows, group_lines, script_lines, script_numbers, script_text, lines_text}
+use Rattle.live_script.specs.Lines.{lacks, IsCut, append_line, Appends, Asks}
+use Rattle.live_script.specs.Grammar.{IsGroup, IsScript, IsFault, AddsLine, NoneFollows, script_lines, script_numbers, script_text, lines_text}
 use Rattle.live_script.proofs.Cuts.{lacks_not, same_cut}
 use Rattle.live_script.proofs.LineLists.{AreLines, IsLine, all_middle, text_cons, text_push, text_size, same_lines, script_are_lines, script_one_line}
 

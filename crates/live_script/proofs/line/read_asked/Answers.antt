@@ -1,4 +1,4 @@
-use Rattle.std.proofs.Common.{◌≡◌, ℕ, List, Option, None, Bor, true, arith, subst, sym, ◌∙◌}
+use Rattle.std.proofs.Common.{◌≡◌, ℕ, List, Option, None, Bor, subst, sym}
 use Rattle.std.specs.Prelude.{IfNone, ◌≢◌}
 use Rattle.live_script.specs.Lines.{IsAsked, asked_text}
 use Rattle.live_script.proofs.Askings.{no_name, no_count}

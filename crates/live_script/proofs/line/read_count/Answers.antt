@@ -1,5 +1,4 @@
-use Rattle.std.proofs.Common.{◌≡◌, ◌≤◌, ℕ, List, Some, None, Ok, true, false, arith, sym, ap, ◌∙◌}
-use Rattle.live_script.specs.Lines.{IsCount}
+use Rattle.std.proofs.Common.{◌≡◌, Ok, arith, sym, ◌∙◌}
 use Rattle.live_script.proofs.Numbers.{count_is_text, count_is_parsed, count_is_printed}
 use Rattle.live_script.proofs.line.read_count.Goals as goal
 use Rattle.live_script.proofs.line.read_count.Goals.{else-k-ge1-via-then-k-ge1+then-k-le1024+else-is_printed, else-k-ge1-via-then-k-ge1+else-k-le1024, else-k-ge1-via-else-k-ge1}
