@@ -4,25 +4,11 @@ here="$(cd "$(dirname "${BASH_SOURCE[0]}")" && pwd)"
 source "$here/../scratch.sh"
 gcc -O3 -march=native -o "$work/maker" "$here/../reading/baseline.c"
 "$work/maker" make "$work/data.series"
-copy_crates outside list_totals series_core series_file isearch
-# The program's own crate lends its files and streams of the system; the rest of it is left out.
-program="$work/repository/crates/isearch"
-rm -rf "$program/src/words.rt"
-sed -i '/search_run/d; /^-- the status where/,$d' "$program/specs/Refusals.antt"
-cp "$here/main.rt.txt" "$program/src/main.rt"
-cat > "$work/repository/crates.txt" <<'LINES'
-outside: thiserror
-list_totals:
-series_core: list_totals outside
-series_file: outside series_core byteorder thiserror
-isearch: outside series_core series_file
-LINES
-cd "$program"
-rt run >"$work/build.log" 2>&1 || [ -x out/isearch ] || { cat "$work/build.log"; exit 1; }
+build_timed "outside list_totals series_core series_file real_outside" "outside series_core series_file real_outside"
 cd "$work"
 
 # Prints how many milliseconds a program takes that writes to a file.
-timed() {
+milliseconds() {
     local name="$1" begin end
     shift
     begin=$(date +%s%N)
@@ -33,7 +19,7 @@ timed() {
 
 for round in 1 2 3 4 5; do
     echo "== round $round"
-    timed c "$work/baseline" "$work/data.series"
-    timed rattle "$program/out/isearch"
+    milliseconds c "$work/baseline" "$work/data.series"
+    milliseconds rattle "$timed"
     cmp "$work/c.series" "$work/rattle.series"
 done

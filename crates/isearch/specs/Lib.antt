@@ -1,2 +1,2 @@
--- What a refusal of the system is for the search.
+-- The status where the words cannot be had.
 pub mod Refusals

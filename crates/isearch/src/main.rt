@@ -2,14 +2,10 @@
 //! and ends with the number of the status.
 #![tactic(auto)]
 
-mod counter;
-mod real_files;
-mod real_sink;
 mod words;
 
 use outside::NoGate;
-use real_files::RealFiles;
-use real_sink::RealSink;
+use real_outside::{RealFiles, RealSink};
 use search_run::run;
 use std::process::ExitCode;
 

@@ -3,7 +3,7 @@ ghost use Rattle.std.specs.Prelude.{◌≡◌, ◌≤◌, length, take, IsSome, 
 ghost use Rattle.std.specs.Io.KnownBytes.{Consumes};
 ghost use Rattle.outside.specs.declared.faults.OpenFault.TheVariants.{Absent, Failed as OpenFailed};
 ghost use Rattle.outside.specs.Count.{Rose};
-ghost use Rattle.isearch.specs.Refusals.{open_fault_of, faults_after, misses_after};
+ghost use Rattle.real_outside.specs.Refusals.{open_fault_of, faults_after, misses_after};
 
 use crate::counter::count;
 use outside::{Failed, Files, OpenFault};
@@ -152,7 +152,7 @@ mod tests {
 
     #[test]
     fn opens_and_reads_and_counts_refusals(rt: HostRuntime) -> Result<(), Fail> {
-        let name = format!(in rt.alloc(); "isearch-{}", process::id(rt.process()))?;
+        let name = format!(in rt.alloc(); "real-outside-{}", process::id(rt.process()))?;
         let path = env::temp_dir(&rt)?.join(rt.alloc(), name.as_str())?;
         fs::write(&rt, path.as_path(), b"query 0\n".as_slice())?;
         let mut files = RealFiles::new(&rt);

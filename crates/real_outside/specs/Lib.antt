@@ -1,0 +1,2 @@
+-- What a refusal of the system is for a program.
+pub mod Refusals
