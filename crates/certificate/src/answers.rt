@@ -10,7 +10,7 @@ use crate::error::Reject;
 use series_core::{Pair, Rows};
 use simd_distance::distance_within;
 
-/// Tests the answers of block `b`; the least rank that is wrong is told.
+/// Tests the answers of block `b`; the least rank that is wrong is the error.
 pub fn check_answers<R: Rows>(
     rows: &R,
     labels: Option<&[u64]>,

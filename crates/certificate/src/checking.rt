@@ -20,7 +20,7 @@ use isax_word::Layout;
 use lower_bound::QueryView;
 use series_core::{Pair, Rows};
 
-/// Tests a certificate, one block a query, against all series; the first test that fails is told. It takes no memory.
+/// Tests a certificate, one block a query, against all series; the first test that fails is the error. It takes no memory.
 /// The series, the queries and the layout have one length; `k` is from 1 to 1024.
 pub fn check<R: Rows, Q: Rows>(
     rows: &R,
@@ -109,7 +109,7 @@ fn check_missed<R: Rows>(
     }
 }
 
-/// The answer of rank `k`, where there are at least so many series.
+/// The answer of rank `k`, where there are at least `k` series.
 pub fn last_answer<R: Rows>(rows: &R, k: u32, answers: &[Pair]) -> Option<Pair>
     requires { 0 < k }
     ensures { result ≡ last_answer (R.collection rows.now) k answers.now }

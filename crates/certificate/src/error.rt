@@ -47,7 +47,7 @@ impl<T: Drop> From<AllocFailed<T>> for CertError {
 /// Queries and leaves are counted from 0, ranks from 1.
 #[derive(Clone, Copy, Debug, PartialEq, Eq, Error)]
 pub enum Reject {
-    /// So many blocks, for so many queries.
+    /// The first number of blocks stands for the second number of queries.
     #[error("{0} blocks for {1} queries")]
     Blocks(u64, u64),
     /// The answer of this query and rank is wrong.

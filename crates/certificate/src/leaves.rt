@@ -9,7 +9,7 @@ use crate::block::{LeafLine, Said};
 use crate::error::Reject;
 use lower_bound::QueryView;
 
-/// Tests that each bound of block `b` is that of its word; the first that is not is told with the real one.
+/// Tests that each bound of block `b` is that of its word; the first that is not is refused, with the real one.
 pub fn check_bounds(b: u32, view: &QueryView, leaves: &[LeafLine]) -> Result<(), Reject>
     requires few { length leaves.now ≤ 2 ^ 32 }
     requires segments { All (λ leaf. length leaf.word ≡ view.now.layout.cuts.segments) leaves.now }

@@ -89,7 +89,7 @@ pub fn queue(alloc: Global, line: &[u8], m: u64) -> Result<Option<EntryList>, No
     }
 }
 
-/// The line of leaf `l`, with a word of so many segments, from 1 to 16.
+/// The line of leaf `l`, whose word has `segments` segments, from 1 to 16.
 #[tactic(auto, unfolding(crate::specs::LineForms::leaf_of))]
 pub fn leaf(line: &[u8], segments: u32, l: u64) -> Option<LeafLine>
     requires some { 1 ≤ segments }

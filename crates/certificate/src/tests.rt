@@ -81,7 +81,7 @@ fn found(
     }
 }
 
-// Texts over the four series: for so many answers, what each is found to be.
+// Texts over the four series: for each number of answers, what each is found to be.
 const TEXTS: [(u32, &str, Finding); 15] = [
     (1, NEAREST, Finding::Valid),
     (

@@ -12,7 +12,7 @@ use crate::reader::Reader;
 use memchr::memchr;
 use std::alloc::Global;
 
-/// Reads the text of a certificate whose words have so many segments, from 1 to 16. With `labelled` each answer has a
+/// Reads the text of a certificate whose words have `segments` segments, from 1 to 16. With `labelled` each answer has a
 /// label. `Line(at)`: the first `at` lines are the fewest with which no certificate begins; where there are none such
 /// and a block is not finished, `at` is the number of lines plus 1. Otherwise the answer is the blocks of the text.
 pub fn read(
@@ -25,7 +25,7 @@ pub fn read(
     requires few { segments ≤ 16 }
     // What is read is what the bytes spell.
     ensures found { IfOk result (λ blocks. Spells segments labelled bytes.now blocks.items) }
-    // The blocks may be checked under a layout of so many segments, against series with labels or without.
+    // The blocks may be checked under a layout of these segments, against series with labels or without.
     ensures fit { IfOk result (λ blocks. All (IsFor segments labelled) blocks.items) }
     // What the bytes spell is read, unless memory runs out.
     ensures only { (blocks : List Block) → Spells segments labelled bytes.now blocks → ReadsAs result blocks }

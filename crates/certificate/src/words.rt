@@ -93,7 +93,7 @@ fn parts(text: &[u8], segments: u32) -> Option<(Parts, &[u8])>
     Some((parts, rest))
 }
 
-/// A word of so many segments, from 1 to 16.
+/// A word of `segments` segments, from 1 to 16.
 #[tactic(auto, unfolding(crate::specs::Fields::word_at))]
 pub fn word(text: &[u8], segments: u32) -> Option<(Word, &[u8])>
     requires some { 1 ≤ segments }

@@ -3,7 +3,7 @@ use outside::NoMemory;
 use std::alloc::Global;
 use subtree_build::Index;
 
-/// For each of so many series the leaf of which it is a member.
+/// For each series, by its number, the leaf of which it is a member.
 pub(crate) fn homes_of(alloc: Global, index: &Index, count: u32) -> Result<Vec<u32>, NoMemory> {
     let mut homes = vec![in alloc; 0; count as usize]?;
     for leaf in 0..index.leaf_count() {

@@ -12,7 +12,7 @@ use subtree_build::Settings;
 use turn_lock::{LockError, TurnLock, TurnPass};
 
 impl LiveCollection {
-    /// A collection in which no batch stands, with its writer and so many readers, numbered from 1 in their order.
+    /// A collection in which no batch stands, with its writer and its readers, numbered from 1 in their order.
     pub fn begin(
         alloc: Global,
         settings: Settings,

@@ -77,9 +77,9 @@ pub enum Call {
 /// A reply of the shared object.
 #[derive(Drop)]
 pub enum Reply {
-    /// The batch stands, and with it so many series.
+    /// The batch stands, and with it this number of series.
     Stands(u32),
-    /// The batch does not stand; so many batches and series do.
+    /// The batch does not stand; these numbers of batches and of series do.
     Refused(u32, u32),
     /// The list of the caller.
     Parts(PartList),

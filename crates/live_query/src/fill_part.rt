@@ -74,7 +74,7 @@ fn equip<'a, 'b, R: Rows>(
     Ok(ready)
 }
 
-// No mark of any of so many leaves.
+// No mark of any leaf.
 fn no_marks(alloc: Global, leaves: u32) -> Result<Vec<bool>, NoMemory>
     ensures { IfOk result (λ marks. marks.items ≡ replicate leaves false) }
 {

@@ -133,7 +133,7 @@ impl RootClaims {
     }
 }
 
-// How many groups of so many root children there are.
+// How many groups of `size` root children there are.
 fn groups_of(roots: u32, size: u32) -> u64
     requires { 1 ≤ size }
     ensures value { result ≡ group_count size roots }

@@ -1,4 +1,4 @@
-//! Why the bytes of a script are refused. Want of memory is told apart from a line that is no line of a script.
+//! Why the bytes of a script are refused. Want of memory is another cause than a line that is no line of a script.
 
 use std::alloc::{AllocError, AllocFailed};
 use thiserror::Error;

@@ -11,7 +11,7 @@ use memchr::memchr;
 pub enum Line<'a> {
     /// Append the batch of this file.
     Append(&'a str),
-    /// Ask the queries of this file for so many series.
+    /// Ask the queries of this file for this number of series.
     Ask(&'a str, u32),
 }
 

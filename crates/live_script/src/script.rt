@@ -1,4 +1,4 @@
-//! What a script says. Each file that it names is told with the line that names it.
+//! What a script says. Each file that it names stands with the line that names it.
 
 use command_words::Text;
 use std::marker::Model;

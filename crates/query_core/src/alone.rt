@@ -55,7 +55,7 @@ fn finished<'a, R: Rows>(
     Ok(team)
 }
 
-// Gives the one worker turns until it is done, at most so many.
+// Gives the one worker turns until it is done, at most `most` of them.
 fn finish<R: Rows>(team: &mut Team<'_, R>, most: u64)
     requires alone { length team.old.workers ≡ 1 }
     requires fits { Fits (searched team.old) }

@@ -23,7 +23,7 @@ use std::alloc::Global;
 use subtree_build::Index;
 
 /// The outcome of every state whose workers these show, and whose queues these lines tell: the k smallest pairs of all lists,
-/// the start, the lines, and for each leaf what became of it. A leaf that stands in several lines is told of the first of
+/// the start, the lines, and for each leaf what became of it. A leaf that stands in several lines is reported of the first of
 /// them; a leaf that stands in none, of the first worker that scanned it.
 pub fn conclude<R: Rows>(
     alloc: Global,

@@ -39,7 +39,7 @@ impl<'a, R: Rows> Task<'a, R> {
         Ok(distance_of_worst(&list))
     }
 
-    /// Whether the means and the finer means of a sample of leaves lie above the limit for all but at most so many of 32 members.
+    /// Whether the means and the finer means of a sample of leaves lie above the limit for all but at most `most` of 32 members.
     /// Where they do not, nearly each row would be read in the order of the leaves, which costs more than to read all in their own.
     pub(crate) fn means_tell(&self, index: &Index, limit: u64, most: u64) -> bool {
         let leaves = index.leaf_count();

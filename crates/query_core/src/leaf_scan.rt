@@ -71,7 +71,7 @@ impl<'a, R: Rows> Task<'a, R> {
     }
 }
 
-// The finer means of member `i` among those of all, with so many parts a member.
+// The finer means of member `i` among those of all, with `parts` parts a member.
 fn of_member(finer: &[Means], parts: usize, i: usize) -> &[Means]
     requires { i * parts + parts ≤ length finer.now }
     ensures { result.now ≡ take parts (drop (i * parts) finer.now) }

@@ -58,7 +58,7 @@ pub fn hire<'a, R: Rows>(
     Ok(hired)
 }
 
-/// So many empty queues, each with room for all of so many leaves that belong to it.
+/// Empty queues, each with room for all leaves that belong to it.
 pub fn empty_queues(alloc: Global, leaves: u32, queues: u32) -> Result<Vec<Queue>, NoMemory>
     requires queues { 1 ≤ queues }
     ensures len { IfOk result (λ qs. vec_len qs ≡ queues) }

@@ -67,7 +67,7 @@ impl<'a, R: Rows> Model for Worker<'a, R> {
 }
 
 impl<'a, R: Rows> Worker<'a, R> {
-    /// Worker `number`, below 64, over so many queues, with the start and the list of the opening: for worker 0 what
+    /// Worker `number`, below 64, over `queues` queues, with the start and the list of the opening: for worker 0 what
     /// `Task::opening` gives, and for the others the same start and an empty list. It takes all the room that it will
     /// ever need.
     pub fn new(
@@ -149,7 +149,7 @@ fn leaf_of(start: Option<Start>) -> Option<u32>
     }
 }
 
-// The marks of so many leaves with which a worker opens: worker 0 has scanned the start leaf.
+// The marks of leaves with which a worker opens: worker 0 has scanned the start leaf.
 fn opened_marks(
     alloc: Global,
     leaves: usize,

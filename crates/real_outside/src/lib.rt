@@ -1,5 +1,5 @@
 //! The outside of a program as it is: files, streams to write to, and the words of the command line.
-//! Nothing is told of what they hold; each refusal is counted, or named by its kind.
+//! Nothing is known of what they hold; each refusal is counted, or named by its kind.
 #![tactic(auto)]
 
 mod counter;

@@ -60,7 +60,7 @@ fn expect<T: Threads + Sync + Abort>(
     Ok(())
 }
 
-// Of four series of length 4 and the query (1, 1, 1, 1): for so many answers, what is printed.
+// Of four series of length 4 and the query (1, 1, 1, 1): for each number of answers, what is printed.
 const FOUR: [(u32, &str); 3] = [
     (
         1,

@@ -97,7 +97,7 @@ pub(crate) fn plain_nearest(
     Ok(near)
 }
 
-/// Whether the pairs are these, and each of so many leaves has one fate, one of them the start leaf's.
+/// Whether the pairs are these, and each of the leaves has one fate, one of them the start leaf's.
 fn is_right(outcome: &Outcome, pairs: &[(u64, u32)], leaves: u32) -> bool {
     let mut starts = 0u32;
     for fate in &outcome.fates.items {

@@ -39,7 +39,7 @@ fn next_value(kind: Kind, rng: &mut SplitMix64, last: i32, before: i32) -> i32 {
     value.clamp(-32768, 32767)
 }
 
-/// So many series of so many values.
+/// The values of `count` series of `length` values.
 fn values_of(
     alloc: Global,
     rng: &mut SplitMix64,

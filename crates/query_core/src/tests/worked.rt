@@ -101,7 +101,7 @@ fn schedules_without_an_outcome(rt: HostRuntime) -> Result<(), Fail> {
     Ok(())
 }
 
-/// Turns of worker 0, and then so many turns of workers 1, 2 and 0.
+/// Turns of worker 0, and then turns of workers 1, 2 and 0.
 fn shut_schedule(alloc: Global) -> Result<Vec<u32>, Fail> {
     let mut schedule = Vec::new(alloc);
     for (worker, turns) in [(0u32, 2u32), (1, 39), (2, 39), (0, 39)] {
