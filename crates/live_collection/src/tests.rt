@@ -115,7 +115,7 @@ fn a_reader_that_was_told_has_all_batches(rt: HostRuntime) -> Result<(), Fail> {
     Ok(())
 }
 
-/// What the last of `count` empty batches is answered, and how many series stand at the end.
+/// What the last of `batches` empty batches is answered, and how many series stand at the end.
 fn appended_to_the_end<R: Threads + Wait + Sync>(
     rt: &R,
     alloc: Global,
