@@ -17,6 +17,6 @@ returns-then-is_near-2 g c = λ _.
 
 pub returns : goal.returns
 returns g c = λ _.
-    let near = c.in-Some-near_other.ensures tt in
+    let near = c.in-Some-near_other.ensures in
     other_far (g.R.Rows.collection c.args.self.now.rows.now) c.args.number c.in-Some-near_other.other c.args.limit
     (18446744073709551615 - c.args.limit - 1) near.0 near.1 (omega (arith, c.if-limit-lt-NONE.true))
