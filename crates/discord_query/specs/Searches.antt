@@ -21,9 +21,9 @@ pub record IsNearOther (c : Collection) (s t radius : ℕ) : Type 0 where
   pub differs : t ≡ s → ⊥
   pub near : squared_distance (series_at c t) (series_at c s) ≤ radius
 
--- there is such a series
-abbrev pub HasNearOther : Collection → ℕ → ℕ → Type 0
-HasNearOther c s radius = (t : ℕ) × (t < length c.series) × IsNearOther c s t radius
+-- this is the number of such a series
+abbrev pub IsNear : Collection → ℕ → ℕ → ℕ → Type 0
+IsNear c s t radius = (t < length c.series) × IsNearOther c s t radius
 
 -- each pair is of a series
 abbrev pub AreSeries : Collection → List Pair → Type 0

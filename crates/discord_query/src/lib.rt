@@ -4,6 +4,7 @@
 
 mod discords;
 mod farthest;
+mod hints;
 mod homes;
 mod search;
 mod searcher;

@@ -1,12 +1,13 @@
 //! The nearest other of one series: whether some other is nearer than a limit allows, and which is the nearest.
-ghost use Rattle.std.specs.Prelude.{◌≡◌, ◌<◌, IfOk, All, length, true, take};
+ghost use Rattle.std.specs.Prelude.{◌≡◌, ◌<◌, IfOk, IfSome, All, length, true, take};
 ghost use Rattle.std.specs.List.{filter};
 ghost use Rattle.std.specs.Option.{option_to_list};
 ghost use Rattle.discord_query.specs.Discords.{farness_of, is_other, other, least_farness};
-ghost use Rattle.discord_query.specs.Searches.{HasNearOther, IsReady, IsNearOther};
+ghost use Rattle.discord_query.specs.Searches.{IsNear, IsReady};
 
+use crate::hints::Hints;
 use best_word::Floor;
-use isax_word::{Layout, Member};
+use isax_word::Layout;
 use mean_bound::{MeanView, Means};
 use outside::NoMemory;
 use query_core::{Task, one_worker_answer};
@@ -17,9 +18,6 @@ use subtree_build::Index;
 
 /// How many leaves on each side are looked through before a series is searched for its nearest other.
 const REACH: u32 = 8192;
-
-/// How many members of a series' own leaf are measured before its means are made.
-const AT_ONCE: usize = 4;
 
 /// What all workers search: rows, their index, the leaf of each series, and how many discords are wanted.
 #[derive(Drop)]
@@ -68,9 +66,9 @@ impl<'a, R: Rows> Search<'a, R> {
         Ok(first_but(nearest.items.as_slice(), number))
     }
 
-    /// Whether a series may be given up: some other is nearer to it than `NONE` less the limit. It is sought from the
-    /// series' own leaf outwards, since leaves that stand near one another have words that are alike.
-    pub fn is_given_up(&self, number: u32, limit: u64) -> bool
+    /// Whether a series may be given up: some other is nearer to it than `NONE` less the limit. Those that the worker remembers
+    /// are tried first.
+    pub fn is_given_up(&self, number: u32, limit: u64, hints: &mut Hints) -> bool
         requires ready { IsReady R.collection self.now }
         requires number { number < length (R.collection self.now.rows.now).series }
         ensures { result ≡ true → All (λ p. limit < p.distance) (farness_of (R.collection self.now.rows.now) number) }
@@ -80,40 +78,36 @@ impl<'a, R: Rows> Search<'a, R> {
             _ => return false,
         };
         let nearer = NONE - limit - 1;
-        if self.has_near_at_once(number, home, nearer) {
+        if self.is_near(number, hints.of_series(number), nearer) {
             return true;
         }
-        let view = self.view(number);
-        for step in 0..REACH.min(self.index.leaf_count()) {
-            if self.has_near(number, &view, home.wrapping_add(step), nearer) {
-                return true;
-            }
-            if self.has_near(number, &view, home.wrapping_sub(step + 1), nearer) {
-                return true;
-            }
+        if self.is_near(number, hints.of_leaf(home), nearer) {
+            return true;
         }
-        false
+        let Some(other) = self.near_other(number, home, nearer) else {
+            return false;
+        };
+        hints.keep(number, home, other);
+        true
     }
 
-    /// Whether one of the first members of a leaf is of another series within a radius of this one. They are measured with no look
-    /// at their means: mostly one of them is near enough, and a view of the series costs more than some rows.
-    fn has_near_at_once(&self, number: u32, leaf: u32, radius: u64) -> bool
+    /// Another series within a radius of this one, if one is found. It is sought from the series' own leaf outwards, since leaves that
+    /// stand near one another have words that are alike.
+    fn near_other(&self, number: u32, home: u32, radius: u64) -> Option<u32>
         requires ready { IsReady R.collection self.now }
         requires number { number < length (R.collection self.now.rows.now).series }
-        ensures { result ≡ true → HasNearOther (R.collection self.now.rows.now) number radius }
+        ensures { IfSome result (λ t. IsNear (R.collection self.now.rows.now) number t radius) }
     {
-        if leaf >= self.index.leaf_count() {
-            return false;
-        }
-        for (i, member) in self.index.leaf_members(leaf).iter().enumerate() {
-            if i >= AT_ONCE {
-                return false;
+        let view = self.view(number);
+        for step in 0..REACH.min(self.index.leaf_count()) {
+            if let Some(other) = self.near_in(number, &view, home.wrapping_add(step), radius) {
+                return Some(other);
             }
-            if self.is_near_other(number, member, radius) {
-                return true;
+            if let Some(other) = self.near_in(number, &view, home.wrapping_sub(step + 1), radius) {
+                return Some(other);
             }
         }
-        false
+        None
     }
 
     /// A series as bounds by means see it.
@@ -124,35 +118,34 @@ impl<'a, R: Rows> Search<'a, R> {
         MeanView::new(&self.layout.cuts, self.rows.row(number))
     }
 
-    /// Whether a leaf, if there is one of this number, has a member of another series within a radius of this one.
-    fn has_near(&self, number: u32, view: &MeanView, leaf: u32, radius: u64) -> bool
+    /// Another series within a radius of this one among the members of a leaf, if there is a leaf of this number.
+    fn near_in(&self, number: u32, view: &MeanView, leaf: u32, radius: u64) -> Option<u32>
         requires ready { IsReady R.collection self.now }
         requires number { number < length (R.collection self.now.rows.now).series }
-        ensures { result ≡ true → HasNearOther (R.collection self.now.rows.now) number radius }
+        ensures { IfSome result (λ t. IsNear (R.collection self.now.rows.now) number t radius) }
     {
         if leaf >= self.index.leaf_count() {
-            return false;
+            return None;
         }
         let means = self.index.leaf_means(leaf);
         for (i, member) in self.index.leaf_members(leaf).iter().enumerate() {
-            if is_within(view, means, i, radius) && self.is_near_other(number, member, radius) {
-                return true;
+            if is_within(view, means, i, radius) && self.is_near(number, member.number, radius) {
+                return Some(member.number);
             }
         }
-        false
+        None
     }
 
-    /// Whether a member is of another series, within a radius of this one.
-    fn is_near_other(&self, number: u32, member: &Member, radius: u64) -> bool
+    /// Whether this is the number of another series, within a radius of this one.
+    fn is_near(&self, number: u32, other: u32, radius: u64) -> bool
         requires ready { IsReady R.collection self.now }
         requires number { number < length (R.collection self.now.rows.now).series }
-        requires member { member.now.number < length (R.collection self.now.rows.now).series }
-        ensures { result ≡ true → IsNearOther (R.collection self.now.rows.now) number member.now.number radius }
+        ensures { result ≡ true → IsNear (R.collection self.now.rows.now) number other radius }
     {
-        if member.number == number {
+        if other == number || other >= self.rows.count() {
             return false;
         }
         let row = self.rows.row(number);
-        distance_within(self.rows.row(member.number), row, radius).is_some()
+        distance_within(self.rows.row(other), row, radius).is_some()
     }
 }
