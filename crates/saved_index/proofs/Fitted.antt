@@ -43,7 +43,8 @@ item_part f (x ∷ xs) (suc k) d inside = omega (arith, item_part f xs k d (omeg
 -- a weight is 1 or 2
 weight_bounds : (word : List Part) (m : Member) → (1 ≤ weight word m) × (weight word m ≤ 2)
 weight_bounds word m =
-    cond_both (word_contains word m.full) 1 2 (λ k. (1 ≤ k) × (k ≤ 2)) (λ _. (omega arith, omega arith)) (λ _. (omega arith, omega arith))
+    cond_both (word_contains word m.full) 1 2 (λ k. (1 ≤ k) × (k ≤ 2)) (λ _. (omega arith, omega arith))
+    (λ _. (omega arith, omega arith))
 
 -- members weigh at least once and at most twice as much as there are
 module _ (i : ℕ) where

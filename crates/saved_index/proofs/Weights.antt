@@ -40,9 +40,10 @@ one_weight i n a b same =
 -- one of so many more, times 1 or 2
 one_more : (one t f : ℕ) → (f ≡ 1) ⊎ (f ≡ 2) → one * f + t * f ≡ (one + t) * f
 one_more one t f is =
-    ⊎_elim (λ a. ap (λ x. one * x + t * x) a ∙ (let h : one * 1 + t * 1 ≡ (one + t) * 1 = omega arith in h) ∙ ap (λ x. (one + t) * x) (sym a))
-    (λ a. ap (λ x. one * x + t * x) a ∙ (let h : one * 2 + t * 2 ≡ (one + t) * 2 = omega arith in h) ∙ ap (λ x. (one + t) * x) (sym a))
-    is
+    let once : one * 1 + t * 1 ≡ (one + t) * 1 = omega arith in
+    let twice : one * 2 + t * 2 ≡ (one + t) * 2 = omega arith in
+    ⊎_elim (λ a. ap (λ x. one * x + t * x) a ∙ once ∙ ap (λ x. (one + t) * x) (sym a))
+    (λ a. ap (λ x. one * x + t * x) a ∙ twice ∙ ap (λ x. (one + t) * x) (sym a)) is
 
 -- a weight is 1 or 2
 abbrev weight_by : Bool → ℕ

@@ -65,7 +65,9 @@ module _ (c : Collection) (layout : Layout) (lists : List (List ℕ)) (leaves : 
 
     -- each member has its series' word
     pub have_words : All (MembersAreSeries c layout) leaves
-    have_words = each_member (HasItsWord c layout) (λ k d inside i e within. own_word (get_or (get_or lists k d) i e) (below k d inside i e within))
+    have_words =
+        each_member (HasItsWord c layout)
+        (λ k d inside i e within. own_word (get_or (get_or lists k d) i e) (below k d inside i e within))
 
     -- each member's word has the layout's number of segments
     pub have_segments : All (λ (x : TreeLeaf). All (λ m. length m.full ≡ layout.cuts.segments) x.members) leaves

@@ -21,6 +21,10 @@ pub use savable::can_save;
 pub use saving::save;
 
 #[cfg(test)]
+mod load_tests;
+#[cfg(test)]
+mod plain_fault;
+#[cfg(test)]
 mod plain_reader;
 #[cfg(test)]
 mod tests;

@@ -52,7 +52,7 @@ pub fn load<H: Threads + Sync, F: Files, R: Rows + Sync>(
 }
 
 /// Loads these bytes as a saved index over these rows.
-fn load_bytes<H: Threads + Sync, R: Rows + Sync>(
+pub(crate) fn load_bytes<H: Threads + Sync, R: Rows + Sync>(
     rt: &H,
     alloc: Global,
     bytes: &[u8],
