@@ -4,8 +4,8 @@
 
 mod discords;
 mod farthest;
-mod hints;
 mod homes;
+mod recent;
 mod search;
 mod searcher;
 mod team;

@@ -5,7 +5,7 @@ ghost use Rattle.std.specs.Option.{option_to_list};
 ghost use Rattle.discord_query.specs.Discords.{farness_of, is_other, other, least_farness};
 ghost use Rattle.discord_query.specs.Searches.{IsNear, IsReady};
 
-use crate::hints::Hints;
+use crate::recent::{RECENT, Recent};
 use best_word::Floor;
 use isax_word::Layout;
 use mean_bound::{MeanView, Means};
@@ -66,9 +66,9 @@ impl<'a, R: Rows> Search<'a, R> {
         Ok(first_but(nearest.items.as_slice(), number))
     }
 
-    /// Whether a series may be given up: some other is nearer to it than `NONE` less the limit. Those that the worker remembers
-    /// are tried first.
-    pub fn is_given_up(&self, number: u32, limit: u64, hints: &mut Hints) -> bool
+    /// Whether a series may be given up: some other is nearer to it than `NONE` less the limit. Those that were near others last are
+    /// tried first.
+    pub fn is_given_up(&self, number: u32, limit: u64, recent: &mut Recent) -> bool
         requires ready { IsReady R.collection self.now }
         requires number { number < length (R.collection self.now.rows.now).series }
         ensures { result ≡ true → All (λ p. limit < p.distance) (farness_of (R.collection self.now.rows.now) number) }
@@ -78,16 +78,17 @@ impl<'a, R: Rows> Search<'a, R> {
             _ => return false,
         };
         let nearer = NONE - limit - 1;
-        if self.is_near(number, hints.of_series(number), nearer) {
-            return true;
-        }
-        if self.is_near(number, hints.of_leaf(home), nearer) {
-            return true;
+        for place in 0..RECENT {
+            let other = recent.at(place);
+            if self.is_near(number, other, nearer) {
+                recent.put_first(place, other);
+                return true;
+            }
         }
         let Some(other) = self.near_other(number, home, nearer) else {
             return false;
         };
-        hints.keep(number, home, other);
+        recent.put_first(RECENT - 1, other);
         true
     }
 

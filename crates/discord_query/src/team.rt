@@ -8,7 +8,7 @@ ghost use Rattle.discord_query.specs.Discords.{top};
 ghost use Rattle.discord_query.specs.Searches.{IsReady, floor_of};
 ghost use Rattle.discord_query.specs.Done.{IsFresh, IsDone, IsPart, IsTold, Weighed};
 
-use crate::hints::Hints;
+use crate::recent::Recent;
 use crate::search::Search;
 use crate::searcher::Searcher;
 use best_word::{BestWord, WordPass};
@@ -63,7 +63,7 @@ fn weigh<R: Rows>(
     best: &BestWord,
     word: &mut WordPass,
     list: &mut KBest,
-    hints: &mut Hints,
+    recent: &mut Recent,
     number: u32,
 ) -> Result<(), NoMemory>
     requires ready { IsReady R.collection search.now }
@@ -76,7 +76,7 @@ fn weigh<R: Rows>(
         OnOk result (Weighed c search.now.k number list.old list.new) }
 {
     let limit = best.read(word);
-    if search.is_given_up(number, limit, hints) {
+    if search.is_given_up(number, limit, recent) {
         return Ok(());
     }
     let Some(other) = search.other(alloc, number)? else {
@@ -118,7 +118,7 @@ fn draw_all<R: Rows, G: Gate>(
     ensures done { let c = R.collection search.now.rows.now in
         OnOk result (IsDone c search.now.k worker.new.pass worker.new.list) }
 {
-    let mut hints = Hints::new(alloc, search.rows.count(), search.index.leaf_count())?;
+    let mut recent = Recent::new();
     loop {
         gate.pass(worker.number, worker.turn);
         worker.turn = worker.turn.saturating_add(1);
@@ -131,7 +131,7 @@ fn draw_all<R: Rows, G: Gate>(
             best,
             &mut worker.word,
             &mut worker.list,
-            &mut hints,
+            &mut recent,
             drawn as u32,
         )?;
     }
