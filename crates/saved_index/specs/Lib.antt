@@ -5,3 +5,4 @@ pub mod Fields
 pub mod IndexText
 pub mod Laws
 pub mod Parsed
+pub mod Faults
