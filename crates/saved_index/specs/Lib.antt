@@ -6,3 +6,4 @@ pub mod IndexText
 pub mod Laws
 pub mod Parsed
 pub mod Faults
+pub mod Loading

@@ -4,6 +4,7 @@
 mod error;
 mod header;
 mod laws;
+mod loading;
 mod node;
 mod numbers;
 mod reading;
@@ -13,6 +14,7 @@ mod saving;
 
 pub use error::IndexFault;
 pub use laws::{one_text_law, reading_law};
+pub use loading::{LoadedIndex, load};
 pub use savable::can_save;
 pub use saving::save;
 
