@@ -1,11 +1,12 @@
 -- What has a text is read back from it, whatever stands behind: numbers (`numbers_again`), nodes (`node_again`), root children
--- (`roots_again`), and the whole (`saved_again`).
+-- (`roots_again`), and the whole (`saved_again`); so bytes are the text of one thing alone (`one_text`).
 use Rattle.std.proofs.Common.{◌≡◌, ℕ, suc, ◌+◌, ◌^◌, ◌<◌, ◌≤◌, Bool, true, false, List, [], ◌∷◌, ◌++◌, length, get_or, Some, None, refl, sym, ap, ◌∙◌, subst, ⊎_elim, inl, inr, arith, append_assoc, append-nil, All}
 use Rattle.std.specs.Prelude.{◌⊎◌, if◌then◌else◌, ◌&&◌, ◌==◌, not, nat_le}
 use Rattle.std.specs.List.Sorted.{IsStrictlyIncreasing}
 use Rattle.std.proofs.lemmas.Bool.{cond-true, cases_Bool, true≢false}
 use Rattle.std.proofs.lemmas.Bool.Decides.{nat_tests}
 use Rattle.std.proofs.lemmas.List.Elements.{All-head, All-tail}
+use Rattle.std.proofs.lemmas.Option.{same_Some}
 use Rattle.std.proofs.Math.Nat.{pow-le-pow_right}
 use Rattle.byteorder.specs.Endian.{little_bytes, little_number}
 use Rattle.byteorder.specs.Numbers.{little_number-reads_back}
@@ -15,7 +16,7 @@ use Rattle.subtree_build.specs.Division.{bits_left}
 use Rattle.subtree_build.specs.Tree.{Tree, absent, leaf, split, is_absent}
 use Rattle.breakpoints.specs.declared.table.Table.{Table}
 use Rattle.breakpoints.specs.declared.table.Table.TheVariants.{Flat, Bent}
-use Rattle.saved_index.specs.Saved.{Header, IsHeader, Saved, IsSaved, AreNumbers, IsNode, AreRootNodes, header_text, split_byte, numbers_text, node_text, roots_text, table_byte, text}
+use Rattle.saved_index.specs.Saved.{Header, IsHeader, Saved, IsSaved, IsTextOf, AreNumbers, IsNode, AreRootNodes, header_text, split_byte, numbers_text, node_text, roots_text, table_byte, text}
 use Rattle.saved_index.specs.Reading.{Read, then_read, child_in, leaf_in, numbers_in, node_in, roots_in, table_of, header_at, is_header, has_header, roots_behind, saved_in, whole}
 use Rattle.saved_index.proofs.NumbersRead.{is_next, next_in}
 use Rattle.saved_index.proofs.NodesRead.{then_is, node_leaf, node_split, both_read}
@@ -234,3 +235,8 @@ saved_again s is =
     (has_again h k rest is.header)
     ∙ ap (λ g. whole g (roots_behind g (text s))) (header_again h k rest is.header)
     ∙ ap (whole h) here
+
+-- bytes are the text of one thing alone
+pub one_text : (bytes : List ℕ) (s t : Saved) → IsTextOf bytes s → IsTextOf bytes t → s ≡ t
+one_text bytes s t of_s of_t =
+    same_Some s t (sym (saved_again s of_s.sound) ∙ ap saved_in (sym of_s.spelled ∙ of_t.spelled) ∙ saved_again t of_t.sound)

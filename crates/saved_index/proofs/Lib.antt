@@ -7,3 +7,9 @@ pub mod SoundWhole
 pub mod WholeRead
 pub mod Saves
 pub mod Ascents
+pub mod MakesIndex
+pub mod TreeSaves
+pub mod LeavesTold
+pub mod OfSaved
+pub mod NoFault
+pub mod TextTold

@@ -1,6 +1,14 @@
 -- Laws of the texts of indexes.
-use Rattle.std.specs.Prelude.{◌≡◌, ℕ, ◌<◌, ◌↔◌, List, Some}
+use Rattle.std.specs.Prelude.{◌≡◌, ℕ, ◌<◌, ◌≤◌, ◌↔◌, List, length, map, Some, None}
 use Rattle.std.specs.List.{All}
+use Rattle.series_core.specs.Collection.{Collection, IsCollection}
+use Rattle.segment_sums.specs.Division.{IsDivision}
+use Rattle.subtree_build.specs.declared.settings.Settings.{Settings}
+use Rattle.subtree_build.specs.Fits.{Fits, IsTreeOf}
+use Rattle.subtree_build.specs.Index.{IndexParts, IsIndex}
+use Rattle.subtree_build.specs.Outline.{outline}
+use Rattle.saved_index.specs.Faults.{index_fault}
+use Rattle.saved_index.specs.IndexText.{CanSave, IndexText}
 use Rattle.saved_index.specs.Reading.{saved_in}
 use Rattle.saved_index.specs.Saved.{Saved, IsTextOf}
 
@@ -11,3 +19,35 @@ TextsAreOne = (bytes : List ℕ) (s t : Saved) → IsTextOf bytes s → IsTextOf
 -- bytes are read as what they are the text of, and as nothing else
 abbrev pub ReadsTexts : Type 0
 ReadsTexts = (bytes : List ℕ) (s : Saved) → All (λ b. b < 256) bytes → (saved_in bytes ≡ Some s) ↔ IsTextOf bytes s
+
+-- an index that fits a collection under settings
+pub record IsIndexOf (c : Collection) (settings : Settings) (ix : IndexParts) : Type 0 where
+  pub division : IsDivision settings.layout.cuts
+  pub index : IsIndex ix
+  pub fits : Fits c settings.layout ix
+
+-- indexes that are the same, wherever their nodes lie in memory
+pub record AreSame (ix jx : IndexParts) : Type 0 where
+  pub segments : ix.segments ≡ jx.segments
+  pub roots : ix.roots ≡ jx.roots
+  pub nodes : map outline ix.nodes ≡ map outline jx.nodes
+  pub leaves : ix.leaves ≡ jx.leaves
+  pub means : ix.means ≡ jx.means
+  pub finer : ix.finer ≡ jx.finer
+
+-- indexes that fit one collection and have one text are the same, and have the same settings
+abbrev pub TextTellsIndex : Type 0
+TextTellsIndex = (c : Collection) (bytes : List ℕ) (s t : Settings) (m n : ℕ) (ix jx : IndexParts)
+    → IsIndexOf c s ix → IsIndexOf c t jx → IndexText bytes s m ix → IndexText bytes t n jx → (s ≡ t) × AreSame ix jx
+
+-- the text of an index that fits a collection has nothing against it, where it is no longer than a saved index may be
+abbrev pub TextHasNoFault : Type 0
+TextHasNoFault = (c : Collection) (bytes : List ℕ) (settings : Settings) (ix : IndexParts) → IsIndexOf c settings ix
+    → settings.layout.cuts.row_length ≡ c.points → IndexText bytes settings (length c.series) ix → length bytes ≤ 1073741824
+    → index_fault bytes c ≡ None
+
+-- an index that is the tree of a collection can be saved
+abbrev pub TreesCanBeSaved : Type 0
+TreesCanBeSaved = (c : Collection) (settings : Settings) (ix : IndexParts) → IsCollection c
+    → IsTreeOf c settings.layout settings.leaf_size ix → 1 ≤ settings.leaf_size → settings.leaf_size ≤ 65535
+    → CanSave settings (length c.series) ix

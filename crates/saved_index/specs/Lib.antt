@@ -3,7 +3,7 @@ pub mod Saved
 pub mod Reading
 pub mod Fields
 pub mod IndexText
+pub mod Faults
 pub mod Laws
 pub mod Parsed
-pub mod Faults
 pub mod Loading

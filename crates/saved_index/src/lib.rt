@@ -13,7 +13,7 @@ mod savable;
 mod saving;
 
 pub use error::IndexFault;
-pub use laws::{one_text_law, reading_law};
+pub use laws::{no_fault_law, one_text_law, reading_law, text_tells_index_law, tree_law};
 pub use loading::{LoadedIndex, load};
 pub use savable::can_save;
 pub use saving::save;
