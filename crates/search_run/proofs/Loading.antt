@@ -14,11 +14,13 @@ use Rattle.series_file.specs.Format.{HasForm, HasText}
 use Rattle.series_file.specs.declared.error.Form.TheVariants.{Headed, Raw}
 use Rattle.series_file.specs.declared.error.Loaded.{Loaded}
 use Rattle.saved_index.specs.Faults.{index_fault}
+use Rattle.saved_index.specs.Loading.{Explains as ExplainsIndex, IsTextFor}
+use Rattle.saved_index.specs.declared.loading.LoadedIndex.{LoadedIndex}
 use Rattle.saved_index.specs.declared.error.IndexFault.{IndexFault}
 use Rattle.saved_index.specs.declared.error.IndexFault.TheVariants as index
 use Rattle.series_core.specs.Collection.{Collection}
 use Rattle.search_run.specs.Certificates.{RefusesCertificate, ShowsInvalid}
-use Rattle.search_run.specs.Indexes.{RefusesIndex, ShowsIndexFault, index_refusal}
+use Rattle.search_run.specs.Indexes.{IsFitIndex, RefusesIndex, ShowsIndexFault, index_refusal}
 use Rattle.search_run.specs.Loads.{HoldsBytes, RefusesFile, RefusesNamed, ShowsFault, refusal_of}
 use Rattle.search_run.specs.Pairs.{HasLabels}
 use Rattle.search_run.specs.Traffic.{Reading}
@@ -60,6 +62,23 @@ file_refused w reading name at left form e opened x failed = (
   tt,
   opened_holds reading.held name at left (λ bytes. fault form bytes ≡ Some e) opened x,
 )
+
+-- a refusal of a saved index that was opened is the cause of its status
+pub index_refused : (c : Collection) (reading : Reading) (name : List ℕ) (at left : Option (List ℕ)) (e : IndexFault)
+    → Opens reading.held name at left → ExplainsIndex c left e
+    → (e ≡ index.ReadFault → Rose reading.faults reading.later × IfSome reading.blamed (λ b. at ≡ Some b))
+    → RefusesIndex c reading name (index_refusal e)
+index_refused c reading name at left index.ReadFault opened x failed =
+    let f = failed refl in (refl, f.0, blamed_open reading.held name at left reading.blamed opened f.1)
+index_refused c reading name at left index.NoMemory opened x failed = tt
+index_refused c reading name at left e opened x failed =
+    (tt, opened_holds reading.held name at left (λ bytes. index_fault bytes c ≡ Some e) opened x)
+
+-- the bytes of what was loaded have no fault
+pub fit_told : (c : Collection) (loaded : LoadedIndex) (left : Option (List ℕ)) → IfSome left (IsTextFor c loaded)
+    → IfSome left (IsFitIndex c)
+fit_told c loaded None x = tt
+fit_told c loaded (Some bytes) x = x.no_fault
 
 -- what refuses a name refuses it also where its bytes may show more, and in the whole of a run of which this is a part
 pub named_wider : (w : Which) (whole part : Reading) (name : List ℕ) (P Q : Status → Type 0) (status : Status)
