@@ -17,7 +17,7 @@ use saved_index::{IndexFault, load};
 use series_core::Flat;
 use std::thread::Threads;
 
-/// Loads the saved index of this name over these series, by so many workers.
+/// Loads the saved index of this name over these series, by at least one worker.
 pub fn load_index<T: Threads + Sync, F: Files, G: Gate + Sync>(
     crew: &Crew<'_, T, G>,
     files: &mut F,
@@ -25,7 +25,7 @@ pub fn load_index<T: Threads + Sync, F: Files, G: Gate + Sync>(
     rows: &Flat,
     workers: u32,
 ) -> Result<Tree, Status>
-    requires workers { (1 ≤ workers) × (workers ≤ 64) }
+    requires { 1 ≤ workers }
     ensures fits { IfOk result (IsTreeFor rows.now) }
     ensures held { IfOk result (λ _. HoldsBytes (F.held files.old) name.now (IsFitIndex rows.now)) }
     ensures refused { IfErr result (RefusesIndex rows.now

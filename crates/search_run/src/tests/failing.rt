@@ -222,7 +222,10 @@ fn a_line_that_is_not_told_changes_no_status(rt: HostRuntime) -> Result<(), Fail
         ("nearest A Q --segments 5", Status::Settings(5, 4)),
         ("nearest A nobody", Status::Missing(Which::Queries)),
         ("nearest A Q --index nobody", Status::Missing(Which::Index)),
-        ("nearest zeros Q --index I", Status::Index(IndexFault::Count(4, 3))),
+        (
+            "nearest zeros Q --index I",
+            Status::Index(IndexFault::Count(4, 3)),
+        ),
         ("", Status::Usage),
     ];
     for (line, status) in table {

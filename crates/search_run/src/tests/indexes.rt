@@ -184,16 +184,7 @@ const SEARCHES: [(&[(usize, u8)], usize, Row); 12] = [
             "isearch: queries: no such file\n",
         ),
     ),
-    (
-        &[],
-        58,
-        (
-            "nearest A none --index C",
-            Status::Done,
-            "",
-            "",
-        ),
-    ),
+    (&[], 58, ("nearest A none --index C", Status::Done, "", "")),
 ];
 
 #[test]
@@ -203,8 +194,16 @@ fn searches_over_a_saved_index(rt: HostRuntime) -> Result<(), Fail> {
             let file = changed(rt.alloc(), changes, end)?;
             let ended = run_line(&rt, rt.alloc(), line, &file, Outside::sound(piece), &NoGate)?;
             assert_eq!(rt; ended.status, status, "{line}, {changes:?}, {end}");
-            assert_eq!(rt; ended.out.written(), text.as_bytes(), "{line}, {changes:?}, {end}");
-            assert_eq!(rt; ended.err.written(), told.as_bytes(), "{line}, {changes:?}, {end}");
+            assert_eq!(rt;
+                ended.out.written(),
+                text.as_bytes(),
+                "{line}, {changes:?}, {end}"
+            );
+            assert_eq!(rt;
+                ended.err.written(),
+                told.as_bytes(),
+                "{line}, {changes:?}, {end}"
+            );
         }
     }
     let fault = Status::Index(IndexFault::NotIndex);
@@ -217,7 +216,11 @@ fn a_tree_that_is_saved_and_loaded_answers_as_one_that_is_built(
     rt: HostRuntime,
 ) -> Result<(), Fail> {
     let sound = Outside::sound(16);
-    for settings in ["--segments 4 --leaf 3", "--segments 8 --leaf 1 --breaks bent", "--leaf 60"] {
+    for settings in [
+        "--segments 4 --leaf 3",
+        "--segments 8 --leaf 1 --breaks bent",
+        "--leaf 60",
+    ] {
         let line = format!(in rt.alloc(); "save drawn {settings}")?;
         let saved = run_line(&rt, rt.alloc(), &line, b"", sound, &NoGate)?;
         assert_eq!(rt; saved.status, Status::Done, "{line}");
@@ -229,7 +232,11 @@ fn a_tree_that_is_saved_and_loaded_answers_as_one_that_is_built(
             assert_eq!(rt; built.status, Status::Done, "{line}, {settings}");
             assert_eq!(rt; loaded.status, Status::Done, "{line}, {settings}");
             assert!(rt; !built.out.written().is_empty(), "{line}, {settings}");
-            assert_eq!(rt; loaded.out.written(), built.out.written(), "{line}, {settings}");
+            assert_eq!(rt;
+                loaded.out.written(),
+                built.out.written(),
+                "{line}, {settings}"
+            );
         }
     }
     Ok(())

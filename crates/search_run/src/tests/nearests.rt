@@ -85,7 +85,12 @@ const NEARESTS: [Row; 16] = [
         "",
     ),
     ("nearest A Q --sealed", Status::Done, "query 0\n1 0 4\n", ""),
-    ("nearest A Q --index I", Status::Done, "query 0\n1 0 4\n", ""),
+    (
+        "nearest A Q --index I",
+        Status::Done,
+        "query 0\n1 0 4\n",
+        "",
+    ),
 ];
 
 #[test]
