@@ -7,6 +7,13 @@ pub mod SoundWhole
 pub mod WholeRead
 pub mod Saves
 pub mod Ascents
+pub mod Below
+pub mod Wording
+pub mod Weights
+pub mod Fitted
+pub mod Marks
+pub mod Loaded
+pub mod Refusals
 pub mod MakesIndex
 pub mod TreeSaves
 pub mod LeavesTold

@@ -28,7 +28,7 @@ use Rattle.saved_index.proofs.LeavesTold.{worded_leaf}
 use Rattle.saved_index.proofs.OfSaved.{leaves_of_saved}
 
 -- none of the numbers is found where none passes the test
-find_none : (p : ℕ → Bool) (a n : ℕ) → ((k : ℕ) → a ≤ k → k < a + n → p k ≡ false)
+pub find_none : (p : ℕ → Bool) (a n : ℕ) → ((k : ℕ) → a ≤ k → k < a + n → p k ≡ false)
     → find p (range_with_len a n) ≡ None
 find_none p a zero fails = refl
 find_none p a (suc n) fails =

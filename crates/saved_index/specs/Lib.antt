@@ -7,3 +7,4 @@ pub mod Faults
 pub mod Laws
 pub mod Parsed
 pub mod Loading
+pub mod Membership

@@ -1,5 +1,5 @@
 -- What loading a saved index over a collection answers, what it leaves of the open file, and what else it does to the files.
-use Rattle.std.specs.Prelude.{◌≡◌, ◌≢◌, ℕ, ◌+◌, ◌≤◌, ⊤, List, drop, length, Option, Some, None, Result, Err, IfSome, IsErrOf}
+use Rattle.std.specs.Prelude.{◌≡◌, ◌≢◌, ℕ, ◌≤◌, ⊤, ◌⊎◌, List, drop, length, Option, Some, None, Result, Err, IfSome, IsErrOf}
 use Rattle.std.specs.Io.KnownBytes.{IsAtEnd}
 use Rattle.outside.specs.Count.{Rose}
 use Rattle.outside.specs.Files.{Held, Blames, TakesAtMost}
@@ -10,8 +10,10 @@ use Rattle.subtree_build.specs.Index.{IsIndex}
 use Rattle.saved_index.specs.declared.error.IndexFault.{IndexFault}
 use Rattle.saved_index.specs.declared.error.IndexFault.TheVariants.{TooLong, ReadFault, NoMemory}
 use Rattle.saved_index.specs.declared.loading.LoadedIndex.{LoadedIndex}
+use Rattle.saved_index.specs.declared.reading.Spelled.{Spelled}
 use Rattle.saved_index.specs.Faults.{index_fault}
 use Rattle.saved_index.specs.IndexText.{IndexText}
+use Rattle.saved_index.specs.Parsed.{IsSavedRead}
 
 -- An index by which a collection may be searched: it fits the collection under the layout of its settings, which is for series of the
 -- collection's length, and the leaf size is within its limits.
@@ -28,6 +30,16 @@ pub record IsTextFor (c : Collection) (loaded : LoadedIndex) (bytes : List ℕ) 
   pub no_fault : index_fault bytes c ≡ None
   pub text : IndexText bytes loaded.settings (length c.series) loaded.index
 
+-- What was read of bytes is of series of a collection's length, and of as many.
+pub record IsSavedFor (c : Collection) (bytes : List ℕ) (r : Spelled) : Type 0 where
+  pub read : IsSavedRead bytes r
+  pub points : r.fields.length ≡ c.points
+  pub count : r.fields.count ≡ length c.series
+
+-- The refusal is what bytes have against a collection, or want of memory.
+abbrev pub Refuses : Collection → List ℕ → IndexFault → Type 0
+Refuses c bytes e = (e ≡ NoMemory) ⊎ (index_fault bytes c ≡ Some e)
+
 -- The file was read to its end, and its bytes, where told, are the text of what was loaded.
 abbrev pub LoadsWhole : Collection → Option (List ℕ) → Option (List ℕ) → LoadedIndex → Type 0
 LoadsWhole c before now loaded = IsAtEnd now × IfSome before (IsTextFor c loaded)
@@ -39,10 +51,10 @@ Explains c before NoMemory = ⊤
 Explains c before e = IfSome before (λ bytes. index_fault bytes c ≡ Some e)
 
 -- What a refusal leaves of the file, where told: of one that is too long what lies behind one byte more than the limit, where memory ran
--- out that or more, and after a failed read anything; else nothing.
+-- out that or more, or nothing, and after a failed read anything; else nothing.
 abbrev pub Leaves : Option (List ℕ) → Option (List ℕ) → IndexFault → Type 0
 Leaves before now ReadFault = ⊤
-Leaves before now NoMemory = TakesAtMost 1073741825 before now
+Leaves before now NoMemory = TakesAtMost 1073741825 before now ⊎ IsAtEnd now
 Leaves before now TooLong = IfSome before (λ bytes. now ≡ Some (drop 1073741825 bytes))
 Leaves before now e = IsAtEnd now
 

@@ -6,6 +6,9 @@ ghost use Rattle.saved_index.specs.Reading.{has_header, header_at};
 
 use breakpoints::Table;
 use byteorder::{ByteOrder, LittleEndian};
+use isax_word::Layout;
+use segment_sums::Cuts;
+use subtree_build::Settings;
 
 /// How many bytes a header has.
 pub(crate) const HEADER_BYTES: usize = 24;
@@ -68,6 +71,24 @@ impl Fields {
     ghost use Rattle.std.specs.Prelude.{◌≡◌};
     ghost use Rattle.saved_index.specs.Reading.{is_header};
     ghost use Rattle.saved_index.specs.Fields.{header_of};
+    ghost use Rattle.saved_index.specs.Faults.{layout_for};
+    ghost use Rattle.saved_index.specs.Saved.{IsHeader};
+
+    /// The settings that an index of these fields was saved with.
+    pub(crate) fn settings(&self) -> Settings
+        requires { IsHeader (header_of self.now) }
+        ensures layout { result.layout ≡ layout_for (header_of self.now) }
+        ensures leaf_size { result.leaf_size ≡ self.now.leaf_size }
+    {
+        let layout = Layout {
+            cuts: Cuts::new(self.length, self.segments),
+            table: self.table,
+        };
+        Settings {
+            layout,
+            leaf_size: self.leaf_size,
+        }
+    }
 
     /// Whether the fields keep the limits of a header.
     fn keeps_limits(&self) -> bool

@@ -2,9 +2,11 @@
 #![tactic(auto)]
 
 mod error;
+mod fitting;
 mod header;
 mod laws;
 mod loading;
+mod members;
 mod node;
 mod numbers;
 mod reading;
@@ -18,6 +20,10 @@ pub use loading::{LoadedIndex, load};
 pub use savable::can_save;
 pub use saving::save;
 
+#[cfg(test)]
+mod load_tests;
+#[cfg(test)]
+mod plain_fault;
 #[cfg(test)]
 mod plain_reader;
 #[cfg(test)]

@@ -1,14 +1,20 @@
 //! Loading a saved index over a collection: nothing of its bytes is believed. What was read is tested against the rows, series by series,
 //! before it is handed out, and the first refusal in the order of `IndexFault` is given.
-ghost use Rattle.std.specs.Prelude.{◌≤◌, IfOk, IfErr};
-ghost use Rattle.saved_index.specs.Loading.{Explains, IsIndexFor, Leaves, Loads, LoadsWhole};
+ghost use Rattle.std.specs.Prelude.{◌≡◌, ◌≤◌, IfOk, IfErr, length};
+ghost use Rattle.saved_index.specs.Loading.{Explains, IsIndexFor, IsSavedFor, IsTextFor, Leaves, Loads, LoadsWhole, Refuses};
 
 use crate::error::IndexFault;
-use outside::Files;
+use crate::fitting::first_unfit;
+use crate::members::assembled;
+use crate::reading::{Spelled, read_saved};
+use outside::{AllError, Files, read_all};
 use series_core::Rows;
 use std::alloc::Global;
 use std::thread::Threads;
 use subtree_build::{Index, Settings};
+
+/// The most bytes of a saved index.
+const MAX_BYTES: u64 = 1073741824;
 
 /// What was loaded: an index, and the settings that it was saved with.
 #[derive(Drop)]
@@ -36,5 +42,60 @@ pub fn load<H: Threads + Sync, F: Files, R: Rows + Sync>(
     ensures left { IfErr result (Leaves (F.left files.old) (F.left files.new)) }
     ensures files { Loads F.held F.at F.blamed F.faults F.misses F.reliable result files.old files.new }
 {
-    Err(IndexFault::NoMemory)
+    let bytes = match read_all(alloc, files, MAX_BYTES) {
+        Ok(bytes) => bytes,
+        Err(AllError::Longer) => return Err(IndexFault::TooLong),
+        Err(AllError::ReadFault) => return Err(IndexFault::ReadFault),
+        Err(AllError::NoMemory) => return Err(IndexFault::NoMemory),
+    };
+    load_bytes(rt, alloc, bytes.as_slice(), rows, workers)
+}
+
+/// Loads these bytes as a saved index over these rows.
+pub(crate) fn load_bytes<H: Threads + Sync, R: Rows + Sync>(
+    rt: &H,
+    alloc: Global,
+    bytes: &[u8],
+    rows: &R,
+    workers: u32,
+) -> Result<LoadedIndex, IndexFault>
+    requires short { length bytes.now ≤ 1073741824 }
+    requires some { 1 ≤ workers }
+    ensures fits { IfOk result (IsIndexFor (R.collection rows.now)) }
+    ensures text { IfOk result (λ loaded. IsTextFor (R.collection rows.now) loaded bytes.now) }
+    ensures refused { IfErr result (Refuses (R.collection rows.now) bytes.now) }
+{
+    let read = match read_for(alloc, bytes, rows) {
+        Ok(read) => read,
+        Err(e) => return Err(e),
+    };
+    let settings = read.fields.settings();
+    let index = assembled(alloc, rows, &settings.layout, read.found)?;
+    // for the fact that it is an index
+    let _leaves = index.leaf_count();
+    if let Some(number) = first_unfit(alloc, &index, rows.count())? {
+        return Err(IndexFault::Unfit(number));
+    }
+    let index = index.with_means(rt, alloc, rows, &settings.layout, workers)?;
+    Ok(LoadedIndex { settings, index })
+}
+
+/// What the bytes are the text of, where that is an index over series of these rows' length and count.
+fn read_for<R: Rows>(alloc: Global, bytes: &[u8], rows: &R) -> Result<Spelled, IndexFault>
+    requires { length bytes.now ≤ 1073741824 }
+    ensures read { IfOk result (IsSavedFor (R.collection rows.now) bytes.now) }
+    ensures refused { IfErr result (Refuses (R.collection rows.now) bytes.now) }
+{
+    let read = match read_saved(alloc, bytes) {
+        Ok(read) => read,
+        Err(e) => return Err(e),
+    };
+    let fields = &read.fields;
+    if fields.length != rows.length() {
+        return Err(IndexFault::Length(fields.length, rows.length()));
+    }
+    if fields.count != rows.count() {
+        return Err(IndexFault::Count(fields.count, rows.count()));
+    }
+    Ok(read)
 }

@@ -17,14 +17,14 @@ use std::test::Fail;
 use subtree_build::{Node, Settings, build};
 
 /// The text of the worked collection of four series of four values, by two segments.
-const TEXT: [u8; 58] = [
+pub(crate) const TEXT: [u8; 58] = [
     0x49, 0x53, 0x45, 0x58, 1, 0, 2, 0, 4, 0, 0, 0, 4, 0, 0, 0, 0xe8, 3, 0, 0, 2, 0, 0, 0, // header
     0, 0, 0, 0, 0, 1, 0, 0, 0, 2, 0, 0, 0, // root 0
     3, 0, 0, 0, 0, 3, 0, 0, 0, 0, 0, 0, 0, 1, 0, 0, 0, 3, 0, 0, 0, // root 3
 ];
 
 /// The worked collection.
-fn worked(alloc: Global) -> Result<Flat, Fail>
+pub(crate) fn worked(alloc: Global) -> Result<Flat, Fail>
     ensures { IfOk result (λ rows. rows.points ≡ 4) }
 {
     let values = [0, 0, 0, 0, 10, 10, 10, 10, -10, -10, -10, -10, 0, 0, 10, 10];
@@ -32,7 +32,7 @@ fn worked(alloc: Global) -> Result<Flat, Fail>
 }
 
 /// The text of the tree of rows of length 4 by two segments, with leaves of so many members.
-fn text_of<H: std::thread::Threads + Sync>(
+pub(crate) fn text_of<H: std::thread::Threads + Sync>(
     rt: &H,
     alloc: Global,
     rows: &Flat,

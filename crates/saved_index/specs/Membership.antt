@@ -1,0 +1,43 @@
+-- Members of leaves: how they are made of numbers, and what they count for the series of a number.
+use Rattle.std.specs.Prelude.{ℕ, ◌*◌, ◌==◌, not, List, [], map, slice_index_or, Bool, Option, find, if◌then◌else◌}
+use Rattle.std.specs.List.{range_with_len}
+use Rattle.list_totals.specs.Totals.{total, one_if_same}
+use Rattle.series_core.specs.Collection.{Collection}
+use Rattle.isax_word.specs.declared.layout.Layout.{Layout}
+use Rattle.isax_word.specs.declared.member.Member.{Member}
+use Rattle.isax_word.specs.declared.word.Part.{Part}
+use Rattle.isax_word.specs.FullWord.{full_word}
+use Rattle.isax_word.specs.Word.{word_contains}
+use Rattle.subtree_build.specs.declared.leaf.TreeLeaf.{TreeLeaf}
+
+-- the full words of all series, by number
+abbrev pub words_of : Collection → Layout → List (List ℕ)
+words_of c layout = map (full_word layout) c.series
+
+-- the member of a number, with the full word that has this number
+abbrev pub with_word : List (List ℕ) → ℕ → Member
+with_word words n = record { number = n; full = slice_index_or words n [] }
+
+-- the members of numbers, list by list
+abbrev pub members_in_lists : List (List ℕ) → List (List ℕ) → List (List Member)
+members_in_lists words lists = map (λ numbers. map (with_word words) numbers) lists
+
+-- what a member of a leaf of this word weighs: 1 where the word contains its full word, and else 2
+abbrev pub weight : List Part → Member → ℕ
+weight word m = if word_contains word m.full then 1 else 2
+
+-- what it weighs for series i: nothing where its number is another
+abbrev pub weight_for : ℕ → List Part → Member → ℕ
+weight_for i word m = one_if_same i m.number * weight word m
+
+-- what the members of a leaf weigh for series i
+abbrev pub leaf_weight : ℕ → TreeLeaf → ℕ
+leaf_weight i x = total (weight_for i x.word) x.members
+
+-- whether the members of leaves weigh other than 1 for series i
+abbrev pub is_unfit : List TreeLeaf → ℕ → Bool
+is_unfit leaves i = not (total (leaf_weight i) leaves == 1)
+
+-- the least series number below a count for which they do
+abbrev pub first_unfit_of : List TreeLeaf → ℕ → Option ℕ
+first_unfit_of leaves count = find (is_unfit leaves) (range_with_len 0 count)
