@@ -1,14 +1,29 @@
--- What refuses two files and their lengths refuses whatever comes behind them (`files_refused`).
+-- What refuses two files and their lengths refuses whatever comes behind them (`alike_refused`, `files_refused`).
 use Rattle.std.proofs.Common.{ℕ, List, inl, inr, ⊎_elim}
 use Rattle.command_words.specs.declared.options.Options.{Options}
 use Rattle.series_file.specs.declared.error.Loaded.{Loaded}
-use Rattle.search_run.specs.Commands.{plan_over}
-use Rattle.search_run.specs.Pairs.{files_plan}
+use Rattle.search_run.specs.Commands.{alike_plan, plan_over}
+use Rattle.search_run.specs.Pairs.{files_plan, lengths_plan}
 use Rattle.search_run.specs.Plans.{Plan, Refuses}
 use Rattle.search_run.specs.Traffic.{Reading}
 use Rattle.search_run.specs.declared.status.Status.{Status}
 
--- what refuses two files and their lengths refuses whatever comes behind them
+-- what refuses two files and the lengths of their series refuses whatever comes behind them
+pub alike_refused : (reading : Reading) (series queries : List ℕ) (o : Options) (then_ : Loaded → Loaded → Plan)
+    (status : Status) → Refuses reading (lengths_plan series queries o) status
+    → Refuses reading (alike_plan series queries o then_) status
+alike_refused reading series queries o then_ status =
+    ⊎_elim (λ x. inl x) (λ x. inr (
+      x.0,
+      x.1,
+      ⊎_elim (λ y. inl y) (λ y. inr (
+        y.0,
+        y.1,
+        ⊎_elim (λ z. inl z) (λ z. absurd z.1) y.2,
+      )) x.2,
+    ))
+
+-- what refuses two files, the lengths and the asked segments refuses whatever comes behind them
 pub files_refused : (reading : Reading) (series queries : List ℕ) (o : Options) (then_ : Loaded → Loaded → Plan)
     (status : Status) → Refuses reading (files_plan series queries o) status
     → Refuses reading (plan_over series queries o then_) status

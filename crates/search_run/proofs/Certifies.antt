@@ -2,7 +2,9 @@
 -- show (`only_done`).
 use Rattle.std.proofs.Common.{◌≡◌, ℕ, List, Option, refl, subst}
 use Rattle.outside.specs.Files.{Held}
+use Rattle.command_words.specs.Absence.{IndexStandsAlone}
 use Rattle.command_words.specs.Limits.{KeepsLimits}
+use Rattle.command_words.specs.Settings.{options_of}
 use Rattle.command_words.specs.declared.command.Command.{Command}
 use Rattle.command_words.specs.declared.command.Command.TheVariants.{Nearest, Range, Verify, Trial, Convert, Save, Windows, Discord}
 use Rattle.search_run.specs.Ends.{Answers, NoCommand}
@@ -10,7 +12,7 @@ use Rattle.search_run.specs.Traffic.{Reading, Writing}
 use Rattle.search_run.specs.Verified.{Certifies}
 use Rattle.search_run.proofs.Verified.{texts_valid}
 use Rattle.search_run.specs.declared.status.Status.{Status}
-use Rattle.search_run.specs.declared.status.Status.TheVariants.{Done, Usage, Missing, ReadFault, Format, Mismatch, Settings, WriteFault, Memory, Invalid}
+use Rattle.search_run.specs.declared.status.Status.TheVariants.{Done, Usage, Missing, ReadFault, Format, Mismatch, Settings, WriteFault, Memory, Invalid, Index}
 
 -- what did not end well, or is no search for the nearest, has nothing to certify
 pub only_done : (held : Option Held) (command : Command) (writing : Writing) (status : Status) → (status ≡ Done → ⊥)
@@ -25,6 +27,7 @@ only_done held (Nearest series queries o) writing (Settings w n) other = tt
 only_done held (Nearest series queries o) writing WriteFault other = tt
 only_done held (Nearest series queries o) writing Memory other = tt
 only_done held (Nearest series queries o) writing (Invalid e) other = tt
+only_done held (Nearest series queries o) writing (Index e) other = tt
 only_done held (Range series queries radius o) writing status other = tt
 only_done held (Verify series queries certificate o) writing status other = tt
 only_done held (Trial seed count length queries o) writing status other = tt
@@ -39,27 +42,29 @@ none_done words status none is = subst (NoCommand words) is none
 
 -- what a command wrote
 pub answers_certify : (reading : Reading) (writing : Writing) (command : Command) (status : Status) → KeepsLimits command
-    → Answers reading writing command status → Certifies reading.held command writing status
-answers_certify reading writing (Nearest series queries o) Done limits x = λ certificate. (
+    → IndexStandsAlone (options_of command) → Answers reading writing command status
+    → Certifies reading.held command writing status
+answers_certify reading writing (Nearest series queries o) Done limits alone x = λ certificate. (
   x.0,
   x.2,
   λ short. texts_valid reading.held series queries o o x.0
-      (record { limits = limits.options; certificate = certificate; writes = x.1; short = short })
+      (record { limits = limits.options; alone = alone; certificate = certificate; writes = x.1; short = short })
       (record { k = refl; segments = refl; table = refl; raw = refl }),
 )
-answers_certify reading writing (Nearest series queries o) Usage limits x = tt
-answers_certify reading writing (Nearest series queries o) (Missing w) limits x = tt
-answers_certify reading writing (Nearest series queries o) (ReadFault w) limits x = tt
-answers_certify reading writing (Nearest series queries o) (Format w e) limits x = tt
-answers_certify reading writing (Nearest series queries o) (Mismatch a b) limits x = tt
-answers_certify reading writing (Nearest series queries o) (Settings w n) limits x = tt
-answers_certify reading writing (Nearest series queries o) WriteFault limits x = tt
-answers_certify reading writing (Nearest series queries o) Memory limits x = tt
-answers_certify reading writing (Nearest series queries o) (Invalid e) limits x = tt
-answers_certify reading writing (Range series queries radius o) status limits x = tt
-answers_certify reading writing (Verify series queries certificate o) status limits x = tt
-answers_certify reading writing (Trial seed count length queries o) status limits x = tt
-answers_certify reading writing (Convert series o) status limits x = tt
-answers_certify reading writing (Save series o) status limits x = tt
-answers_certify reading writing (Windows series queries step o) status limits x = tt
-answers_certify reading writing (Discord series o) status limits x = tt
+answers_certify reading writing (Nearest series queries o) Usage limits alone x = tt
+answers_certify reading writing (Nearest series queries o) (Missing w) limits alone x = tt
+answers_certify reading writing (Nearest series queries o) (ReadFault w) limits alone x = tt
+answers_certify reading writing (Nearest series queries o) (Format w e) limits alone x = tt
+answers_certify reading writing (Nearest series queries o) (Mismatch a b) limits alone x = tt
+answers_certify reading writing (Nearest series queries o) (Settings w n) limits alone x = tt
+answers_certify reading writing (Nearest series queries o) WriteFault limits alone x = tt
+answers_certify reading writing (Nearest series queries o) Memory limits alone x = tt
+answers_certify reading writing (Nearest series queries o) (Invalid e) limits alone x = tt
+answers_certify reading writing (Nearest series queries o) (Index e) limits alone x = tt
+answers_certify reading writing (Range series queries radius o) status limits alone x = tt
+answers_certify reading writing (Verify series queries certificate o) status limits alone x = tt
+answers_certify reading writing (Trial seed count length queries o) status limits alone x = tt
+answers_certify reading writing (Convert series o) status limits alone x = tt
+answers_certify reading writing (Save series o) status limits alone x = tt
+answers_certify reading writing (Windows series queries step o) status limits alone x = tt
+answers_certify reading writing (Discord series o) status limits alone x = tt

@@ -1,18 +1,18 @@
 -- How a command ends, from what it did: its clauses of completeness and of causes follow from `Concludes`.
 use Rattle.std.proofs.Common.{◌≢◌, ℕ, ◌++◌, List, inl, inr, refl, subst, arith, ⊎_elim, length-append}
 use Rattle.outside.specs.Sink.{AppendsPrefix}
-use Rattle.search_run.specs.Ends.{Answers, Asks, Concludes, ConcludesBy, Ends, Finishes, IsAnswered, IsFaultless, TellsCause, TellsFault, WroteNothing}
+use Rattle.search_run.specs.Ends.{Answers, Concludes, ConcludesBy, Ends, Finishes, IsAnswered, IsFaultless, TellsCause, TellsFault, WroteNothing}
 use Rattle.search_run.specs.Commands.{CanAnswer, plan_of}
 use Rattle.search_run.specs.Plans.{HasFault, Plan, Refuses}
 use Rattle.search_run.specs.Traffic.{Reading, Writing}
+use Rattle.command_words.specs.Settings.{HasSettings}
 use Rattle.command_words.specs.declared.command.Command.{Command}
 use Rattle.search_run.proofs.Exactly.{one_told, right_without}
 use Rattle.search_run.proofs.Passing.{only_reading}
-use Rattle.search_run.proofs.Refusing.{invalid_has_fault, refuses_for_cause}
+use Rattle.search_run.proofs.Refusing.{refuses_for_cause, told_has_fault}
 use Rattle.search_run.proofs.Writing.{prefix_longer}
-use Rattle.search_run.specs.declared.status.CertFault.{CertFault}
 use Rattle.search_run.specs.declared.status.Status.{Status}
-use Rattle.search_run.specs.declared.status.Status.TheVariants.{Done, Usage, Missing, ReadFault, Format, Mismatch, Settings, WriteFault, Memory, Invalid}
+use Rattle.search_run.specs.declared.status.Status.TheVariants.{Done, Usage, Missing, ReadFault, Format, Mismatch, Settings, WriteFault, Memory, Invalid, Index}
 
 -- a step that refuses concludes a command that wrote nothing
 pub refusal_concludes : (IsRight IsBeginning : List ℕ → Type 0) (reading : Reading) (plan : Plan) (writing : Writing)
@@ -32,6 +32,7 @@ refusal_concludes IsRight IsBeginning reading plan writing status refused nothin
     by_status (Mismatch a b) x = (x, nothing)
     by_status (Settings w n) x = (x, nothing)
     by_status (Invalid e) x = (x, nothing)
+    by_status (Index e) x = (x, nothing)
 
 -- what concludes one command concludes another with the same texts, of whose texts its beginnings are a beginning
 pub concludes_map : (A B C : List ℕ → Type 0) (R Q : Status → Type 0) (writing : Writing) (status : Status)
@@ -63,6 +64,7 @@ concludes_map A B C R Q writing status whole begun refused = by_status status
     by_status (Mismatch a b) x = (refused (Mismatch a b) x.0, x.1)
     by_status (Settings w n) x = (refused (Settings w n) x.0, x.1)
     by_status (Invalid e) x = (refused (Invalid e) x.0, x.1)
+    by_status (Index e) x = (refused (Index e) x.0, x.1)
 
 -- no command ends as words that are none
 pub answers_not_usage : (reading : Reading) (writing : Writing) (command : Command) (status : Status)
@@ -82,7 +84,8 @@ answers_finish reading writing command status answered can = by_status status an
     by_status Done x = tt
     by_status Memory x = tt
     by_status WriteFault x = x.3
-    by_status (Invalid e) x = invalid_has_fault reading (plan_of command) e x.0
+    by_status (Invalid e) x = told_has_fault reading (plan_of command) (Invalid e) tt x.0
+    by_status (Index e) x = told_has_fault reading (plan_of command) (Index e) tt x.0
     by_status (ReadFault w) x = only_reading reading (plan_of command) (ReadFault w) can x.0
     by_status Usage x = absurd (only_reading reading (plan_of command) Usage can x.0)
     by_status (Missing w) x = absurd (only_reading reading (plan_of command) (Missing w) can x.0)
@@ -90,7 +93,7 @@ answers_finish reading writing command status answered can = by_status status an
     by_status (Mismatch a b) x = absurd (only_reading reading (plan_of command) (Mismatch a b) can x.0)
     by_status (Settings w n) x = absurd (only_reading reading (plan_of command) (Settings w n) can x.0)
 
--- one whose certificate has no fault does all of it, or cannot read or write
+-- one whose saved index and certificate have no fault does all of it, or cannot read or write
 pub answers_faultless : (reading : Reading) (writing : Writing) (command : Command) (status : Status)
     → Answers reading writing command status → CanAnswer reading.held command → IsFaultless reading.held command
     → IsAnswered reading.faults reading.later writing.faults writing.later status
@@ -100,7 +103,8 @@ answers_faultless reading writing command status answered can faultless =
     by_status : (status : Status)
         → Finishes reading.held command reading.faults reading.later writing.faults writing.later status
         → IsAnswered reading.faults reading.later writing.faults writing.later status
-    by_status (Invalid e) x = absurd (faultless e x)
+    by_status (Invalid e) x = absurd (faultless (Invalid e) x)
+    by_status (Index e) x = absurd (faultless (Index e) x)
     by_status Done x = x
     by_status Memory x = x
     by_status WriteFault x = x
@@ -111,20 +115,22 @@ answers_faultless reading writing command status answered can faultless =
     by_status (Mismatch a b) x = x
     by_status (Settings w n) x = x
 
--- one whose certificate has a fault tells it, or cannot read
+-- one whose saved index or certificate has a fault tells it, or cannot read
 pub answers_exactly : (reading : Reading) (writing : Writing) (command : Command) (status : Status)
     → Answers reading writing command status → CanAnswer reading.held command
-    → (fault : CertFault) → HasFault reading.held (plan_of command) fault
-    → TellsFault reading.faults reading.later fault status
-answers_exactly reading writing command status answered can fault has = by_status status answered
+    → (told : Status) → HasFault reading.held (plan_of command) told
+    → TellsFault reading.faults reading.later told status
+answers_exactly reading writing command status answered can told has = by_status status answered
   where
     by_status : (status : Status) → Answers reading writing command status
-        → TellsFault reading.faults reading.later fault status
-    by_status Done x = absurd (right_without reading.held (plan_of command) x.0 fault can x.1 has)
-    by_status WriteFault x = absurd (right_without reading.held (plan_of command) x.0 fault can x.1 has)
+        → TellsFault reading.faults reading.later told status
+    by_status Done x = absurd (right_without reading.held (plan_of command) x.0 told can x.1 has)
+    by_status WriteFault x = absurd (right_without reading.held (plan_of command) x.0 told can x.1 has)
     by_status Memory x = tt
-    by_status (Invalid e) x =
-        one_told reading.held (plan_of command) e fault can (invalid_has_fault reading (plan_of command) e x.0) has
+    by_status (Invalid e) x = one_told reading.held (plan_of command) (Invalid e) told can
+        (told_has_fault reading (plan_of command) (Invalid e) tt x.0) has
+    by_status (Index e) x = one_told reading.held (plan_of command) (Index e) told can
+        (told_has_fault reading (plan_of command) (Index e) tt x.0) has
     by_status (ReadFault w) x = only_reading reading (plan_of command) (ReadFault w) can x.0
     by_status Usage x = absurd (only_reading reading (plan_of command) Usage can x.0)
     by_status (Missing w) x = absurd (only_reading reading (plan_of command) (Missing w) can x.0)
@@ -137,6 +143,7 @@ pub answers_cause : (reading : Reading) (writing : Writing) (command : Command) 
     → Answers reading writing command status → TellsCause status
 answers_cause reading writing command (Format w e) x = refuses_for_cause reading (plan_of command) (Format w e) x.0
 answers_cause reading writing command (Invalid e) x = refuses_for_cause reading (plan_of command) (Invalid e) x.0
+answers_cause reading writing command (Index e) x = refuses_for_cause reading (plan_of command) (Index e) x.0
 answers_cause reading writing command Done x = tt
 answers_cause reading writing command Memory x = tt
 answers_cause reading writing command WriteFault x = tt
@@ -148,7 +155,7 @@ answers_cause reading writing command (Settings w n) x = tt
 
 -- a command that the words ask for and that was answered ends a run, since no answer is that the words are none
 pub answer_ends : (words : List (List ℕ)) (reading : Reading) (writing : Writing) (command : Command) (status : Status)
-    → Asks words command → status ≢ Usage → Answers reading writing command status → Ends words reading writing status
+    → HasSettings words command → status ≢ Usage → Answers reading writing command status → Ends words reading writing status
 answer_ends words reading writing command Usage asks other answered = absurd (other refl)
 answer_ends words reading writing command Memory asks other answered = inr (command, asks, answered)
 answer_ends words reading writing command Done asks other answered = (command, asks, answered)
@@ -159,3 +166,4 @@ answer_ends words reading writing command (Mismatch a b) asks other answered = (
 answer_ends words reading writing command (Settings w n) asks other answered = (command, asks, answered)
 answer_ends words reading writing command WriteFault asks other answered = (command, asks, answered)
 answer_ends words reading writing command (Invalid e) asks other answered = (command, asks, answered)
+answer_ends words reading writing command (Index e) asks other answered = (command, asks, answered)

@@ -13,15 +13,22 @@ use Rattle.series_file.specs.declared.error.FileError.TheVariants.{ReadFault as 
 use Rattle.series_file.specs.Format.{HasForm, HasText}
 use Rattle.series_file.specs.declared.error.Form.TheVariants.{Headed, Raw}
 use Rattle.series_file.specs.declared.error.Loaded.{Loaded}
+use Rattle.saved_index.specs.Faults.{index_fault}
+use Rattle.saved_index.specs.Loading.{Explains as ExplainsIndex, IsTextFor}
+use Rattle.saved_index.specs.declared.loading.LoadedIndex.{LoadedIndex}
+use Rattle.saved_index.specs.declared.error.IndexFault.{IndexFault}
+use Rattle.saved_index.specs.declared.error.IndexFault.TheVariants as index
+use Rattle.series_core.specs.Collection.{Collection}
 use Rattle.search_run.specs.Certificates.{RefusesCertificate, ShowsInvalid}
+use Rattle.search_run.specs.Indexes.{IsFitIndex, RefusesIndex, ShowsIndexFault, index_refusal}
 use Rattle.search_run.specs.Loads.{HoldsBytes, RefusesFile, RefusesNamed, ShowsFault, refusal_of}
 use Rattle.search_run.specs.Pairs.{HasLabels}
 use Rattle.search_run.specs.Traffic.{Reading}
 use Rattle.search_run.specs.declared.status.CertFault.{CertFault}
 use Rattle.search_run.specs.declared.status.Which.{Which}
-use Rattle.search_run.specs.declared.status.Which.TheVariants.{Certificate}
+use Rattle.search_run.specs.declared.status.Which.TheVariants.{Certificate, Index as IndexFile}
 use Rattle.search_run.specs.declared.status.Status.{Status}
-use Rattle.search_run.specs.declared.status.Status.TheVariants.{Done, Usage, Missing, ReadFault, Format, Mismatch, Settings, WriteFault, Memory, Invalid}
+use Rattle.search_run.specs.declared.status.Status.TheVariants.{Done, Usage, Missing, ReadFault, Format, Mismatch, Settings, WriteFault, Memory, Invalid, Index}
 
 -- what is so of the bytes that are left of a file that was just opened is so of those that are held
 pub opened_holds : (held : Option Held) (name : List ℕ) (at left : Option (List ℕ)) (IsSo : List ℕ → Type 0)
@@ -56,6 +63,23 @@ file_refused w reading name at left form e opened x failed = (
   opened_holds reading.held name at left (λ bytes. fault form bytes ≡ Some e) opened x,
 )
 
+-- a refusal of a saved index that was opened is the cause of its status
+pub index_refused : (c : Collection) (reading : Reading) (name : List ℕ) (at left : Option (List ℕ)) (e : IndexFault)
+    → Opens reading.held name at left → ExplainsIndex c left e
+    → (e ≡ index.ReadFault → Rose reading.faults reading.later × IfSome reading.blamed (λ b. at ≡ Some b))
+    → RefusesIndex c reading name (index_refusal e)
+index_refused c reading name at left index.ReadFault opened x failed =
+    let f = failed refl in (refl, f.0, blamed_open reading.held name at left reading.blamed opened f.1)
+index_refused c reading name at left index.NoMemory opened x failed = tt
+index_refused c reading name at left e opened x failed =
+    (tt, opened_holds reading.held name at left (λ bytes. index_fault bytes c ≡ Some e) opened x)
+
+-- the bytes of what was loaded have no fault
+pub fit_told : (c : Collection) (loaded : LoadedIndex) (left : Option (List ℕ)) → IfSome left (IsTextFor c loaded)
+    → IfSome left (IsFitIndex c)
+fit_told c loaded None x = tt
+fit_told c loaded (Some bytes) x = x.no_fault
+
 -- what refuses a name refuses it also where its bytes may show more, and in the whole of a run of which this is a part
 pub named_wider : (w : Which) (whole part : Reading) (name : List ℕ) (P Q : Status → Type 0) (status : Status)
     → part.held ≡ whole.held → whole.faults ≤ part.faults → whole.misses ≤ part.misses
@@ -82,6 +106,7 @@ named_wider w whole part name P Q status kept less fewer later more blames shown
     by_status (Settings v n) x = shown (Settings v n) x
     by_status WriteFault x = shown WriteFault x
     by_status (Invalid e) x = shown (Invalid e) x
+    by_status (Index e) x = shown (Index e) x
 
 -- a refusal of a series file in a part of a run is one in the whole of it
 pub file_wider : (w : Which) (whole part : Reading) (name : List ℕ) (form : Form) (status : Status)
@@ -101,6 +126,15 @@ certificate_wider whole part IsFaulty name status kept less fewer later more bla
     named_wider Certificate whole part name (ShowsInvalid IsFaulty part.held name)
     (ShowsInvalid IsFaulty whole.held name) status
     kept less fewer later more blames (λ s x. subst (λ held. ShowsInvalid IsFaulty held name s) kept x)
+
+-- and so is a refusal of a saved index
+pub index_wider : (whole part : Reading) (c : Collection) (name : List ℕ) (status : Status)
+    → part.held ≡ whole.held → whole.faults ≤ part.faults → whole.misses ≤ part.misses
+    → part.later ≡ whole.later → part.more ≡ whole.more → part.blamed ≡ whole.blamed
+    → RefusesIndex c part name status → RefusesIndex c whole name status
+index_wider whole part c name status kept less fewer later more blames =
+    named_wider IndexFile whole part name (ShowsIndexFault c part.held name) (ShowsIndexFault c whole.held name) status
+    kept less fewer later more blames (λ s x. subst (λ held. ShowsIndexFault c held name s) kept x)
 
 -- the first of two facts of what is left
 pub first_part : (left : Option (List ℕ)) (P Q : List ℕ → Type 0)

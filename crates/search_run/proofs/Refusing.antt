@@ -1,15 +1,16 @@
 -- What the statuses of refusals are: a status of words or of written text refuses no step (`refuses_for_cause`), and
--- a certificate is told to be invalid only for a fault that it has (`invalid_has_fault`).
+-- of a saved index or a certificate a fault is told only where it has that (`told_has_fault`).
 use Rattle.std.proofs.Common.{ℕ, List, Option, None, Some, inl, inr, ⊎_elim}
+use Rattle.series_core.specs.Collection.{Collection}
 use Rattle.series_file.specs.declared.error.Form.{Form}
-use Rattle.search_run.specs.Certificates.{IsFault, RefusesCertificate, Subject}
+use Rattle.search_run.specs.Certificates.{IsFault, RefusesCertificate, ShowsInvalid, Subject}
 use Rattle.search_run.specs.Ends.{TellsCause}
+use Rattle.search_run.specs.Indexes.{RefusesIndex, ShowsIndexFault}
 use Rattle.search_run.specs.Loads.{RefusesFile}
-use Rattle.search_run.specs.Plans.{Differs, HasFault, Plan, Load, Compare, Divide, Check, Write, Refuses, TooMany}
+use Rattle.search_run.specs.Plans.{Differs, HasFault, Plan, Load, Compare, Divide, LoadIndex, Check, Write, Refuses, TooMany}
 use Rattle.search_run.specs.Traffic.{Reading}
-use Rattle.search_run.specs.declared.status.CertFault.{CertFault}
 use Rattle.search_run.specs.declared.status.Status.{Status}
-use Rattle.search_run.specs.declared.status.Status.TheVariants.{Done, Usage, Missing, ReadFault, Format, Mismatch, Settings, WriteFault, Memory, Invalid}
+use Rattle.search_run.specs.declared.status.Status.TheVariants.{Done, Usage, Missing, ReadFault, Format, Mismatch, Settings, WriteFault, Memory, Invalid, Index}
 use Rattle.search_run.specs.declared.status.Which.{Which}
 
 -- a status that a refusal can have, which tells a cause
@@ -31,6 +32,7 @@ file_is w reading name form (Settings v n) x = tt
 file_is w reading name form WriteFault x = x
 file_is w reading name form Memory x = tt
 file_is w reading name form (Invalid e) x = absurd x
+file_is w reading name form (Index e) x = absurd x
 
 lengths_are : (a b : ℕ) (status : Status) → Differs a b status → IsRefusal status
 lengths_are a b (Mismatch c d) x = tt
@@ -53,6 +55,21 @@ certificate_is s reading name (Settings v n) x = tt
 certificate_is s reading name WriteFault x = x
 certificate_is s reading name Memory x = tt
 certificate_is s reading name (Invalid e) x = x.0
+certificate_is s reading name (Index e) x = absurd x
+
+index_is : (c : Collection) (reading : Reading) (name : List ℕ) (status : Status)
+    → RefusesIndex c reading name status → IsRefusal status
+index_is c reading name Done x = x
+index_is c reading name Usage x = x
+index_is c reading name (Missing v) x = tt
+index_is c reading name (ReadFault v) x = tt
+index_is c reading name (Format v e) x = absurd x
+index_is c reading name (Mismatch a b) x = tt
+index_is c reading name (Settings v n) x = tt
+index_is c reading name WriteFault x = x
+index_is c reading name Memory x = tt
+index_is c reading name (Invalid e) x = absurd x
+index_is c reading name (Index e) x = x.0
 
 -- a step that refuses has such a status
 pub refuses_for_cause : (reading : Reading) (plan : Plan) (status : Status) → Refuses reading plan status
@@ -63,24 +80,61 @@ refuses_for_cause reading (Compare a b then_) status =
     ⊎_elim (lengths_are a b status) (λ x. refuses_for_cause reading then_ status x.1)
 refuses_for_cause reading (Divide w n then_) status =
     ⊎_elim (segments_are w n status) (λ x. refuses_for_cause reading then_ status x.1)
+refuses_for_cause reading (LoadIndex name c then_) status =
+    ⊎_elim (index_is c reading name status) (λ x. refuses_for_cause reading then_ status x.1)
 refuses_for_cause reading (Check name s then_) status =
     ⊎_elim (certificate_is s reading name status) (λ x. refuses_for_cause reading then_ status x.1)
 refuses_for_cause reading (Write IsRight) status = λ x. absurd x
 
--- no segments are told as a fault of a certificate
-segments_no_fault : (w : Option ℕ) (n : ℕ) (e : CertFault) → TooMany w n (Invalid e) → ⊥
-segments_no_fault None n e x = x
-segments_no_fault (Some w) n e x = x
+-- a status that tells a fault of a saved index or of a certificate
+abbrev pub IsToldFault : Status → Type 0
+IsToldFault (Invalid e) = Unit {0}
+IsToldFault (Index e) = Unit {0}
+IsToldFault status = ⊥
 
--- a certificate that is told to be invalid has the fault that is told
-pub invalid_has_fault : (reading : Reading) (plan : Plan) (e : CertFault) → Refuses reading plan (Invalid e)
-    → HasFault reading.held plan e
-invalid_has_fault reading (Load w name form then_) e =
-    ⊎_elim (λ x. absurd x) (λ x. (x.0, x.1, invalid_has_fault reading (then_ x.0) e x.2))
-invalid_has_fault reading (Compare a b then_) e =
-    ⊎_elim (λ x. absurd x) (λ x. (x.0, invalid_has_fault reading then_ e x.1))
-invalid_has_fault reading (Divide w n then_) e =
-    ⊎_elim (λ x. absurd (segments_no_fault w n e x)) (λ x. (x.0, invalid_has_fault reading then_ e x.1))
-invalid_has_fault reading (Check name s then_) e =
-    ⊎_elim (λ x. inl x.1) (λ x. inr (x.0, invalid_has_fault reading then_ e x.1))
-invalid_has_fault reading (Write IsRight) e = λ x. absurd x
+-- no series file is refused so, nor are lengths and segments
+file_tells : (w : Which) (reading : Reading) (name : List ℕ) (form : Form) (status : Status) → IsToldFault status
+    → RefusesFile w reading name form status → ⊥
+file_tells w reading name form (Invalid e) is x = x
+file_tells w reading name form (Index e) is x = x
+file_tells w reading name form status is x = is
+
+lengths_tell : (a b : ℕ) (status : Status) → IsToldFault status → Differs a b status → ⊥
+lengths_tell a b (Mismatch c d) is x = is
+lengths_tell a b status is x = x
+
+segments_tell : (w : Option ℕ) (n : ℕ) (status : Status) → IsToldFault status → TooMany w n status → ⊥
+segments_tell (Some w) n (Settings v m) is x = is
+segments_tell (Some w) n status is x = x
+segments_tell None n status is x = x
+
+-- what is refused so shows the fault
+index_tells : (c : Collection) (reading : Reading) (name : List ℕ) (status : Status) → IsToldFault status
+    → RefusesIndex c reading name status → ShowsIndexFault c reading.held name status
+index_tells c reading name (Invalid e) is x = x
+index_tells c reading name (Index e) is x = x
+index_tells c reading name status is x = absurd is
+
+certificate_tells : (s : Subject) (reading : Reading) (name : List ℕ) (status : Status) → IsToldFault status
+    → RefusesCertificate (IsFault s) reading name status → ShowsInvalid (IsFault s) reading.held name status
+certificate_tells s reading name (Invalid e) is x = x
+certificate_tells s reading name (Index e) is x = x
+certificate_tells s reading name status is x = absurd is
+
+-- a saved index or a certificate of which a fault is told has that fault
+pub told_has_fault : (reading : Reading) (plan : Plan) (status : Status) → IsToldFault status
+    → Refuses reading plan status → HasFault reading.held plan status
+told_has_fault reading (Load w name form then_) status is =
+    ⊎_elim (λ x. absurd (file_tells w reading name form status is x))
+    (λ x. (x.0, x.1, told_has_fault reading (then_ x.0) status is x.2))
+told_has_fault reading (Compare a b then_) status is =
+    ⊎_elim (λ x. absurd (lengths_tell a b status is x)) (λ x. (x.0, told_has_fault reading then_ status is x.1))
+told_has_fault reading (Divide w n then_) status is =
+    ⊎_elim (λ x. absurd (segments_tell w n status is x)) (λ x. (x.0, told_has_fault reading then_ status is x.1))
+told_has_fault reading (LoadIndex name c then_) status is =
+    ⊎_elim (λ x. inl (index_tells c reading name status is x))
+    (λ x. inr (x.0, told_has_fault reading then_ status is x.1))
+told_has_fault reading (Check name s then_) status is =
+    ⊎_elim (λ x. inl (certificate_tells s reading name status is x))
+    (λ x. inr (x.0, told_has_fault reading then_ status is x.1))
+told_has_fault reading (Write IsRight) status is = λ x. absurd x

@@ -1,20 +1,28 @@
 -- A text of `nearest` with certificates is valid, and `verify` finds no fault in it (`texts_valid`, `texts_faultless`).
-use Rattle.std.proofs.Common.{◌≡◌, ℕ, List, Option, Some, ⊎_elim, sym, ap, ◌∙◌, subst}
+use Rattle.std.proofs.Common.{◌≡◌, ℕ, List, Option, Some, None, true, false, refl, ⊎_elim, sym, ap, ◌∙◌, subst}
+use Rattle.std.specs.Prelude.{IfSome}
+use Rattle.std.proofs.lemmas.Bool.{false≢true}
 use Rattle.std.proofs.lemmas.Option.{same_Some}
 use Rattle.outside.specs.Files.{Held}
 use Rattle.breakpoints.specs.declared.table.Table.{Table}
+use Rattle.breakpoints.specs.declared.table.Table.TheVariants.{Flat}
+use Rattle.command_words.specs.Absence.{IndexStandsAlone}
 use Rattle.command_words.specs.declared.options.Options.{Options}
 use Rattle.series_file.specs.declared.error.Form.{Form}
 use Rattle.series_file.specs.declared.error.Loaded.{Loaded}
-use Rattle.search_run.specs.Certificates.{IsFault, IsValid, Subject, subject_of}
+use Rattle.search_run.specs.Certificates.{IsFault, IsValid, ShowsInvalid, Subject, subject_of}
+use Rattle.search_run.specs.Commands.{nearest_by, pieces_plan}
 use Rattle.search_run.specs.Layouts.{layout_of}
-use Rattle.search_run.specs.Loads.{HoldsBytes, HoldsFile, form_of}
+use Rattle.search_run.specs.Loads.{HoldsFile, form_of}
 use Rattle.search_run.specs.Nearests.{IsNearestPiece}
+use Rattle.search_run.specs.Plans.{Writes}
 use Rattle.search_run.specs.Texts.{IsTextOf}
 use Rattle.search_run.specs.Verified.{AskAlike, CertifiedTextsAreFaultless, CertifiedTextsAreValid, IsCertifiedText}
 use Rattle.search_run.proofs.CertifiedTexts.{text_holds}
 use Rattle.search_run.proofs.Held.{one_loaded}
 use Rattle.search_run.proofs.OneFault.{holds_without}
+use Rattle.search_run.specs.declared.status.Status.{Status}
+use Rattle.search_run.specs.declared.status.Status.TheVariants.{Invalid}
 
 -- what is checked is the same
 same_subject : (x y : Loaded) (o v : Options) → AskAlike o v → subject_of x y o ≡ subject_of x y v
@@ -25,12 +33,30 @@ same_subject x y o v alike =
     ∙ ap (λ (t : Table). record { series = x; queries = y; k = v.k; layout = layout_of x.rows.points v.segments t })
     alike.table
 
+-- where certificates are asked for, no index is named
+no_index : (o : Options) → IndexStandsAlone o → o.certificate ≡ true → o.index ≡ None
+no_index o alone certificate = by_index o.index alone
+  where
+    by_index : (index : Option (List ℕ)) → IfSome index (λ _. (o.segments ≡ None) × (o.leaf ≡ 1000)
+        × (o.table ≡ Flat) × (o.certificate ≡ false)) → index ≡ None
+    by_index None x = refl
+    by_index (Some name) x = absurd (false≢true (sym x.3 ∙ certificate))
+
+-- so the text is one of pieces over a tree that was built
+pieces_written : (held : Option Held) (series queries : List ℕ) (o : Options) (text : List ℕ)
+    → IsCertifiedText held series queries o text
+    → Writes held (pieces_plan series queries o (IsNearestPiece o.certificate o)) text
+pieces_written held series queries o text certified =
+    subst (λ (index : Option (List ℕ)). Writes held (nearest_by index series queries o) text)
+    (no_index o certified.alone certified.certificate) certified.writes
+
 -- the text is valid, for what its own files hold
 valid_for : (held : Option Held) (series queries : List ℕ) (o v : Options) (text : List ℕ)
     → (certified : IsCertifiedText held series queries o text) → AskAlike o v
-    → IsValid (subject_of certified.writes.0 certified.writes.2.0 v) text
+    → IsValid (subject_of (pieces_written held series queries o text certified).0
+    (pieces_written held series queries o text certified).2.0 v) text
 valid_for held series queries o v text certified alike =
-    let w = certified.writes in
+    let w = pieces_written held series queries o text certified in
     let x = w.0 in
     let y = w.2.0 in
     let last = w.2.2 in
@@ -40,7 +66,7 @@ valid_for held series queries o v text certified alike =
 
 pub texts_valid : CertifiedTextsAreValid
 texts_valid held series queries o v text certified alike =
-    let w = certified.writes in
+    let w = pieces_written held series queries o text certified in
     let form = ap form_of alike.raw in (
       w.0,
       w.2.0,
@@ -49,13 +75,19 @@ texts_valid held series queries o v text certified alike =
       valid_for held series queries o v text certified alike,
     )
 
+-- a certificate of this name that holds has no fault that is told
+none_told : (h : Held) (name text : List ℕ) (s : Subject) (told : Status) → h name ≡ Some text → IsValid s text
+    → ShowsInvalid (IsFault s) (Some h) name told → ⊥
+none_told h name text s (Invalid e) named valid found =
+    let same : found.1.0 ≡ text = same_Some found.1.0 text (sym found.1.1 ∙ named) in
+    holds_without s text e valid (subst (IsFault s e) same found.1.2)
+none_told h name text s told named valid found = absurd found
+
 pub texts_faultless : CertifiedTextsAreFaultless
-texts_faultless h series queries name o v text certified alike named fault has =
+texts_faultless h series queries name o v text certified alike named told has =
     ⊎_elim
-    (λ (found : HoldsBytes (Some h) name (IsFault (subject_of has.0 has.2.0 v) fault)).
-    let same : found.0 ≡ text = same_Some found.0 text (sym found.1 ∙ named) in
-    holds_without (subject_of has.0 has.2.0 v) text fault valid
-    (subst (IsFault (subject_of has.0 has.2.0 v) fault) same found.2))
+    (λ (found : ShowsInvalid (IsFault (subject_of has.0 has.2.0 v)) (Some h) name told).
+    none_told h name text (subject_of has.0 has.2.0 v) told named valid found)
     (λ none. absurd none.1)
     has.2.2.1.1
   where

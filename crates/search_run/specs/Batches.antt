@@ -2,7 +2,6 @@
 use Rattle.std.specs.Prelude.{◌≡◌, ℕ, ℤ, ◌<◌, ◌≤◌, ⊤, List, [], length, get_or, Option, None, Result, IfOk, IfSome}
 use Rattle.std.specs.Borrow.{Bor}
 use Rattle.std.specs.List.{All}
-use Rattle.std.specs.Io.KnownBytes.{append_known}
 use Rattle.outside.specs.declared.faults.NoMemory.{NoMemory}
 use Rattle.command_words.specs.declared.options.Options.{Options}
 use Rattle.series_core.specs.Answer.{answer}
@@ -19,7 +18,7 @@ use Rattle.search_run.specs.declared.batch.Batch.{Batch}
 use Rattle.search_run.specs.declared.batch.Found.{Found}
 use Rattle.search_run.specs.declared.output.answers.Telling.{Telling}
 use Rattle.search_run.specs.declared.output.answers.Telling.TheVariants.{Nearest, Apart}
-use Rattle.search_run.specs.Texts.{IsTextOf, query_text}
+use Rattle.search_run.specs.Texts.{AppendsPieces, query_text}
 use Rattle.window_rows.specs.Choice.{chosen_apart}
 
 -- the answer to query i
@@ -87,8 +86,7 @@ IsTold telling c k i query piece = piece ≡ told telling i (answer c query k)
 
 -- a text with such a piece for each of these queries was appended
 abbrev pub AppendsTold : Telling → Collection → ℕ → List (List ℤ) → Option (List ℕ) → Option (List ℕ) → Type 0
-AppendsTold telling c k queries before now =
-    (text : List ℕ) × IsTextOf (IsTold telling c k) queries text × (now ≡ append_known before text)
+AppendsTold telling c k = AppendsPieces (IsTold telling c k)
 
 -- where windows are chosen, they lie apart
 abbrev pub CanBeTold : Telling → Type 0

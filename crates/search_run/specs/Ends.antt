@@ -7,13 +7,13 @@ use Rattle.outside.specs.Sink.{AppendsPrefix}
 use Rattle.command_words.specs.Settings.{HasSettings}
 use Rattle.command_words.specs.declared.command.Command.{Command}
 use Rattle.search_run.specs.Certificates.{CanBeFault}
-use Rattle.search_run.specs.Commands.{IsServed, CanAnswer, plan_of}
+use Rattle.search_run.specs.Commands.{CanAnswer, plan_of}
+use Rattle.search_run.specs.Indexes.{CanBeIndexFault}
 use Rattle.search_run.specs.Loads.{IsShown}
 use Rattle.search_run.specs.Plans.{HasFault, Refuses, Writes}
 use Rattle.search_run.specs.Traffic.{Reading, Writing}
-use Rattle.search_run.specs.declared.status.CertFault.{CertFault}
 use Rattle.search_run.specs.declared.status.Status.{Status}
-use Rattle.search_run.specs.declared.status.Status.TheVariants.{Done, Usage, ReadFault, Format, WriteFault, Memory, Invalid}
+use Rattle.search_run.specs.declared.status.Status.TheVariants.{Done, Usage, ReadFault, Format, WriteFault, Memory, Invalid, Index}
 
 -- Nothing was written.
 abbrev pub WroteNothing : Writing → Type 0
@@ -44,26 +44,23 @@ abbrev pub Answers : Reading → Writing → Command → Status → Type 0
 Answers reading writing command status =
     Concludes (Writes reading.held (plan_of command)) (Refuses reading (plan_of command)) writing status
 
--- the words have this command, and it is one that is answered
-abbrev pub Asks : List (List ℕ) → Command → Type 0
-Asks words command = HasSettings words command × IsServed command
-
--- the words have no command that is answered, or memory ran out before they were read
+-- the words have no command, or memory ran out before they were read
 abbrev pub NoCommand : List (List ℕ) → Status → Type 0
-NoCommand words Usage = (command : Command) → Asks words command → ⊥
+NoCommand words Usage = (command : Command) → HasSettings words command → ⊥
 NoCommand words Memory = Unit {0}
 NoCommand words _ = ⊥
 
 -- what shows each status of a run, and what was written
 abbrev pub Ends : List (List ℕ) → Reading → Writing → Status → Type 0
-Ends words reading writing Usage = ((command : Command) → Asks words command → ⊥) × WroteNothing writing
+Ends words reading writing Usage = ((command : Command) → HasSettings words command → ⊥) × WroteNothing writing
 Ends words reading writing Memory = WroteNothing writing
-    ⊎ ((command : Command) × Asks words command × Answers reading writing command Memory)
-Ends words reading writing status = (command : Command) × Asks words command × Answers reading writing command status
+    ⊎ ((command : Command) × HasSettings words command × Answers reading writing command Memory)
+Ends words reading writing status =
+    (command : Command) × HasSettings words command × Answers reading writing command status
 
 -- the words ask for this command, and nothing keeps it from its work
 abbrev pub CanSearch : List (List ℕ) → Option Held → Command → Type 0
-CanSearch words held command = Asks words command × CanAnswer held command
+CanSearch words held command = HasSettings words command × CanAnswer held command
 
 -- All of the text was written, or memory ran out, or reading or writing failed and was counted. The counts of
 -- faults are those of reading before and after, and those of writing before and after.
@@ -74,24 +71,25 @@ IsAnswered faults later lost more (ReadFault which) = Rose faults later
 IsAnswered faults later lost more WriteFault = Rose lost more
 IsAnswered faults later lost more _ = ⊥
 
--- the same, or the certificate that the command checks has the fault that is told
+-- the same, or the saved index or the certificate that the command tests has the fault that is told
 abbrev pub Finishes : Option Held → Command → ℕ → ℕ → ℕ → ℕ → Status → Type 0
-Finishes held command faults later lost more (Invalid fault) = HasFault held (plan_of command) fault
+Finishes held command faults later lost more (Invalid fault) = HasFault held (plan_of command) (Invalid fault)
+Finishes held command faults later lost more (Index fault) = HasFault held (plan_of command) (Index fault)
 Finishes held command faults later lost more status = IsAnswered faults later lost more status
 
--- the command checks a certificate that has no fault, or checks none
+-- the saved index and the certificate that the command tests have no fault, where it tests such
 abbrev pub IsFaultless : Option Held → Command → Type 0
-IsFaultless held command = (fault : CertFault) → HasFault held (plan_of command) fault → ⊥
+IsFaultless held command = (told : Status) → HasFault held (plan_of command) told → ⊥
 
--- this fault of a certificate is told, or memory ran out, or reading failed and was counted
-abbrev pub TellsFault : ℕ → ℕ → CertFault → Status → Type 0
-TellsFault faults later fault (Invalid told) = told ≡ fault
-TellsFault faults later fault Memory = Unit {0}
-TellsFault faults later fault (ReadFault which) = Rose faults later
-TellsFault faults later fault _ = ⊥
+-- The status is the one that tells a fault, or memory ran out, or reading failed and was counted.
+abbrev pub TellsFault : ℕ → ℕ → Status → Status → Type 0
+TellsFault faults later told Memory = Unit {0}
+TellsFault faults later told (ReadFault which) = Rose faults later
+TellsFault faults later told status = status ≡ told
 
 -- A status tells a cause that shows in the bytes of a file: neither a failed read nor want of memory is told as one.
 abbrev pub TellsCause : Status → Type 0
 TellsCause (Format w e) = IsShown e
 TellsCause (Invalid fault) = CanBeFault fault
+TellsCause (Index fault) = CanBeIndexFault fault
 TellsCause _ = Unit {0}

@@ -9,6 +9,7 @@ pub mod Conversions
 pub mod DiscordLines
 pub mod Layouts
 pub mod Certificates
+pub mod Indexes
 pub mod Nearests
 pub mod Plans
 pub mod Windows
@@ -31,3 +32,5 @@ pub use Rattle.certificate.specs.Grammar
 pub use Rattle.certificate.specs.Verdict
 pub use Rattle.certificate.specs.Printed
 pub use Rattle.certificate.specs.Certified
+pub use Rattle.saved_index.specs.Faults
+pub use Rattle.saved_index.specs.IndexText

@@ -3,7 +3,7 @@ use Rattle.std.specs.Prelude.{◌≡◌, ℕ, List, length, Option, IfSome}
 use Rattle.outside.specs.Files.{Held}
 use Rattle.command_words.specs.declared.options.Options.{Options}
 use Rattle.series_file.specs.declared.error.Loaded.{Loaded}
-use Rattle.search_run.specs.Commands.{plan_over}
+use Rattle.search_run.specs.Commands.{alike_plan, plan_over}
 use Rattle.search_run.specs.Loads.{HoldsFile, form_of}
 use Rattle.search_run.specs.Plans.{HasSegments, Load, Plan, Write}
 use Rattle.search_run.specs.declared.status.Which.TheVariants.{Series, Queries}
@@ -12,6 +12,11 @@ use Rattle.search_run.specs.declared.status.Which.TheVariants.{Series, Queries}
 pub record HoldBoth (held : Option Held) (series queries : List ℕ) (o : Options) (x y : Loaded) : Type 0 where
   pub first : HoldsFile held series (form_of o.raw) x
   pub second : HoldsFile held queries (form_of o.raw) y
+
+-- both files hold what was loaded, which has one length
+pub record Alike (held : Option Held) (series queries : List ℕ) (o : Options) (x y : Loaded) : Type 0 where
+  pub hold : HoldBoth held series queries o x y
+  pub lengths : x.rows.points ≡ y.rows.points
 
 -- both files hold what was loaded, which has one length with the asked segments
 pub record Fit (held : Option Held) (series queries : List ℕ) (o : Options) (x y : Loaded) : Type 0 where
@@ -23,6 +28,10 @@ pub record Fit (held : Option Held) (series queries : List ℕ) (o : Options) (x
 abbrev pub loads_plan : List ℕ → List ℕ → Options → Plan
 loads_plan series queries o =
     Load Series series (form_of o.raw) (λ x. Load Queries queries (form_of o.raw) (λ y. Write (λ _. ⊥)))
+
+-- the steps that load both files and compare their lengths, and nothing behind them
+abbrev pub lengths_plan : List ℕ → List ℕ → Options → Plan
+lengths_plan series queries o = alike_plan series queries o (λ x y. Write (λ _. ⊥))
 
 -- the steps that load both files and compare them, and nothing behind them
 abbrev pub files_plan : List ℕ → List ℕ → Options → Plan

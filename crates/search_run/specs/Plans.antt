@@ -2,12 +2,13 @@
 -- What a step reads, the steps behind it speak of. All that keeps a command from its work is a step that refuses.
 use Rattle.std.specs.Prelude.{◌≡◌, ◌≢◌, ℕ, ◌<◌, ◌≤◌, ◌⊎◌, ⊤, List, Option, Some, IfSome, IsSome, IsSomeAnd}
 use Rattle.outside.specs.Files.{Held}
+use Rattle.series_core.specs.Collection.{Collection}
 use Rattle.series_file.specs.declared.error.Form.{Form}
 use Rattle.series_file.specs.declared.error.Loaded.{Loaded}
-use Rattle.search_run.specs.Certificates.{IsFault, IsValid, RefusesCertificate, Subject}
+use Rattle.search_run.specs.Certificates.{IsFault, IsValid, RefusesCertificate, ShowsInvalid, Subject}
+use Rattle.search_run.specs.Indexes.{IsFitIndex, RefusesIndex, ShowsIndexFault}
 use Rattle.search_run.specs.Loads.{HoldsBytes, HoldsFile, IsHeldAs, RefusesFile, Spells}
 use Rattle.search_run.specs.Traffic.{Reading}
-use Rattle.search_run.specs.declared.status.CertFault.{CertFault}
 use Rattle.search_run.specs.declared.status.Status.{Status}
 use Rattle.search_run.specs.declared.status.Status.TheVariants.{Mismatch, Settings}
 use Rattle.search_run.specs.declared.status.Which.{Which}
@@ -16,12 +17,14 @@ use Rattle.search_run.specs.declared.status.Which.{Which}
 --   Load      the series file of this role and name is loaded in this form, and what it holds is handed on;
 --   Compare   the length of the series and that of the queries are the same;
 --   Divide    a series of this length has as many values as there are asked segments, if any were asked for;
+--   LoadIndex the saved index of this name fits these series;
 --   Check     the certificate of this name holds for this;
 --   Write     a text is written, and this says which texts are right.
 pub data Plan : Type 1 where
   Load : Which → List ℕ → Form → (Loaded → Plan) → Plan
   Compare : ℕ → ℕ → Plan → Plan
   Divide : Option ℕ → ℕ → Plan → Plan
+  LoadIndex : List ℕ → Collection → Plan → Plan
   Check : List ℕ → Subject → Plan → Plan
   Write : (List ℕ → Type 0) → Plan
 
@@ -45,6 +48,7 @@ Writes held (Load w name form then_) text =
     (loaded : Loaded) × HoldsFile held name form loaded × Writes held (then_ loaded) text
 Writes held (Compare a b then_) text = (a ≡ b) × Writes held then_ text
 Writes held (Divide w n then_) text = HasSegments w n × Writes held then_ text
+Writes held (LoadIndex name c then_) text = HoldsBytes held name (IsFitIndex c) × Writes held then_ text
 Writes held (Check name s then_) text = HoldsBytes held name (IsValid s) × Writes held then_ text
 Writes held (Write IsRight) text = IsRight text
 
@@ -54,26 +58,31 @@ Refuses reading (Load w name form then_) status = RefusesFile w reading name for
     ⊎ ((loaded : Loaded) × HoldsFile reading.held name form loaded × Refuses reading (then_ loaded) status)
 Refuses reading (Compare a b then_) status = Differs a b status ⊎ ((a ≡ b) × Refuses reading then_ status)
 Refuses reading (Divide w n then_) status = TooMany w n status ⊎ (HasSegments w n × Refuses reading then_ status)
+Refuses reading (LoadIndex name c then_) status = RefusesIndex c reading name status
+    ⊎ (HoldsBytes reading.held name (IsFitIndex c) × Refuses reading then_ status)
 Refuses reading (Check name s then_) status = RefusesCertificate (IsFault s) reading name status
     ⊎ (HoldsBytes reading.held name (IsValid s) × Refuses reading then_ status)
 Refuses reading (Write IsRight) status = ⊥
 
 -- Nothing keeps a command from its work: the files are told, each name is held with what the command needs of it, and
--- the lengths fit. A certificate is held; whether it holds is the work.
+-- the lengths fit. A saved index and a certificate are held; whether the one fits and the other holds is the work.
 abbrev pub CanPass : Option Held → Plan → Type 0
 CanPass held (Load w name form then_) = (loaded : Loaded)
     × IsSomeAnd held (λ h. IsHeldAs h name (Spells form loaded)) × CanPass held (then_ loaded)
 CanPass held (Compare a b then_) = (a ≡ b) × CanPass held then_
 CanPass held (Divide w n then_) = HasSegments w n × CanPass held then_
+CanPass held (LoadIndex name c then_) = IsSomeAnd held (λ h. IsSome (h name)) × CanPass held then_
 CanPass held (Check name s then_) = IsSomeAnd held (λ h. IsSome (h name)) × CanPass held then_
 CanPass held (Write IsRight) = ⊤
 
--- each step before it passes, and a certificate that is checked has this fault
-abbrev pub HasFault : Option Held → Plan → CertFault → Type 0
-HasFault held (Load w name form then_) fault =
-    (loaded : Loaded) × HoldsFile held name form loaded × HasFault held (then_ loaded) fault
-HasFault held (Compare a b then_) fault = (a ≡ b) × HasFault held then_ fault
-HasFault held (Divide w n then_) fault = HasSegments w n × HasFault held then_ fault
-HasFault held (Check name s then_) fault = HoldsBytes held name (IsFault s fault)
-    ⊎ (HoldsBytes held name (IsValid s) × HasFault held then_ fault)
-HasFault held (Write IsRight) fault = ⊥
+-- each step before it passes, and a saved index or a certificate has a fault, which this status tells
+abbrev pub HasFault : Option Held → Plan → Status → Type 0
+HasFault held (Load w name form then_) told =
+    (loaded : Loaded) × HoldsFile held name form loaded × HasFault held (then_ loaded) told
+HasFault held (Compare a b then_) told = (a ≡ b) × HasFault held then_ told
+HasFault held (Divide w n then_) told = HasSegments w n × HasFault held then_ told
+HasFault held (LoadIndex name c then_) told = ShowsIndexFault c held name told
+    ⊎ (HoldsBytes held name (IsFitIndex c) × HasFault held then_ told)
+HasFault held (Check name s then_) told = ShowsInvalid (IsFault s) held name told
+    ⊎ (HoldsBytes held name (IsValid s) × HasFault held then_ told)
+HasFault held (Write IsRight) told = ⊥

@@ -5,14 +5,16 @@ use Rattle.certificate.specs.declared.error.Reject.{Reject}
 use Rattle.certificate.specs.declared.error.Reject.TheVariants as reject
 use Rattle.series_file.specs.declared.error.FileError.{FileError}
 use Rattle.series_file.specs.declared.error.FileError.TheVariants.{ShortHeader, Magic, Version, Length, Count, Reserved, TooLarge, Truncated, Trailing, Uneven, ReadFault as FileReadFault, NoMemory}
+use Rattle.saved_index.specs.declared.error.IndexFault.{IndexFault}
+use Rattle.saved_index.specs.declared.error.IndexFault.TheVariants as index
 use Rattle.search_run.specs.declared.status.Which.{Which}
-use Rattle.search_run.specs.declared.status.Which.TheVariants.{Series, Queries, Certificate}
+use Rattle.search_run.specs.declared.status.Which.TheVariants.{Series, Queries, Certificate, Index as IndexFile}
 use Rattle.search_run.specs.declared.status.CertFault.{CertFault}
 use Rattle.search_run.specs.declared.status.CertFault.TheVariants.{Line, TooLong, Rejected}
 use Rattle.search_run.specs.declared.status.Status.{Status}
 use Rattle.search_run.specs.declared.output.stop.Stop.{Stop}
 use Rattle.search_run.specs.declared.output.stop.Stop.TheVariants as stop
-use Rattle.search_run.specs.declared.status.Status.TheVariants.{Done, Usage, Missing, ReadFault, Format, Mismatch, Settings, WriteFault, Memory, Invalid}
+use Rattle.search_run.specs.declared.status.Status.TheVariants.{Done, Usage, Missing, ReadFault, Format, Mismatch, Settings, WriteFault, Memory, Invalid, Index}
 
 -- the number that the program exits with
 abbrev pub code_of : Status → ℕ
@@ -26,6 +28,7 @@ code_of (Settings w n) = 7
 code_of WriteFault = 8
 code_of Memory = 9
 code_of (Invalid fault) = 10
+code_of (Index fault) = 11
 
 -- the status of a text that was not written to its end
 abbrev pub status_of : Stop → Status
@@ -37,6 +40,7 @@ abbrev pub file_word : Which → List ℕ
 file_word Series = codes "data"
 file_word Queries = codes "queries"
 file_word Certificate = codes "certificate"
+file_word IndexFile = codes "index"
 
 -- what is wrong with a series file
 abbrev pub file_cause : FileError → List ℕ
@@ -76,6 +80,20 @@ certificate_cause (Line at) = codes "line " ++ decimal at
 certificate_cause TooLong = codes "longer than 1073741824 bytes"
 certificate_cause (Rejected why) = reject_cause why
 
+-- two numbers of the same kind that differ, behind its word
+abbrev pub differing : List ℕ → ℕ → ℕ → List ℕ
+differing word have want = word ++ decimal have ++ codes " is not " ++ decimal want
+
+-- what a saved index has against it over the series
+abbrev pub index_cause : IndexFault → List ℕ
+index_cause index.NotIndex = codes "not an index"
+index_cause (index.Length have want) = differing (codes "length ") have want
+index_cause (index.Count have want) = differing (codes "count ") have want
+index_cause (index.Unfit s) = codes "series " ++ decimal s ++ codes " does not fit"
+index_cause index.TooLong = codes "longer than 1073741824 bytes"
+index_cause index.ReadFault = codes "read failed"
+index_cause index.NoMemory = codes "out of memory"
+
 -- why the run ended so
 abbrev pub cause_of : Status → List ℕ
 cause_of Done = []
@@ -88,6 +106,7 @@ cause_of (Settings w n) = decimal w ++ codes " segments are more than length " +
 cause_of WriteFault = codes "write failed"
 cause_of Memory = codes "out of memory"
 cause_of (Invalid fault) = codes "certificate: " ++ certificate_cause fault
+cause_of (Index fault) = codes "index: " ++ index_cause fault
 
 -- the line that tells a status: nothing where the whole text was written
 abbrev pub fault_line : Status → List ℕ

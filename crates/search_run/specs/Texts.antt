@@ -2,6 +2,7 @@
 use Rattle.std.specs.Prelude.{◌≡◌, ℕ, ◌+◌, ℤ, List, [], ◌∷◌, ◌++◌, Option, None, Some, Result, Ok, codes, decimal, slice_index}
 use Rattle.std.specs.Borrow.{Bor}
 use Rattle.std.specs.Global.{Vec}
+use Rattle.std.specs.Io.KnownBytes.{append_known}
 use Rattle.outside.specs.declared.faults.NoMemory.{NoMemory}
 use Rattle.series_core.specs.declared.pair.Pair.{Pair}
 
@@ -38,6 +39,11 @@ IsTextFrom IsPiece i (q ∷ qs) text = (piece : List ℕ) × (rest : List ℕ) �
 -- the same of queries that are numbered from 0
 abbrev pub IsTextOf : (ℕ → List ℤ → List ℕ → Type 0) → List (List ℤ) → List ℕ → Type 0
 IsTextOf IsPiece queries text = IsTextFrom IsPiece 0 queries text
+
+-- a text of these queries with such pieces was appended
+abbrev pub AppendsPieces : (ℕ → List ℤ → List ℕ → Type 0) → List (List ℤ) → Option (List ℕ) → Option (List ℕ) → Type 0
+AppendsPieces IsPiece queries before now =
+    (text : List ℕ) × IsTextOf IsPiece queries text × (now ≡ append_known before text)
 
 -- the piece of query i has the answers that are found for it
 abbrev pub IsAnswerPiece : Option (List ℕ) → (List ℤ → List Pair) → ℕ → List ℤ → List ℕ → Type 0

@@ -2,6 +2,7 @@
 use Rattle.std.specs.Prelude.{◌≡◌, ℕ, ◌≤◌, true, ⊤, List, length, Option, Some}
 use Rattle.std.specs.Io.KnownBytes.{append_known}
 use Rattle.outside.specs.Files.{Held}
+use Rattle.command_words.specs.Absence.{IndexStandsAlone}
 use Rattle.command_words.specs.Limits.{OptionsKeepLimits}
 use Rattle.command_words.specs.declared.command.Command.{Command}
 use Rattle.command_words.specs.declared.command.Command.TheVariants.{Nearest, Verify}
@@ -26,6 +27,7 @@ pub record AskAlike (o v : Options) : Type 0 where
 -- this is a text of `nearest` with certificates, of at most so many bytes as a certificate may have
 pub record IsCertifiedText (held : Option Held) (series queries : List ℕ) (o : Options) (text : List ℕ) : Type 0 where
   pub limits : OptionsKeepLimits o
+  pub alone : IndexStandsAlone o
   pub certificate : o.certificate ≡ true
   pub writes : Writes held (nearest_plan series queries o) text
   pub short : length text ≤ most_bytes

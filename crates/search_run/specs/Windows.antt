@@ -1,6 +1,5 @@
 -- The windows of one long series as a collection, the steps of a search among them, and the choice that its text has.
 use Rattle.std.specs.Prelude.{◌≡◌, ℕ, ℤ, List, length, Option, None}
-use Rattle.std.specs.Io.KnownBytes.{append_known}
 use Rattle.outside.specs.Files.{Held}
 use Rattle.command_words.specs.declared.options.Options.{Options}
 use Rattle.series_core.specs.Answer.{answer}
@@ -13,7 +12,7 @@ use Rattle.window_rows.specs.Choice.{chosen_apart}
 use Rattle.window_rows.specs.Windows.{HasFewValues, collection_of}
 use Rattle.search_run.specs.Loads.{HoldsFile, form_of}
 use Rattle.search_run.specs.Plans.{Divide, HasSegments, Load, Plan, Write}
-use Rattle.search_run.specs.Texts.{IsAnswerPiece, IsTextOf}
+use Rattle.search_run.specs.Texts.{AppendsPieces, IsAnswerPiece, IsTextOf}
 use Rattle.search_run.specs.declared.status.Which.TheVariants.{Series, Queries}
 
 -- the windows of the values of one file, as long as the queries of another, from every place of so many steps
@@ -30,8 +29,7 @@ IsChoice o c = IsAnswerPiece None (found_apart o c)
 
 -- a text with such a piece for each of these queries was appended
 abbrev pub AppendsChoices : Options → Collection → List (List ℤ) → Option (List ℕ) → Option (List ℕ) → Type 0
-AppendsChoices o c queries before now =
-    (text : List ℕ) × IsTextOf (IsChoice o c) queries text × (now ≡ append_known before text)
+AppendsChoices o c = AppendsPieces (IsChoice o c)
 
 -- the values of one long series, the queries, and what follows; a window is as long as a query, so no lengths are compared
 abbrev pub long_plan : List ℕ → List ℕ → Options → (Loaded → Loaded → Plan) → Plan

@@ -4,6 +4,7 @@ pub mod convert;
 pub mod discord;
 pub mod nearest;
 pub mod range;
+pub mod save;
 pub mod search;
 pub mod trial;
 pub mod verify;

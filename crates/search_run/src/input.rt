@@ -2,5 +2,6 @@
 
 pub mod certificate_file;
 pub mod file;
+pub mod index_file;
 pub mod lengths;
 pub mod pair;

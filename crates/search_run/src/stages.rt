@@ -4,19 +4,18 @@
 ghost use Rattle.std.specs.Prelude.{◌≡◌, ◌≢◌, IfOk, IfErr, map, string_bytes};
 ghost use Rattle.command_words.specs.Absence.{HoldsAbsence, IndexStandsAlone};
 ghost use Rattle.command_words.specs.Limits.{KeepsLimits};
-ghost use Rattle.command_words.specs.Settings.{name_of, options_of};
+ghost use Rattle.command_words.specs.Settings.{HasSettings, name_of, options_of};
 ghost use Rattle.command_words.specs.declared.command.Command.{Command};
 ghost use Rattle.std.specs.Thread.{IsSync};
 ghost use Rattle.search_run.specs.Batches.{CanAsk, HasRightOutcome, IsTeam};
 ghost use Rattle.search_run.specs.Traffic.{read_from, wrote_to};
-ghost use Rattle.search_run.specs.Commands.{CanAnswer, IsServed, SearchesWithoutLocks, plan_of};
-ghost use Rattle.search_run.specs.Ends.{Answers, Asks, CanSearch, Ends, Finishes, IsAnswered, IsFaultless};
+ghost use Rattle.search_run.specs.Commands.{CanAnswer, SearchesWithoutLocks, plan_of};
+ghost use Rattle.search_run.specs.Ends.{Answers, CanSearch, Ends, Finishes, IsAnswered, IsFaultless};
 ghost use Rattle.search_run.specs.Ends.{NoCommand, TellsCause, TellsFault, ended};
 ghost use Rattle.search_run.specs.Plans.{HasFault};
 ghost use Rattle.search_run.specs.Status.{fault_line};
 ghost use Rattle.search_run.specs.Told.{Tells};
 ghost use Rattle.search_run.specs.Verified.{Certifies};
-ghost use Rattle.search_run.specs.declared.status.CertFault.{CertFault};
 ghost use Rattle.search_run.specs.declared.status.Status.{Status};
 ghost use Rattle.search_run.specs.declared.status.Which.{Which};
 
@@ -24,13 +23,14 @@ use crate::commands::convert::answer_convert;
 use crate::commands::discord::answer_discord;
 use crate::commands::nearest::answer_nearest;
 use crate::commands::range::answer_range;
+use crate::commands::save::answer_save;
 use crate::commands::trial::answer_trial;
 use crate::commands::verify::answer_verify;
 use crate::commands::windows::answer_windows;
 use crate::crew::Crew;
 use crate::finding::{Asking, locked, sealed};
 use crate::output::tell::tell;
-use crate::serving::{is_free, is_served};
+use crate::serving::is_free;
 use crate::status::{Status, Which};
 use crate::tree::Tree;
 use command_words::{Command, WordsError, parse_words};
@@ -64,11 +64,11 @@ pub fn run<T: Threads + Wait + Sync, F: Files, S: Sink, E: Sink, G: Gate + Sync>
         → IsFaultless (F.held files.old) command
         → IsAnswered (F.faults files.old) (F.faults files.new) (S.faults out.old) (S.faults out.new) result }
     ensures exact { (command : Command) → CanSearch (map string_bytes words.now) (F.held files.old) command
-        → (fault : CertFault) → HasFault (F.held files.old) (plan_of command) fault
-        → TellsFault (F.faults files.old) (F.faults files.new) fault result }
+        → (told : Status) → HasFault (F.held files.old) (plan_of command) told
+        → TellsFault (F.faults files.old) (F.faults files.new) told result }
     ensures cause { TellsCause result }
     // What `nearest` wrote with certificates is a certificate that holds.
-    ensures certifies { (command : Command) → Asks (map string_bytes words.now) command
+    ensures certifies { (command : Command) → HasSettings (map string_bytes words.now) command
         → Certifies (F.held files.old) command (wrote_to S.written S.faults S.sure out.old out.new) result }
     ensures told { Tells (fault_line result) (E.written err.old) (E.written err.new) (E.faults err.old) (E.faults err.new) }
     ensures kept { F.held files.new ≡ F.held files.old }
@@ -99,8 +99,6 @@ pub fn run_free<T: Threads + Sync, F: Files, S: Sink, E: Sink, G: Gate + Sync>(
     requires absence { HoldsAbsence (name_of command.now) (options_of command.now) }
     requires alone { IndexStandsAlone (options_of command.now) }
     requires free { SearchesWithoutLocks command.now }
-    // The command is one that is answered yet.
-    requires served { IsServed command.now }
     ensures answers { Answers
         (read_from F.held F.faults F.misses F.blamed files.old files.new)
         (wrote_to S.written S.faults S.sure out.old out.new) command.now result }
@@ -111,8 +109,8 @@ pub fn run_free<T: Threads + Sync, F: Files, S: Sink, E: Sink, G: Gate + Sync>(
     ensures valid { CanAnswer (F.held files.old) command.now → IsFaultless (F.held files.old) command.now
         → IsAnswered (F.faults files.old) (F.faults files.new) (S.faults out.old) (S.faults out.new) result }
     ensures exact { CanAnswer (F.held files.old) command.now
-        → (fault : CertFault) → HasFault (F.held files.old) (plan_of command.now) fault
-        → TellsFault (F.faults files.old) (F.faults files.new) fault result }
+        → (told : Status) → HasFault (F.held files.old) (plan_of command.now) told
+        → TellsFault (F.faults files.old) (F.faults files.new) told result }
     ensures cause { TellsCause result }
     ensures certifies { Certifies (F.held files.old) command.now
         (wrote_to S.written S.faults S.sure out.old out.new) result }
@@ -123,16 +121,18 @@ pub fn run_free<T: Threads + Sync, F: Files, S: Sink, E: Sink, G: Gate + Sync>(
     answer_sealed(&Crew { rt, alloc, gate }, command, files, out, err)
 }
 
-// The command that the words ask for, if it is one that is answered.
+// The command that the words ask for.
 fn ask(alloc: Global, words: &[String]) -> Result<Command, Status>
-    ensures asks { IfOk result (Asks (map string_bytes words.now)) }
+    ensures asks { IfOk result (HasSettings (map string_bytes words.now)) }
     ensures limits { IfOk result KeepsLimits }
-    ensures same { (command : Command) → Asks (map string_bytes words.now) command → IfOk result (λ c. c ≡ command) }
+    ensures alone { IfOk result (λ command. IndexStandsAlone (options_of command)) }
+    ensures same { (command : Command) → HasSettings (map string_bytes words.now) command
+        → IfOk result (λ c. c ≡ command) }
     ensures refused { IfErr result (NoCommand (map string_bytes words.now)) }
 {
     match parse_words(alloc, words) {
-        Ok(command) if is_served(&command) => Ok(command),
-        Ok(_) | Err(WordsError::Usage) => Err(Status::Usage),
+        Ok(command) => Ok(command),
+        Err(WordsError::Usage) => Err(Status::Usage),
         Err(WordsError::NoMemory) => Err(Status::Memory),
     }
 }
@@ -146,7 +146,6 @@ fn answer_either<T: Threads + Wait + Sync, F: Files, S: Sink, E: Sink, G: Gate +
     err: &mut E,
 ) -> Status
     requires limits { KeepsLimits command.now }
-    requires served { IsServed command.now }
     ensures answers { Answers
         (read_from F.held F.faults F.misses F.blamed files.old files.new)
         (wrote_to S.written S.faults S.sure out.old out.new) command.now result }
@@ -170,7 +169,6 @@ fn answer_sealed<T: Threads + Sync, F: Files, S: Sink, E: Sink, G: Gate + Sync>(
     err: &mut E,
 ) -> Status
     requires limits { KeepsLimits command.now }
-    requires served { IsServed command.now }
     ensures answers { Answers
         (read_from F.held F.faults F.misses F.blamed files.old files.new)
         (wrote_to S.written S.faults S.sure out.old out.new) command.now result }
@@ -204,7 +202,6 @@ fn answer_locked<T: Threads + Wait + Sync, F: Files, S: Sink, E: Sink, G: Gate +
     err: &mut E,
 ) -> Status
     requires limits { KeepsLimits command.now }
-    requires served { IsServed command.now }
     ensures answers { Answers
         (read_from F.held F.faults F.misses F.blamed files.old files.new)
         (wrote_to S.written S.faults S.sure out.old out.new) command.now result }
@@ -248,7 +245,6 @@ fn answer_and_tell<
     err: &mut E,
 ) -> Status
     requires limits { KeepsLimits command.now }
-    requires served { IsServed command.now }
     requires rows { IsTeam (λ rows. rows) (L.pre rows.now) (L.post rows.now) }
     requires windows { IsTeam (λ rows. rows) (W.pre windows.now) (W.post windows.now) }
     ensures answers { Answers
@@ -290,7 +286,6 @@ fn answer<
     out: &mut S,
 ) -> Result<(), Status>
     requires limits { KeepsLimits command.now }
-    requires served { IsServed command.now }
     requires rows { IsTeam (λ rows. rows) (L.pre rows.now) (L.post rows.now) }
     requires windows { IsTeam (λ rows. rows) (W.pre windows.now) (W.post windows.now) }
     ensures answers { Answers
@@ -326,6 +321,7 @@ fn answer<
             options,
         } => answer_trial(crew, rows, *seed, *count, *length, *queries, options, out),
         Command::Convert { series, options } => answer_convert(alloc, series, options, files, out),
+        Command::Save { series, options } => answer_save(crew, series, options, files, out),
         Command::Windows {
             series,
             queries,
@@ -333,6 +329,5 @@ fn answer<
             options,
         } => answer_windows(crew, windows, series, queries, *step, options, files, out),
         Command::Discord { series, options } => answer_discord(crew, series, options, files, out),
-        _ => Err(Status::Usage),
     }
 }

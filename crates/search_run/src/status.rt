@@ -3,6 +3,7 @@
 use crate::output::stop::Stop;
 use certificate::Reject;
 use outside::{Failed, NoMemory};
+use saved_index::IndexFault;
 use series_file::FileError;
 
 /// Which of the named files a status speaks of.
@@ -14,6 +15,8 @@ pub enum Which {
     Queries,
     /// The file of a certificate.
     Certificate,
+    /// The file of a saved index.
+    Index,
 }
 
 /// Why a certificate does not hold.
@@ -50,6 +53,8 @@ pub enum Status {
     Memory,
     /// The certificate does not hold.
     Invalid(CertFault),
+    /// The saved index does not fit the series: the first of its faults over them.
+    Index(IndexFault),
 }
 
 impl Status {
@@ -71,6 +76,7 @@ impl Status {
             Status::WriteFault => 8,
             Status::Memory => 9,
             Status::Invalid(_) => 10,
+            Status::Index(_) => 11,
         }
     }
 }

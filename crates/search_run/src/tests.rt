@@ -5,6 +5,7 @@ mod converting;
 mod discords;
 mod failing;
 mod fixture;
+mod indexes;
 mod nearests;
 mod ranges;
 mod runs;

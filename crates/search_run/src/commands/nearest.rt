@@ -1,14 +1,17 @@
 //! The command `nearest`: for each query its k nearest, by a search of the tree, and where it is asked for a certificate.
+//! The tree is built, or where an index is named, loaded.
 
-ghost use Rattle.std.specs.Prelude.{◌≡◌, ◌≢◌, true, false, length, IfOk};
+ghost use Rattle.std.specs.Prelude.{◌≡◌, ◌≢◌, ◌≤◌, true, false, length, IfOk, IfErr, OnOk};
 ghost use Rattle.command_words.specs.Limits.{OptionsKeepLimits};
 ghost use Rattle.search_run.specs.Traffic.{read_from, wrote_to};
-ghost use Rattle.search_run.specs.Commands.{nearest_plan, pieces_plan};
+ghost use Rattle.search_run.specs.Commands.{indexed_plan, nearest_plan, pieces_plan};
 ghost use Rattle.search_run.specs.Batches.{IsTeam};
 ghost use Rattle.search_run.specs.Ends.{Concludes, ended};
-ghost use Rattle.search_run.specs.Finding.{IsGround};
+ghost use Rattle.search_run.specs.Finding.{IsGround, IsTreeFor};
 ghost use Rattle.search_run.specs.Nearests.{IsCertifiedPiece, IsNearestPiece};
 ghost use Rattle.search_run.specs.Plans.{Refuses, Writes};
+ghost use Rattle.search_run.specs.Stops.{Stops};
+ghost use Rattle.search_run.specs.Texts.{AppendsPieces};
 ghost use Rattle.search_run.specs.declared.status.Status.{Status};
 ghost use Rattle.search_run.specs.declared.status.Which.{Which};
 
@@ -16,8 +19,10 @@ use crate::batch::Batch;
 use crate::commands::search::{Ground, answer_search};
 use crate::crew::Crew;
 use crate::finding::{Asking, asking_of};
-use crate::input::pair::{Search, read_both};
+use crate::input::index_file::load_index;
+use crate::input::pair::{Both, Search, read_alike, read_both};
 use crate::output::answers::{Telling, write_answers};
+use crate::output::stop::Stop;
 use crate::output::text::query_text;
 use crate::status::{Status, Which};
 use crate::tree::{Tree, tree_of};
@@ -59,10 +64,10 @@ pub fn answer_nearest<
         queries,
         options,
     };
-    if options.certificate {
-        answer_certified(crew, team, &search, files, out)
-    } else {
-        answer_plain(crew, team, &search, files, out)
+    match &options.index {
+        Some(index) => answer_indexed(crew, team, &search, index, files, out),
+        None if options.certificate => answer_certified(crew, team, &search, files, out),
+        None => answer_plain(crew, team, &search, files, out),
     }
 }
 
@@ -90,18 +95,76 @@ fn answer_plain<
     ensures kept { F.held files.new ≡ F.held files.old }
     ensures reliable { F.reliable files.old → (w : Which) → result ≢ Err (Status.ReadFault w) }
 {
-    let options = search.options;
     let both = read_both(crew.alloc, files, search)?;
-    let tree = tree_of(crew, &both.series.rows, options)?;
+    let tree = tree_of(crew, &both.series.rows, search.options)?;
+    write_nearest(crew, team, &both, &tree, search.options, out)?;
+    Ok(())
+}
+
+// Answers `nearest` over the saved index of this name.
+fn answer_indexed<
+    T: Threads + Sync,
+    F: Files,
+    S: Sink,
+    G: Gate + Sync,
+    P: Fn(&Flat, &Tree, &[i16], Asking) -> Result<Outcome, NoMemory>,
+>(
+    crew: &Crew<'_, T, G>,
+    team: &P,
+    search: &Search<'_>,
+    index: &Text,
+    files: &mut F,
+    out: &mut S,
+) -> Result<(), Status>
+    requires limits { OptionsKeepLimits search.now.options.now }
+    requires team { IsTeam (λ rows. rows) (P.pre team.now) (P.post team.now) }
+    ensures answers { let plan = indexed_plan index.now search.now.series.now search.now.queries.now
+        search.now.options.now in
+        Concludes (Writes (F.held files.old) plan)
+        (Refuses (read_from F.held F.faults F.misses F.blamed files.old files.new) plan)
+        (wrote_to S.written S.faults S.sure out.old out.new) (ended result) }
+    ensures kept { F.held files.new ≡ F.held files.old }
+    ensures reliable { F.reliable files.old → (w : Which) → result ≢ Err (Status.ReadFault w) }
+{
+    let both = read_alike(crew.alloc, files, search)?;
+    let workers = search.options.workers;
+    let tree = load_index(crew, files, index.text.as_str(), &both.series.rows, workers)?;
+    write_nearest(crew, team, &both, &tree, search.options, out)?;
+    Ok(())
+}
+
+// Writes for each query its k nearest, by a search of this tree.
+fn write_nearest<
+    T: Threads + Sync,
+    S: Sink,
+    G: Gate + Sync,
+    P: Fn(&Flat, &Tree, &[i16], Asking) -> Result<Outcome, NoMemory>,
+>(
+    crew: &Crew<'_, T, G>,
+    team: &P,
+    both: &Both,
+    tree: &Tree,
+    options: &Options,
+    out: &mut S,
+) -> Result<(), Stop>
+    requires limits { OptionsKeepLimits options.now }
+    requires team { IsTeam (λ rows. rows) (P.pre team.now) (P.post team.now) }
+    requires tree { IsTreeFor both.now.series.rows tree.now }
+    requires lengths { both.now.series.rows.points ≡ both.now.queries.rows.points }
+    ensures ok { OnOk result (AppendsPieces (IsNearestPiece false options.now both.now.series)
+        both.now.queries.rows.series (S.written out.old) (S.written out.new)) }
+    ensures stops { IfErr result (Stops (IsNearestPiece false options.now both.now.series)
+        both.now.queries.rows.series (wrote_to S.written S.faults S.sure out.old out.new)) }
+    ensures counts { S.faults out.old ≤ S.faults out.new }
+{
     let batch = Batch {
         rows: &both.series.rows,
-        tree: &tree,
+        tree,
         queries: &both.queries.rows,
         asking: asking_of(options),
     };
     let telling = Telling::Nearest(&both.series.labels);
-    write_answers(crew, team, &batch, &telling, out)?;
-    Ok(())
+    write_answers(crew, team, &batch, &telling, out)
 }
 
 // Answers `nearest` with certificates.

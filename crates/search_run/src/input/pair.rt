@@ -4,7 +4,7 @@ ghost use Rattle.std.specs.Prelude.{◌≡◌, ◌≢◌, ◌≤◌, IfOk, IfErr
 ghost use Rattle.series_file.specs.Stages.{IsForm};
 ghost use Rattle.search_run.specs.Traffic.{read_from};
 ghost use Rattle.search_run.specs.Loads.{form_of};
-ghost use Rattle.search_run.specs.Pairs.{Fit, HoldBoth, files_plan, loads_plan};
+ghost use Rattle.search_run.specs.Pairs.{Alike, Fit, HoldBoth, files_plan, lengths_plan, loads_plan};
 ghost use Rattle.search_run.specs.Plans.{Refuses};
 ghost use Rattle.search_run.specs.declared.status.Status.{Status};
 ghost use Rattle.search_run.specs.declared.status.Which.{Which};
@@ -54,10 +54,28 @@ pub fn read_both<F: Files>(
     ensures counts { (F.faults files.old ≤ F.faults files.new) × (F.misses files.old ≤ F.misses files.new) }
     ensures reliable { F.reliable files.old → ((w : Which) → result ≢ Err (Status.ReadFault w)) × F.reliable files.new }
 {
+    let both = read_alike(alloc, files, search)?;
+    check_segments(search.options.segments, both.series.rows.length())?;
+    Ok(both)
+}
+
+/// Reads the file of the series and then that of the queries, and compares their lengths with each other.
+pub fn read_alike<F: Files>(
+    alloc: Global,
+    files: &mut F,
+    search: &Search<'_>,
+) -> Result<Both, Status>
+    requires { IsForm (form_of search.now.options.now.raw) }
+    ensures found { IfOk result (λ both. Alike (F.held files.old) search.now.series.now search.now.queries.now
+        search.now.options.now both.series both.queries) }
+    ensures refused { IfErr result (Refuses (read_from F.held F.faults F.misses F.blamed files.old files.new)
+        (lengths_plan search.now.series.now search.now.queries.now search.now.options.now)) }
+    ensures kept { F.held files.new ≡ F.held files.old }
+    ensures counts { (F.faults files.old ≤ F.faults files.new) × (F.misses files.old ≤ F.misses files.new) }
+    ensures reliable { F.reliable files.old → ((w : Which) → result ≢ Err (Status.ReadFault w)) × F.reliable files.new }
+{
     let both = load_both(alloc, files, search)?;
-    let length = both.series.rows.length();
-    check_lengths(length, both.queries.rows.length())?;
-    check_segments(search.options.segments, length)?;
+    check_lengths(both.series.rows.length(), both.queries.rows.length())?;
     Ok(both)
 }
 

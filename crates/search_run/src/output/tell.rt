@@ -7,11 +7,12 @@ ghost use Rattle.outside.specs.Sink.{AppendsPrefix};
 ghost use Rattle.search_run.specs.Told.{Tells};
 ghost use Rattle.certificate.specs.Spelling.{limit_text};
 ghost use Rattle.search_run.specs.Status.{fault_line, cause_of, file_cause, file_word};
-ghost use Rattle.search_run.specs.Status.{bound_part, certificate_cause, query_part, reject_cause};
+ghost use Rattle.search_run.specs.Status.{bound_part, certificate_cause, differing, index_cause, query_part, reject_cause};
 
 use crate::status::{CertFault, Status, Which};
 use certificate::{LineText, Reject};
 use outside::{Sink, write_whole};
+use saved_index::IndexFault;
 use series_core::NONE;
 use series_file::FileError;
 
@@ -25,6 +26,7 @@ fn push_file(line: &mut LineText, which: Which)
         Which::Series => line.push("data"),
         Which::Queries => line.push("queries"),
         Which::Certificate => line.push("certificate"),
+        Which::Index => line.push("index"),
     }
 }
 
@@ -139,6 +141,36 @@ fn push_certificate_cause(line: &mut LineText, fault: CertFault)
     }
 }
 
+// Appends two numbers of the same kind that differ, behind its word.
+fn push_differing(line: &mut LineText, word: &str, have: u32, want: u32)
+    requires { length line.old + length word.now ≤ 40 }
+    ensures text { line.new ≡ line.old ++ differing word.now have want }
+    ensures limit { length line.new ≤ length line.old + length word.now + 48 }
+{
+    push_counted(line, word, u64::from(have));
+    push_counted(line, " is not ", u64::from(want));
+}
+
+// Appends what a saved index has against it over the series.
+fn push_index_cause(line: &mut LineText, fault: IndexFault)
+    requires { length line.old ≤ 22 }
+    ensures text { line.new ≡ line.old ++ index_cause fault }
+    ensures limit { length line.new ≤ 160 }
+{
+    match fault {
+        IndexFault::NotIndex => line.push("not an index"),
+        IndexFault::Length(have, want) => push_differing(line, "length ", have, want),
+        IndexFault::Count(have, want) => push_differing(line, "count ", have, want),
+        IndexFault::Unfit(s) => {
+            push_counted(line, "series ", u64::from(s));
+            line.push(" does not fit");
+        }
+        IndexFault::TooLong => line.push("longer than 1073741824 bytes"),
+        IndexFault::ReadFault => line.push("read failed"),
+        IndexFault::NoMemory => line.push("out of memory"),
+    }
+}
+
 // Appends why the run ended so.
 fn push_cause(line: &mut LineText, status: &Status)
     requires { length line.old ≤ 9 }
@@ -174,6 +206,10 @@ fn push_cause(line: &mut LineText, status: &Status)
         Status::Invalid(fault) => {
             line.push("certificate: ");
             push_certificate_cause(line, *fault);
+        }
+        Status::Index(fault) => {
+            line.push("index: ");
+            push_index_cause(line, *fault);
         }
     }
 }

@@ -4,33 +4,36 @@
 use super::fixture::{Outside, run_line};
 use crate::{Status, Which};
 use outside::NoGate;
+use saved_index::IndexFault;
 use std::alloc::Global;
 use std::process::Abort;
 use std::sync::Wait;
 use std::test::Fail;
 use std::thread::Threads;
 
-// Words of each command that reads files, how many reads its files take in pieces of 16 bytes with their ends, and its text.
-const COMMANDS: [(&str, [u64; 3], &str); 7] = [
-    ("nearest A Q", [4, 3, 0], "query 0\n1 0 4\n"),
-    ("nearest A Q --sealed", [4, 3, 0], "query 0\n1 0 4\n"),
+// Words of each command that reads files, how many reads its files take in pieces of 16 bytes with their ends (the series, the
+// queries, the certificate, the index), and its text.
+const COMMANDS: [(&str, [u64; 4], &str); 8] = [
+    ("nearest A Q", [4, 3, 0, 0], "query 0\n1 0 4\n"),
+    ("nearest A Q --sealed", [4, 3, 0, 0], "query 0\n1 0 4\n"),
     (
         "nearest A Q --segments 2 --certificate --workers 1",
-        [4, 3, 0],
+        [4, 3, 0, 0],
         CERTIFICATE,
     ),
     (
         "nearest A Q --segments 2 --certificate --workers 1 --sealed",
-        [4, 3, 0],
+        [4, 3, 0, 0],
         CERTIFICATE,
     ),
     (
         "nearest A2 Q --k 2 --segments 2 --leaf 1",
-        [6, 3, 0],
+        [6, 3, 0, 0],
         "query 0\n1 0 4 100\n2 3 164 18446744073709551615\n",
     ),
-    ("range A Q 164", [4, 3, 0], "query 0\n1 0 4\n2 3 164\n"),
-    ("verify A Q C --segments 2", [4, 3, 8], "valid\n"),
+    ("range A Q 164", [4, 3, 0, 0], "query 0\n1 0 4\n2 3 164\n"),
+    ("verify A Q C --segments 2", [4, 3, 8, 0], "valid\n"),
+    ("nearest A Q --index I", [4, 3, 0, 5], "query 0\n1 0 4\n"),
 ];
 
 // A certificate of the nearest of the four series: 97 bytes.
@@ -38,17 +41,21 @@ const CERTIFICATE: &str = "query 0\n1 0 4\nstart 1 4\nqueue 0\nqueue 1\n\
     leaf 0 word 0:1,0:1 bound 10\nleaf 1 word 1:1,1:1 scanned\n";
 
 // The status where read number `read` fails, of files that take so many reads each.
-fn status_of(read: u64, reads: [u64; 3]) -> Status {
-    let [series, queries, certificate] = reads;
-    if read <= series {
-        Status::ReadFault(Which::Series)
-    } else if read <= series.saturating_add(queries) {
-        Status::ReadFault(Which::Queries)
-    } else if read <= series.saturating_add(queries).saturating_add(certificate) {
-        Status::ReadFault(Which::Certificate)
-    } else {
-        Status::Done
+fn status_of(read: u64, reads: [u64; 4]) -> Status {
+    let [series, queries, certificate, index] = reads;
+    let mut left = read;
+    for (count, which) in [
+        (series, Which::Series),
+        (queries, Which::Queries),
+        (certificate, Which::Certificate),
+        (index, Which::Index),
+    ] {
+        if left <= count {
+            return Status::ReadFault(which);
+        }
+        left = left.saturating_sub(count);
     }
+    Status::Done
 }
 
 #[test]
@@ -74,13 +81,14 @@ fn each_read_may_fail(rt: HostRuntime) -> Result<(), Fail> {
     Ok(())
 }
 
-// Which of the files a failed read is of, in the order in which they are read; 3 where no read failed.
+// Which of the files a failed read is of, in the order in which they are read; 4 where no read failed.
 fn place_of(status: Status) -> Option<u32> {
     match status {
         Status::ReadFault(Which::Series) => Some(0),
         Status::ReadFault(Which::Queries) => Some(1),
         Status::ReadFault(Which::Certificate) => Some(2),
-        Status::Done => Some(3),
+        Status::ReadFault(Which::Index) => Some(3),
+        Status::Done => Some(4),
         _ => None,
     }
 }
@@ -104,17 +112,17 @@ fn reads_fail_in_turn<H: Threads + Wait + Abort + Sync>(
         let place = place_of(ended.status);
         assert!(rt; last <= place, "{line}, read {read} of {piece}");
         last = place;
-        let written = if place == Some(3) { text } else { "" };
+        let written = if place == Some(4) { text } else { "" };
         assert_eq!(rt;
             ended.out.written(),
             written.as_bytes(),
             "{line}, read {read} of {piece}"
         );
-        if place == Some(3) {
+        if place == Some(4) {
             break;
         }
     }
-    assert_eq!(rt; last, Some(3), "{line}: no read of {piece} is left");
+    assert_eq!(rt; last, Some(4), "{line}: no read of {piece} is left");
     Ok(())
 }
 
@@ -144,11 +152,12 @@ fn each_open_may_fail(rt: HostRuntime) -> Result<(), Fail> {
                 outside,
                 &NoGate,
             )?;
-            let [_, _, certificate] = reads;
+            let [_, _, certificate, index] = reads;
             let wanted = match open {
                 1 => Status::ReadFault(Which::Series),
                 2 => Status::ReadFault(Which::Queries),
                 3 if certificate > 0 => Status::ReadFault(Which::Certificate),
+                3 if index > 0 => Status::ReadFault(Which::Index),
                 _ => Status::Done,
             };
             assert_eq!(rt; ended.status, wanted, "{line}, open {open}");
@@ -212,6 +221,11 @@ fn a_line_that_is_not_told_changes_no_status(rt: HostRuntime) -> Result<(), Fail
         ("nearest A nothree", Status::Mismatch(4, 3)),
         ("nearest A Q --segments 5", Status::Settings(5, 4)),
         ("nearest A nobody", Status::Missing(Which::Queries)),
+        ("nearest A Q --index nobody", Status::Missing(Which::Index)),
+        (
+            "nearest zeros Q --index I",
+            Status::Index(IndexFault::Count(4, 3)),
+        ),
         ("", Status::Usage),
     ];
     for (line, status) in table {

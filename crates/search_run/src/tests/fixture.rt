@@ -2,6 +2,8 @@
 
 use crate::{Status, run};
 use outside::{Gate, MemFiles, MemSink, NoGate, NoMemory};
+use random_walks::{generator, walks};
+use series_file::write_numbered;
 use std::alloc::Global;
 use std::process::Abort;
 use std::sync::Wait;
@@ -23,6 +25,11 @@ pub const LABELLED: &[u8] = b"ISER\x02\0\0\0\x04\0\0\0\x04\0\0\0\
     \x64\0\0\0\0\0\0\0\x07\0\0\0\0\0\0\0\x07\0\0\0\0\0\0\0\xff\xff\xff\xff\xff\xff\xff\xff\
     \0\0\0\0\0\0\0\0\x0a\0\x0a\0\x0a\0\x0a\0\xf6\xff\xf6\xff\xf6\xff\xf6\xff\0\0\0\0\x0a\0\x0a\0";
 
+/// The file `I`: the tree of `A` with two segments, as it is saved. Root child 0 has series 2, root child 3 the others.
+pub const INDEX: &[u8; 58] = b"ISEX\x01\0\x02\0\x04\0\0\0\x04\0\0\0\xe8\x03\0\0\x02\0\0\0\
+    \0\0\0\0\0\x01\0\0\0\x02\0\0\0\
+    \x03\0\0\0\0\x03\0\0\0\0\0\0\0\x01\0\0\0\x03\0\0\0";
+
 /// A file of version 1 with these values.
 fn spelled(alloc: Global, length: u16, count: u32, values: &[i16]) -> Result<Vec<u8>, NoMemory> {
     let mut bytes = b"ISER\x01\0".to_vec(alloc)?;
@@ -35,10 +42,11 @@ fn spelled(alloc: Global, length: u16, count: u32, values: &[i16]) -> Result<Vec
     Ok(bytes)
 }
 
-/// Holds the files of the tables: `A` and its query `Q`, `A2` with labels, other collections, and broken files.
+/// Holds the files of the tables: `A`, its query `Q` and its index `I`, `A2` with labels, other collections, and broken files.
 fn hold_files(alloc: Global, files: &mut MemFiles) -> Result<(), NoMemory> {
     files.hold("A", &spelled(alloc, 4, 4, &VALUES)?)?;
     files.hold("Q", &spelled(alloc, 4, 1, &[1, 1, 1, 1])?)?;
+    files.hold("I", INDEX)?;
     files.hold("A2", LABELLED)?;
     hold_collections(alloc, files)?;
     hold_raw(alloc, files)?;
@@ -78,6 +86,16 @@ fn hold_long(alloc: Global, files: &mut MemFiles) -> Result<(), NoMemory> {
         files.hold(longest, &bytes)?;
     }
     Ok(())
+}
+
+/// Holds sixty series of eight values each, `drawn`, and three queries for them, `asked`: random walks, with their numbers as
+/// labels.
+fn hold_drawn(alloc: Global, files: &mut MemFiles) -> Result<(), NoMemory> {
+    let mut rng = generator(7);
+    let series = walks(alloc, &mut rng, 60, 8)?;
+    let queries = walks(alloc, &mut rng, 3, 8)?;
+    files.hold("drawn", &write_numbered(alloc, &series)?)?;
+    files.hold("asked", &write_numbered(alloc, &queries)?)
 }
 
 /// Holds files without a header: a few values, a longer series, and an odd number of bytes; and queries for windows of the
@@ -169,8 +187,8 @@ pub struct Ended {
     pub err: MemSink,
 }
 
-/// The files of the tables and a certificate `C`, as this outside gives them. The long series are held where the line names
-/// one.
+/// The files of the tables and a certificate `C`, as this outside gives them. The long series and the drawn ones
+/// are held where the line names one.
 pub fn files_of(
     alloc: Global,
     line: &str,
@@ -187,6 +205,9 @@ pub fn files_of(
     files.hold("C", certificate)?;
     if line.contains("low") {
         hold_long(alloc, &mut files)?;
+    }
+    if line.contains("drawn") {
+        hold_drawn(alloc, &mut files)?;
     }
     Ok(files)
 }

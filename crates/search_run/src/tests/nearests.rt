@@ -1,7 +1,7 @@
 //! Searches for the nearest with the options of an index, as a table: words, and the status, the text and the line that they
 //! end with. Two workers meet at a gate as they build, and as they search together.
 
-use super::fixture::{Meeting, NO_COMMAND, Outside, Row, end_as_they_should, run_line};
+use super::fixture::{Meeting, Outside, Row, end_as_they_should, run_line};
 use crate::Status;
 use std::test::Fail;
 
@@ -85,7 +85,12 @@ const NEARESTS: [Row; 16] = [
         "",
     ),
     ("nearest A Q --sealed", Status::Done, "query 0\n1 0 4\n", ""),
-    ("nearest A Q --index I", Status::Usage, "", NO_COMMAND),
+    (
+        "nearest A Q --index I",
+        Status::Done,
+        "query 0\n1 0 4\n",
+        "",
+    ),
 ];
 
 #[test]

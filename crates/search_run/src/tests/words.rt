@@ -7,7 +7,7 @@ use outside::NoGate;
 use std::test::Fail;
 
 // Lines of words that are no command.
-const REFUSED: [&str; 58] = [
+const REFUSED: [&str; 67] = [
     "",
     " nearest A Q",
     "nearest A Q ",
@@ -66,6 +66,15 @@ const REFUSED: [&str; 58] = [
     "trial 18446744073709551616 1 4 1",
     "trial 7 1 4 1 --raw 4",
     "trial 7 1 4 1 --certificate",
+    "nearest A Q --index I --segments 2",
+    "nearest A Q --index I --leaf 1000",
+    "nearest A Q --index I --breaks flat",
+    "nearest A Q --index I --certificate",
+    "range A Q 4 --index I",
+    "save A Q",
+    "save A --k 2",
+    "save A --queues 2",
+    "save A --index I",
 ];
 
 // Spellings of a number behind an option that are taken.

@@ -58,3 +58,11 @@ returns-in-Discord-clause-answers g c =
     let writing = wrote_to g.S.Sink.written g.S.Sink.faults g.S.Sink.sure c.args.out.now c.answer_discord.new.out in
     subst (λ command. Answers reading writing command (ended c.answer_discord.result)) (sym c.in-Discord.is)
     c.answer_discord.ensures.answers
+
+pub returns-in-Save-clause-answers : goal.returns-in-Save-clause-answers
+returns-in-Save-clause-answers g c =
+    let reading = read_from g.F.Files.held g.F.Files.faults g.F.Files.misses g.F.Files.blamed c.args.files.now
+    c.answer_save.new.files in
+    let writing = wrote_to g.S.Sink.written g.S.Sink.faults g.S.Sink.sure c.args.out.now c.answer_save.new.out in
+    subst (λ command. Answers reading writing command (ended c.answer_save.result)) (sym c.in-Save.is)
+    c.answer_save.ensures.answers

@@ -39,14 +39,14 @@ returns-in-Ok-clause-valid g c command can faultless =
     (subst (IsFaultless reading.held) (sym same) faultless)
 
 pub returns-in-Ok-clause-exact : goal.returns-in-Ok-clause-exact
-returns-in-Ok-clause-exact g c command can fault has =
+returns-in-Ok-clause-exact g c command can told has =
     let reading = read_from g.F.Files.held g.F.Files.faults g.F.Files.misses g.F.Files.blamed c.args.files.now
     c.answer_either.new.files in
     let writing = wrote_to g.S.Sink.written g.S.Sink.faults g.S.Sink.sure c.args.out.now c.answer_either.new.out in
     let same = c.in-Ok.ensures.same command can.0 in
     let able = subst (CanAnswer reading.held) (sym same) can.1 in
-    answers_exactly reading writing c.in-Ok.command c.answer_either.result c.answer_either.ensures.answers able fault
-    (subst (λ asked. HasFault reading.held (plan_of asked) fault) (sym same) has)
+    answers_exactly reading writing c.in-Ok.command c.answer_either.result c.answer_either.ensures.answers able told
+    (subst (λ asked. HasFault reading.held (plan_of asked) told) (sym same) has)
 
 pub returns-in-Ok-clause-cause : goal.returns-in-Ok-clause-cause
 returns-in-Ok-clause-cause g c =
@@ -61,7 +61,7 @@ returns-in-Ok-clause-certifies g c command asks =
     c.answer_either.new.files in
     let writing = wrote_to g.S.Sink.written g.S.Sink.faults g.S.Sink.sure c.args.out.now c.answer_either.new.out in
     subst (λ asked. Certifies reading.held asked writing c.answer_either.result) (c.in-Ok.ensures.same command asks)
-    (answers_certify reading writing c.in-Ok.command c.answer_either.result c.in-Ok.ensures.limits
+    (answers_certify reading writing c.in-Ok.command c.answer_either.result c.in-Ok.ensures.limits c.in-Ok.ensures.alone
     c.answer_either.ensures.answers)
 
 pub returns-in-Err-clause-certifies : goal.returns-in-Err-clause-certifies

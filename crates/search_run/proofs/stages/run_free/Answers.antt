@@ -43,5 +43,5 @@ returns-clause-certifies g c =
     let reading = read_from g.F.Files.held g.F.Files.faults g.F.Files.misses g.F.Files.blamed c.args.files.now
     c.answer_sealed.new.files in
     let writing = wrote_to g.S.Sink.written g.S.Sink.faults g.S.Sink.sure c.args.out.now c.answer_sealed.new.out in
-    answers_certify reading writing c.args.command.now c.answer_sealed.result c.requires.limits
+    answers_certify reading writing c.args.command.now c.answer_sealed.result c.requires.limits c.requires.alone
     c.answer_sealed.ensures.answers
