@@ -50,7 +50,12 @@ impl<'a, R: Rows> Task<'a, R> {
     }
 
     /// The list of the answer, by all rows.
-    pub(crate) fn answer_by_rows(&self, alloc: Global, index: &Index, limit: u64) -> Result<KBest, NoMemory>
+    pub(crate) fn answer_by_rows(
+        &self,
+        alloc: Global,
+        index: &Index,
+        limit: u64,
+    ) -> Result<KBest, NoMemory>
         requires fits { IndexFits self.now.collection self.now.layout index.now }
         requires limit { last_of self.now ≤ limit }
         ensures { IfOk result (λ best. best.pairs ≡ answer self.now.collection self.now.query self.now.k) }
