@@ -32,5 +32,5 @@ pub use Rattle.certificate.specs.Grammar
 pub use Rattle.certificate.specs.Verdict
 pub use Rattle.certificate.specs.Printed
 pub use Rattle.certificate.specs.Certified
-pub use Rattle.saved_index.specs.Faults
+pub use Rattle.saved_index.specs.Faults as IndexFaults
 pub use Rattle.saved_index.specs.IndexText

@@ -1,5 +1,5 @@
 -- The windows of one long series as a collection, the steps of a search among them, and the choice that its text has.
-use Rattle.std.specs.Prelude.{◌≡◌, ℕ, ℤ, List, length, Option, None}
+use Rattle.std.specs.Prelude.{ℕ, ℤ, List, length, Option, None}
 use Rattle.outside.specs.Files.{Held}
 use Rattle.command_words.specs.declared.options.Options.{Options}
 use Rattle.series_core.specs.Answer.{answer}

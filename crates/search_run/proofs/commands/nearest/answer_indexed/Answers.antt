@@ -1,4 +1,4 @@
-use Rattle.std.proofs.Common.{rules, ◌≡◌, false, inl, inr, refl, subst, ◌∙◌}
+use Rattle.std.proofs.Common.{rules, ◌≡◌, false, inl, inr, refl, subst}
 use Rattle.std.proofs.lemmas.Result.{err_from_is_err_and}
 use Rattle.series_core.specs.Answer.{answer}
 use Rattle.search_run.specs.Commands.{indexed_plan, pieces_rest}
