@@ -1,5 +1,6 @@
 -- The files of a script's groups: what they hold, which appends find room, and why a group is not taken.
 use Rattle.std.specs.Prelude.{◌≡◌, ℕ, ◌+◌, ◌<◌, ◌≤◌, ◌⊎◌, ⊤, List, [], ◌∷◌, ◌++◌, length, Option, None, Some}
+use Rattle.std.specs.List.{AllZip}
 use Rattle.outside.specs.Files.{Held}
 use Rattle.series_core.specs.Collection.{Collection}
 use Rattle.series_core.specs.declared.rows.TheConstants.{MAX_COUNT}
@@ -22,9 +23,7 @@ pub record HoldsAsking (held : Option Held) (n : ℕ) (a : Asking) (f : QueryFil
 
 -- so do the files of all these askings, in order
 abbrev pub HoldAskings : Option Held → ℕ → List Asking → List QueryFile → Type 0
-HoldAskings held n [] [] = ⊤
-HoldAskings held n (a ∷ as) (f ∷ fs) = HoldsAsking held n a f × HoldAskings held n as fs
-HoldAskings held n _ _ = ⊥
+HoldAskings held n askings files = AllZip (HoldsAsking held n) askings files
 
 -- the files of the group hold this, and their length is the first file's
 pub record HoldsGroup (held : Option Held) (want : Option ℕ) (g : Group) (c : Contents) : Type 0 where

@@ -32,19 +32,20 @@ pub record IsSession (s : Session) : Type 0 where
   pub number : s.reader.pass.number ≡ 1
   pub empty : s.room.items ≡ []
   pub room : 0 < vec_capacity s.room
+  pub points : s.points ≡ points_of s.live
   pub seen : IsPrefix (batches_of s.writer) (batches_seen s.reader)
 
 -- the session is new: nothing was appended or asked
 pub record IsNew (n : ℕ) (s : Session) : Type 0 where
   pub session : IsSession s
-  pub points : points_of s.live ≡ n
+  pub points : s.points ≡ n
   pub batches : batches_of s.writer ≡ []
   pub asked : s.asked ≡ 0
 
 -- what a session knows of the series while it takes a batch: all that stood, and those of the batch
 abbrev pub scene_of : Session → Collection → Scene
 scene_of s c = record {
-  points = points_of s.live;
+  points = s.points;
   series = series_of (batches_of s.writer) ++ c.series;
   before = length (series_of (batches_of s.writer));
   after = length (series_of (batches_of s.writer)) + length c.series;
@@ -53,7 +54,7 @@ scene_of s c = record {
 -- the session took a group: one batch more stands, which has the group's series, and found room; its queries were asked
 pub record Takes (old : Session) (c : Contents) (new : Session) : Type 0 where
   pub session : IsSession new
-  pub points : points_of new.live ≡ points_of old.live
+  pub points : new.points ≡ old.points
   pub batch : Batch
   pub series : batch.series ≡ c.batch
   pub batches : batches_of new.writer ≡ batches_of old.writer ++ batch ∷ []
@@ -87,10 +88,10 @@ pub record HasTaken (cs : List Contents) (s : Session) : Type 0 where
 abbrev pub Stands : List Contents → Option Session → Type 0
 Stands [] (Some s) = ⊥
 Stands [] None = Unit {0}
-Stands (c ∷ cs) (Some s) = HasTaken (c ∷ cs) s × (points_of s.live ≡ c.batch.points)
+Stands (c ∷ cs) (Some s) = HasTaken (c ∷ cs) s × (s.points ≡ c.batch.points)
 Stands (c ∷ cs) None = ⊥
 
 -- the length of the series of a session, where one has begun
 abbrev pub length_of : Option Session → Option ℕ
 length_of None = None
-length_of (Some s) = Some (points_of s.live)
+length_of (Some s) = Some s.points

@@ -40,6 +40,8 @@ pub struct Session {
     reader: Reader,
     // The room that the end of the collection needs for its reader.
     room: Vec<Reader>,
+    // The length of each series.
+    points: u32,
     // How many queries were asked.
     asked: u64,
 }
@@ -59,6 +61,7 @@ impl Session {
             writer,
             reader,
             room,
+            points,
             asked: 0,
         })
     }
@@ -74,8 +77,8 @@ impl Session {
         turn: u64,
     ) -> Result<(Session, Vec<u8>), LiveStatus>
         requires session { IsSession self }
-        requires points { contents.batch.points ≡ points_of self.live }
-        requires askings { All (CanAsk (points_of self.live)) contents.askings.items }
+        requires points { contents.batch.points ≡ self.points }
+        requires askings { All (CanAsk self.points) contents.askings.items }
         requires numbers { self.asked + length (queries_of contents) < 2 ^ 64 }
         ensures takes { IfOk result (λ r. Takes self contents r.0) }
         ensures text { IfOk result (λ r. IsTextOfGroup self contents r.1.items) }
@@ -86,6 +89,7 @@ impl Session {
             writer,
             reader,
             room,
+            points,
             asked,
         } = self;
         let Contents { batch, askings } = contents;
@@ -113,6 +117,7 @@ impl Session {
             writer,
             reader,
             room,
+            points,
             asked: next,
         };
         Ok((session, text))
@@ -139,7 +144,7 @@ pub fn length_of(session: &Option<Session>) -> Option<u32>
     ensures { result ≡ length_of session.now }
 {
     match session {
-        Some(session) => Some(session.live.points()),
+        Some(session) => Some(session.points),
         None => None,
     }
 }
@@ -148,7 +153,7 @@ pub fn length_of(session: &Option<Session>) -> Option<u32>
 pub fn begun(alloc: Global, session: Option<Session>, points: u32) -> Result<Session, NoMemory>
     requires limits { (1 ≤ points) × (points ≤ 65536) }
     ensures { (cs : List _) → Stands cs session → FitsLength (length_of session) points
-        → IfOk result (λ s. HasTaken cs s × (points_of s.live ≡ points)) }
+        → IfOk result (λ s. HasTaken cs s × (s.points ≡ points)) }
 {
     match session {
         Some(session) => Ok(session),
