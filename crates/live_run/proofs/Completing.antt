@@ -40,7 +40,7 @@ group_excused reading want g c status told holds (inl x) =
     file_excused reading want g.batch c.batch status told holds.batch holds.length x
 group_excused reading want g c status told holds (inr (rows, have, fits, x)) =
     let same = one_file reading.held g.batch.name c.batch rows told holds.batch have in
-    let askings = subst (λ as. HoldAskings reading.held rows.points as c.askings.items) x.all
+    let askings = subst (λ list. HoldAskings reading.held rows.points list c.askings.items) x.all
     (subst (λ (r : Collection). HoldAskings reading.held r.points g.askings c.askings.items) same holds.askings) in
     let found = one_asking reading.held rows.points x.done x.asking x.rest c.askings.items askings in
     file_excused reading (Some rows.points) x.asking.queries found.0.queries status told found.1.file found.1.length x.refused

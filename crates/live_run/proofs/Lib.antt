@@ -6,5 +6,6 @@ pub mod Taking
 pub mod Texts
 pub mod Askings
 pub mod Stopping
+pub mod State
 pub mod Held
 pub mod Completing

@@ -38,11 +38,7 @@ fn can_name(word: &str) -> bool
 }
 
 /// Reads the script of this name.
-pub fn load_script<F: Files>(
-    alloc: Global,
-    files: &mut F,
-    name: &str,
-) -> Result<Script, LiveStatus>
+pub fn load_script<F: Files>(alloc: Global, files: &mut F, name: &str) -> Result<Script, LiveStatus>
     ensures holds { IfOk result (HoldsScript (F.held files.old) name.now) }
     ensures refused { IfErr result (RefusesScript
         (read_from F.held F.faults F.misses F.blamed files.old files.new) name.now) }

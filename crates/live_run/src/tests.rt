@@ -124,15 +124,16 @@ fn a_script_may_be_too_long_or_fill_the_collection(rt: HostRuntime) -> Result<()
     let within = run_line(&rt, rt.alloc(), "S", &long[1..], outside, &NoGate)?;
     assert_eq!(rt; within.status, LiveStatus::Script(1), "1048576 bytes");
     let mut script = Vec::new(rt.alloc());
-    for _ in 0..1024 {
+    for _ in 0..1025 {
         script.extend_from_slice(b"append E\n")?;
     }
-    let full = run_line(&rt, rt.alloc(), "S", &script, outside, &NoGate)?;
-    assert_eq!(rt; full.status, LiveStatus::Done, "1024 batches");
-    script.extend_from_slice(b"append E\nask Q 1\n")?;
     let over = run_line(&rt, rt.alloc(), "S", &script, outside, &NoGate)?;
-    assert_eq!(rt; over.status, LiveStatus::Full(1024, 0), "one batch more");
-    assert_eq!(rt; over.err.written(), "isearch_live: status 13\n".as_bytes(), "one batch more");
+    assert_eq!(rt; over.status, LiveStatus::Full(1024, 0), "1025 batches");
+    assert_eq!(rt;
+        over.err.written(),
+        "isearch_live: status 13\n".as_bytes(),
+        "1025 batches"
+    );
     Ok(())
 }
 
@@ -157,7 +158,13 @@ fn each_open_read_and_write_may_fail(rt: HostRuntime) -> Result<(), Fail> {
         let ended = run_line(&rt, rt.alloc(), "S", SCRIPT, outside, &NoGate)?;
         assert_eq!(rt; ended.status, fault_of(line), "open {open}");
     }
-    for (line, reads) in [(0, 1..4u64), (1, 4..8), (2, 8..10), (3, 10..13), (4, 13..15)] {
+    for (line, reads) in [
+        (0, 1..4u64),
+        (1, 4..8),
+        (2, 8..10),
+        (3, 10..13),
+        (4, 13..15),
+    ] {
         for read in reads {
             let outside = Outside { read, ..SOUND };
             let ended = run_line(&rt, rt.alloc(), "S", SCRIPT, outside, &NoGate)?;
@@ -179,7 +186,11 @@ fn each_open_read_and_write_may_fail(rt: HostRuntime) -> Result<(), Fail> {
             LiveStatus::Done
         };
         assert_eq!(rt; ended.status, status, "write {write}");
-        assert_eq!(rt; ended.out.written(), &TEXT.as_bytes()[..count], "write {write}");
+        assert_eq!(rt;
+            ended.out.written(),
+            &TEXT.as_bytes()[..count],
+            "write {write}"
+        );
     }
     let outside = Outside {
         tell: 2,
@@ -188,7 +199,11 @@ fn each_open_read_and_write_may_fail(rt: HostRuntime) -> Result<(), Fail> {
     };
     let ended = run_line(&rt, rt.alloc(), "S", SCRIPT, outside, &NoGate)?;
     assert_eq!(rt; ended.status, LiveStatus::ReadFault(1), "a failed line");
-    assert_eq!(rt; ended.err.written(), "isearch_live: st".as_bytes(), "a failed line");
+    assert_eq!(rt;
+        ended.err.written(),
+        "isearch_live: st".as_bytes(),
+        "a failed line"
+    );
     Ok(())
 }
 
@@ -197,9 +212,16 @@ fn both_sides_of_a_group_are_inside_at_once(rt: HostRuntime) -> Result<(), Fail>
     let gate = Meeting::new();
     let ended = run_line(&rt, rt.alloc(), "S", b"append A\nask Q 1\n", SOUND, &gate)?;
     assert_eq!(rt; ended.status, LiveStatus::Done, "a group with its query");
-    assert_eq!(rt; gate.counts(), (1, 1, 0), "each side came once, and neither waited in vain");
+    assert_eq!(rt;
+        gate.counts(),
+        (1, 1, 0),
+        "each side came once, and neither waited in vain"
+    );
     let before = ended.out.written() == "query 0 count 0\n".as_bytes();
     let behind = ended.out.written() == TEXT.as_bytes();
-    assert!(rt; before || behind, "the query came before the append or behind it");
+    assert!(rt;
+        before || behind,
+        "the query came before the append or behind it"
+    );
     Ok(())
 }
