@@ -1,13 +1,14 @@
 -- Where nothing keeps a run from its work, it ends with all of its text written, or for want of memory, or for a fault that
 -- was counted.
-use Rattle.std.proofs.Common.{◌≡◌, ℕ, zero, suc, ◌+◌, ◌<◌, ◌≤◌, ⊤, List, [], ◌∷◌, ◌++◌, length, map, get_or, Option, None, Some, inl, inr, ⊎_elim, ap, sym, ◌∙◌, subst, refl, append_assoc, append-nil, arith}
-use Rattle.std.specs.Prelude.{ℤ, IsSomeAnd}
+use Rattle.std.proofs.Common.{◌≡◌, ℕ, zero, suc, ◌+◌, ◌<◌, ◌≤◌, ◌⊎◌, List, [], ◌∷◌, ◌++◌, length, map, get_or, Option, None, Some, inl, inr, ⊎_elim, ap, sym, ◌∙◌, subst, refl, append_assoc, append-nil, arith}
+use Rattle.std.specs.Prelude.{ℤ, IsSomeAnd, ⊤}
 use Rattle.std.specs.List.{AllZip, flat_map}
 use Rattle.std.proofs.lemmas.List.{length-map}
 use Rattle.std.proofs.lemmas.Option.{same_Some}
 use Rattle.outside.specs.Files.{Held}
 use Rattle.series_core.specs.Collection.{Collection}
 use Rattle.live_collection.specs.declared.object.TheConstants.{MAX_BATCHES}
+use Rattle.series_core.specs.declared.rows.TheConstants.{MAX_COUNT}
 use Rattle.live_script.specs.Grammar.{IsFault, IsScript}
 use Rattle.live_script.specs.declared.script.Asking.{Asking}
 use Rattle.live_script.specs.declared.script.Group.{Group}
@@ -37,13 +38,13 @@ one_asking held n (d ∷ done) a rest (f ∷ fs) all = one_asking held n done a 
 group_excused : (reading : Reading) (want : Option ℕ) (g : Group) (c : Contents) (status : LiveStatus) → IsTold reading.held
     → HoldsGroup reading.held want g c → RefusesGroup reading want g status → IsExcused reading status
 group_excused reading want g c status told holds (inl x) =
-    file_excused reading want g.batch c.batch status told holds.batch holds.length x
+    file_excused reading want g.batch c.batch status told holds.batch holds.points x
 group_excused reading want g c status told holds (inr (rows, have, fits, x)) =
     let same = one_file reading.held g.batch.name c.batch rows told holds.batch have in
     let askings = subst (λ list. HoldAskings reading.held rows.points list c.askings.items) x.all
     (subst (λ (r : Collection). HoldAskings reading.held r.points g.askings c.askings.items) same holds.askings) in
     let found = one_asking reading.held rows.points x.done x.asking x.rest c.askings.items askings in
-    file_excused reading (Some rows.points) x.asking.queries found.0.queries status told found.1.file found.1.length x.refused
+    file_excused reading (Some rows.points) x.asking.queries found.0.queries status told found.1.file found.1.points x.refused
 
 abbrev pub batches_in : List Contents → List Collection
 batches_in cs = map (λ (c : Contents). c.batch) cs
@@ -96,7 +97,7 @@ has_room ahead c d (Full b t) room e x =
     let s = room.series in
     let p = x.0 in
     let q = x.1 in
-    ⊎_elim (λ (m : b ≡ MAX_BATCHES). omega arith) (λ (m : _ < t + length d.batch.series). omega arith) x.2
+    ⊎_elim (λ (m : b ≡ MAX_BATCHES). omega arith) (λ (m : MAX_COUNT < t + length d.batch.series). omega arith) x.2
 has_room ahead c d Done room e x = x
 has_room ahead c d Usage room e x = x
 has_room ahead c d (Missing l) room e x = x
@@ -302,7 +303,7 @@ stop_shown reading ahead (g ∷ gs) l e (inr x) = absurd x.2
 pub run_shown : (words : List (List ℕ)) (reading : Reading) (writing : Writing) (status : LiveStatus)
     → Ends words reading writing status → TellsCause status
 run_shown words reading writing (Format l e) (name, names, inl x) = absurd x.0
-run_shown words reading writing (Format l e) (name, names, inr (groups, holds, taken, stops, wrote)) =
+run_shown words reading writing (Format l e) (name, names, inr (groups, holds, (taken, stops, wrote))) =
     stop_shown reading taken.contents taken.rest l e stops
 run_shown words reading writing Done ends = tt
 run_shown words reading writing Usage ends = tt

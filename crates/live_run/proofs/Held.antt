@@ -1,6 +1,6 @@
 -- Where the files are told, a named file holds one thing, and what is held is not refused.
-use Rattle.std.proofs.Common.{◌≡◌, ℕ, ◌≤◌, ⊤, List, [], ◌∷◌, ◌++◌, Option, None, Some, IfSome, inl, inr, ap, sym, ◌∙◌, subst, refl}
-use Rattle.std.specs.Prelude.{IsSomeAnd}
+use Rattle.std.proofs.Common.{◌≡◌, ℕ, ◌≤◌, List, [], ◌∷◌, ◌++◌, Option, None, Some, IfSome, inl, inr, ap, sym, ◌∙◌, subst, refl}
+use Rattle.std.specs.Prelude.{IsSomeAnd, ⊤}
 use Rattle.std.specs.List.{AllZip}
 use Rattle.std.proofs.lemmas.Option.{none-some, same_Some}
 use Rattle.outside.specs.Count.{Rose}

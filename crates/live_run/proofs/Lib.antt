@@ -9,3 +9,4 @@ pub mod Stopping
 pub mod State
 pub mod Held
 pub mod Completing
+pub mod Running

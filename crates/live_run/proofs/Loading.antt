@@ -12,7 +12,8 @@ use Rattle.series_file.specs.declared.error.Form.TheVariants.{Headed}
 use Rattle.series_file.specs.declared.error.FileError.{FileError}
 use Rattle.series_file.specs.declared.error.FileError.TheVariants.{ReadFault as FileReadFault, NoMemory}
 use Rattle.live_script.specs.declared.script.NamedFile.{NamedFile}
-use Rattle.live_run.specs.Loads.{HoldsBytes, IsHeldAs, RefusesFile, RefusesNamed, ShowsFault, refusal_of}
+use Rattle.live_script.specs.Grammar.{IsFault}
+use Rattle.live_run.specs.Loads.{HoldsBytes, IsHeldAs, IsScriptFault, most_bytes, RefusesFile, RefusesNamed, ShowsFault, refusal_of}
 use Rattle.live_run.specs.Traffic.{EndsReading, Reading}
 use Rattle.live_run.specs.declared.status.LiveStatus.{LiveStatus}
 use Rattle.live_run.specs.declared.status.LiveStatus.TheVariants.{Done, Usage, Missing, ReadFault, Format, Mismatch, WriteFault, Memory, Script, Full}
@@ -126,3 +127,11 @@ pub first_part : (left : Option (List ℕ)) (P Q : List ℕ → Type 0)
     → IfSome left (λ rest. P rest × Q rest) → IfSome left P
 first_part None P Q both = tt
 first_part (Some rest) P Q both = both.0
+
+-- bytes that are held and have a first wrong line are no script for it
+pub line_fault : (held : Option Held) (name bytes : List ℕ) (at : ℕ) → length bytes ≤ most_bytes
+    → HoldsBytes held name (λ b. b ≡ bytes) → IsFault bytes at → HoldsBytes held name (IsScriptFault at)
+line_fault held name bytes zero short holds fault = absurd (fault.here fault.before)
+line_fault held name bytes (suc n) short holds fault =
+    held_as held name (λ b. b ≡ bytes) (IsScriptFault (suc n))
+    (λ b e. subst (λ x. (length x ≤ most_bytes) × IsFault x (suc n)) (sym e) (short, fault)) holds

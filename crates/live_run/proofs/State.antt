@@ -57,7 +57,7 @@ behind_none held before = record {
 }
 
 -- the groups taken, where others are left
-pub taken_of : (held : Option Held) (groups : List Group) (i : ℕ) (session : Option Session) (before now : Option (List ℕ))
+abbrev pub taken_of : (held : Option Held) (groups : List Group) (i : ℕ) (session : Option Session) (before now : Option (List ℕ))
     → IsBehind held (take i groups) session before now → Taken held groups
 taken_of held groups i session before now behind = record {
   done = take i groups;
@@ -137,7 +137,7 @@ behind_more held groups i d session s next c n piece before now later low behind
       contents = cs ++ c ∷ [];
       passed = subst (λ l. AllPass held [] l (cs ++ c ∷ [])) (sym gs)
           (pass_more held [] (take i groups) cs (get_or groups i d) c behind.passed (record { holds = holds; room = room }));
-      stands = stands_more cs c s next has points holds.length takes;
+      stands = stands_more cs c s next has points holds.points takes;
       text = behind.text ++ piece;
       told = text_more cs c s behind.text piece has points behind.told is;
       wrote = wrote ∙ ap (λ known. append_known known piece) behind.wrote ∙ append_known-append before behind.text piece;
@@ -166,7 +166,7 @@ behind_fault reading writing groups i d session s next c piece now low behind ha
     told = text_more behind.contents c s behind.text piece has points behind.told is;
     count = k;
     within = within;
-    written = refl;
+    wrote = refl;
   },
   wrote ∙ ap (λ known. append_known known (take k piece)) behind.wrote
       ∙ append_known-append writing.before behind.text (take k piece),

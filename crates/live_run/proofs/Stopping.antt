@@ -12,6 +12,7 @@ use Rattle.live_collection.specs.declared.batch.Batch.{Batch}
 use Rattle.live_collection.specs.Histories.{series_of}
 use Rattle.live_script.specs.Grammar.{group_lines, script_lines}
 use Rattle.live_script.specs.declared.script.Group.{Group}
+use Rattle.live_script.specs.declared.script.NamedFile.{NamedFile}
 use Rattle.live_run.specs.Ends.{GroupsEnd, StopsWriting, Taken}
 use Rattle.live_run.specs.Groups.{AllPass, HasRoom, HoldsGroup, IsFull, Passes, RefusesGroup, StopsAt, want_of}
 use Rattle.live_run.specs.Loads.{Differs, FitsLength, RefusesFitting}
@@ -137,7 +138,7 @@ refused_stops reading cs g gs c s Memory has holds refused = tt
 refused_stops reading cs g gs c s (Full b t) has holds refused =
     let l = refused.0 ∙ same_count cs (batches_of s.writer) has.batches in
     let n = refused.1 ∙ ap length (same_series cs (batches_of s.writer) has.batches) in
-    inr (c, holds, l, n, refused.2)
+    inr (c, holds, (l, n, refused.2))
 refused_stops reading cs g gs c s Done has holds refused = absurd refused
 refused_stops reading cs g gs c s Usage has holds refused = absurd refused
 refused_stops reading cs g gs c s (Missing l) has holds refused = absurd refused
@@ -152,21 +153,21 @@ no_done : (reading : Reading) (want : Option ℕ) (g : Group) → RefusesGroup r
 no_done reading want g (inl (inl x)) = x
 no_done reading None g (inl (inr x)) = x.2
 no_done reading (Some w) g (inl (inr x)) = x.2
-no_done reading want g (inr (rows, holds, fits, x)) = other x.refused
+no_done reading want g (inr (rows, holds, fits, x)) = other x.asking.queries x.refused
   where
-    other : {file : _} → RefusesFitting reading (Some rows.points) file Done → ⊥
-    other (inl y) = y
-    other (inr y) = y.2
+    other : (file : NamedFile) → RefusesFitting reading (Some rows.points) file Done → ⊥
+    other file (inl y) = y
+    other file (inr y) = y.2
 
 no_fault : (reading : Reading) (want : Option ℕ) (g : Group) → RefusesGroup reading want g WriteFault → ⊥
 no_fault reading want g (inl (inl x)) = x
 no_fault reading None g (inl (inr x)) = x.2
 no_fault reading (Some w) g (inl (inr x)) = x.2
-no_fault reading want g (inr (rows, holds, fits, x)) = other x.refused
+no_fault reading want g (inr (rows, holds, fits, x)) = other x.asking.queries x.refused
   where
-    other : {file : _} → RefusesFitting reading (Some rows.points) file WriteFault → ⊥
-    other (inl y) = y
-    other (inr y) = y.2
+    other : (file : NamedFile) → RefusesFitting reading (Some rows.points) file WriteFault → ⊥
+    other file (inl y) = y
+    other file (inr y) = y.2
 
 -- a run ends where a group is not taken
 pub stops_end : (reading : Reading) (writing : Writing) (groups : List Group) (status : LiveStatus) (taken : Taken reading.held groups)

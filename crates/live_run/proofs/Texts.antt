@@ -54,7 +54,7 @@ queries_last s i least (q ∷ qs) text last le low (m, rest, told, grows, is, wh
 -- counts that are not below a number are not below a smaller one
 queries_lower : (s : Scene) (i low least : ℕ) (qs : List Query) (text : List ℕ) (last : ℕ) → low ≤ least
     → IsQueriesText s i least qs text last → (told : ℕ) × IsQueriesText s i low qs text told
-queries_lower s i low least [] text last le is = (low, is.0, refl)
+queries_lower s i low least [] text last le is = (low, (is.0, refl))
 queries_lower s i low least (q ∷ qs) text last le (m, rest, told, grows, is, whole) =
     (last, m, rest, told, omega (arith, le, grows), is, whole)
 
@@ -120,7 +120,7 @@ groups_snoc series ahead least (d ∷ cs) text last c piece told (p, t, rest, fi
 
 -- a script has no text before its first group
 pub script_none : IsScriptText [] []
-script_none = (0, refl, refl)
+script_none = (0, (refl, refl))
 
 -- the text of one group more
 pub script_more : (cs : List Contents) (c : Contents) (text piece : List ℕ) (told : ℕ) → IsScriptText cs text

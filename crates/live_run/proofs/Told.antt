@@ -90,7 +90,7 @@ first_series n bs next b (inr e) =
 pub asked_told : (n i least : ℕ) (bs : List Batch) (b : Batch) (seen : List Batch) (qs : List Query) (text : List ℕ)
     (later : List Batch) → IsPrefix bs seen → IsPrefix later (bs ++ b ∷ []) → least ≤ length (series_of seen)
     → IsAskedText n i seen qs text later → (last : ℕ) × IsQueriesText (scene_more n bs b) i least qs text last
-asked_told n i least bs b seen [] text later low high le is = (least, is.0, refl)
+asked_told n i least bs b seen [] text later low high le is = (least, (is.0, refl))
 asked_told n i least bs b seen (q ∷ qs) text later low high le (next, rest, pre, is, whole) =
     let low' = prefix_then bs seen next low pre in
     let high' = prefix_then next later (bs ++ b ∷ []) (asked_seen n (i + 1) next qs rest later is) high in

@@ -43,7 +43,7 @@ pub record StopsWriting (held : Option Held) (ahead : List Contents) (groups : L
   pub told : IsScriptText (ahead ++ contents ∷ []) (text ++ piece)
   pub count : ℕ
   pub within : count ≤ length piece
-  pub written : written ≡ text ++ take count piece
+  pub wrote : written ≡ text ++ take count piece
 
 -- What shows each status of the groups of a script, and what was written: all of a right text; or that of the groups taken, for
 -- a cause that stops the next one, and after a failed write also a prefix of the next one's.

@@ -18,7 +18,7 @@ use Rattle.live_run.specs.declared.status.LiveStatus.TheVariants.{Memory, Full}
 -- the file of the asking holds these queries, of n values each, and asks for as many
 pub record HoldsAsking (held : Option Held) (n : ℕ) (a : Asking) (f : QueryFile) : Type 0 where
   pub file : HoldsFile held a.queries.name f.queries
-  pub length : f.queries.points ≡ n
+  pub points : f.queries.points ≡ n
   pub k : f.k ≡ a.k
 
 -- so do the files of all these askings, in order
@@ -28,7 +28,7 @@ HoldAskings held n askings files = AllZip (HoldsAsking held n) askings files
 -- the files of the group hold this, and their length is the first file's
 pub record HoldsGroup (held : Option Held) (want : Option ℕ) (g : Group) (c : Contents) : Type 0 where
   pub batch : HoldsFile held g.batch.name c.batch
-  pub length : FitsLength want c.batch.points
+  pub points : FitsLength want c.batch.points
   pub askings : HoldAskings held c.batch.points g.askings c.askings.items
 
 -- the file of an asking does not serve, and those of all before it do

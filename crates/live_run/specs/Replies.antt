@@ -22,7 +22,7 @@ IsAskedText n i seen (q ∷ qs) text later = (next : List Batch) × (rest : List
 
 -- the queries of a file can be asked over series of n values
 pub record CanAsk (n : ℕ) (f : QueryFile) : Type 0 where
-  pub length : f.queries.points ≡ n
+  pub points : f.queries.points ≡ n
   pub least : 1 ≤ f.k
   pub most : f.k ≤ 1024
   pub few : length f.queries.series ≤ MAX_COUNT

@@ -1,12 +1,12 @@
-use Rattle.std.proofs.Common.{rules, ◌≡◌, ap, subst, arith}
+use Rattle.std.proofs.Common.{rules, ◌≡◌, ap, sym, subst, arith}
 use Rattle.std.specs.Prelude.{Result, Err}
 use Rattle.series_file.specs.declared.error.FileError.{FileError}
 use Rattle.series_file.specs.declared.error.Loaded.{Loaded}
 use Rattle.outside.specs.Count.{Rose-wider}
 use Rattle.outside.specs.Files.{Opens}
-use Rattle.live_run.specs.Loads.{RefusesNamed, ShowsFault}
+use Rattle.live_run.specs.Loads.{RefusesFile, refusal_of}
 use Rattle.live_run.specs.Traffic.{read_from}
-use Rattle.live_run.proofs.Loading.{ends_all, file_refused, named_wider}
+use Rattle.live_run.proofs.Loading.{file_refused}
 use Rattle.live_run.proofs.file.load.Goals as goal
 
 pub returns-in-Err-clause-refused : goal.returns-in-Err-clause-refused
@@ -16,7 +16,8 @@ returns-in-Err-clause-refused g c =
     let at = g.F.Files.at c.open.new.files in
     let left = g.F.Files.left c.open.new.files in
     let name : c.as_str.result.now ≡ c.args.file.now.name = search rules in
-    rw c.refusal.ensures
+    let cites : c.refusal.result ≡ refusal_of c.args.file.now.line c.in-Err.cause = search (rules, c.refusal.ensures) in
+    subst (RefusesFile reading c.args.file.now) (sym cites)
     (file_refused reading c.args.file.now at left c.in-Err.cause
     (subst (λ n. Opens reading.held n at left) name c.in_ok-open.ensures.opened) c.in-Err.ensures.refused
     (λ e. let err : FileError → Result Loaded FileError = λ x. Err x in
