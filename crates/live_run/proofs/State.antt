@@ -57,37 +57,39 @@ behind_none held before = record {
 }
 
 -- the groups taken, where others are left
-abbrev pub taken_of : (held : Option Held) (groups : List Group) (i : ℕ) (session : Option Session) (before now : Option (List ℕ))
-    → IsBehind held (take i groups) session before now → Taken held groups
-taken_of held groups i session before now behind = record {
+abbrev pub taken_of : (held whole : Option Held) → held ≡ whole → (groups : List Group) (i : ℕ) (session : Option Session)
+    (before now : Option (List ℕ)) → IsBehind held (take i groups) session before now → Taken whole groups
+taken_of held whole same groups i session before now behind = record {
   done = take i groups;
   rest = drop i groups;
   all = sym (take-append-drop i groups);
   contents = behind.contents;
-  passed = behind.passed;
+  passed = subst (λ h. AllPass h [] (take i groups) behind.contents) same behind.passed;
   text = behind.text;
   told = behind.told;
 }
 
 -- the run ends where the next group is not taken
-pub behind_stops : (reading : Reading) (writing : Writing) (groups : List Group) (i : ℕ) (d : Group) (session : Option Session)
-    (now : Option (List ℕ)) (status : LiveStatus) → i < length groups
-    → (behind : IsBehind reading.held (take i groups) session writing.before now)
+pub behind_stops : (reading : Reading) (writing : Writing) (held : Option Held) → held ≡ reading.held → (groups : List Group)
+    (i : ℕ) (d : Group) (session : Option Session) (now : Option (List ℕ)) (status : LiveStatus) → i < length groups
+    → (behind : IsBehind held (take i groups) session writing.before now)
     → ((rest : List Group) → StopsAt reading behind.contents (get_or groups i d ∷ rest) status)
     → writing.now ≡ now → GroupsEnd reading writing groups status
-behind_stops reading writing groups i d session now status low behind stops same =
-    stops_end reading writing groups status (taken_of reading.held groups i session writing.before now behind)
+behind_stops reading writing held e groups i d session now status low behind stops same =
+    stops_end reading writing groups status (taken_of held reading.held e groups i session writing.before now behind)
     (subst (λ gs. StopsAt reading behind.contents gs status) (sym (drop_more groups i d low)) (stops (drop (i + 1) groups)))
     (same ∙ behind.wrote)
 
 -- the whole script was taken
-pub behind_done : (reading : Reading) (writing : Writing) (groups : List Group) (i : ℕ) (session : Option Session)
-    (now : Option (List ℕ)) → length groups ≤ i → IsBehind reading.held (take i groups) session writing.before now
+pub behind_done : (reading : Reading) (writing : Writing) (held : Option Held) → held ≡ reading.held → (groups : List Group)
+    (i : ℕ) (session : Option Session) (now : Option (List ℕ)) → length groups ≤ i
+    → IsBehind held (take i groups) session writing.before now
     → writing.now ≡ now → GroupsEnd reading writing groups Done
-behind_done reading writing groups i session now all behind same = (
+behind_done reading writing held e groups i session now all behind same = (
   behind.contents,
   behind.text,
-  subst (λ gs. AllPass reading.held [] gs behind.contents) (take_all i groups all) behind.passed,
+  subst (λ gs. AllPass reading.held [] gs behind.contents) (take_all i groups all)
+      (subst (λ h. AllPass h [] (take i groups) behind.contents) e behind.passed),
   behind.told,
   same ∙ behind.wrote,
 )
@@ -145,22 +147,22 @@ behind_more held groups i d session s next c n piece before now later low behind
     }
 
 -- the run ends where a text is not written to its end
-pub behind_fault : (reading : Reading) (writing : Writing) (groups : List Group) (i : ℕ) (d : Group) (session : Option Session)
-    (s next : Session) (c : Contents) (piece : List ℕ) (now : Option (List ℕ)) → i < length groups
-    → (behind : IsBehind reading.held (take i groups) session writing.before now)
+pub behind_fault : (reading : Reading) (writing : Writing) (held : Option Held) → held ≡ reading.held → (groups : List Group)
+    (i : ℕ) (d : Group) (session : Option Session) (s next : Session) (c : Contents) (piece : List ℕ) (now : Option (List ℕ))
+    → i < length groups → (behind : IsBehind held (take i groups) session writing.before now)
     → HasTaken behind.contents s → s.points ≡ c.batch.points
-    → HoldsGroup reading.held (want_of behind.contents) (get_or groups i d) c
+    → HoldsGroup held (want_of behind.contents) (get_or groups i d) c
     → Takes s c next → IsTextOfGroup s c piece → AppendsPrefix now piece writing.now → Rose writing.faults writing.later
     → GroupsEnd reading writing groups WriteFault
-behind_fault reading writing groups i d session s next c piece now low behind has points holds takes is (k, within, wrote) rose = (
-  taken_of reading.held groups i session writing.before now behind,
+behind_fault reading writing held e groups i d session s next c piece now low behind has points holds takes is (k, within, wrote) rose = (
+  taken_of held reading.held e groups i session writing.before now behind,
   behind.text ++ take k piece,
   record {
     group = get_or groups i d;
     rest = drop (i + 1) groups;
     next = drop_more groups i d low;
     contents = c;
-    holds = holds;
+    holds = subst (λ h. HoldsGroup h (want_of behind.contents) (get_or groups i d) c) e holds;
     room = took_room behind.contents c s next has takes;
     piece = piece;
     told = text_more behind.contents c s behind.text piece has points behind.told is;

@@ -214,3 +214,17 @@ lines_within gs i =
 pub same_batches : (cs ds : List Contents) → map (λ (c : Contents). c.batch) cs ≡ map (λ (c : Contents). c.batch) ds
     → all_series cs ≡ all_series ds
 same_batches cs ds e = of_groups cs ∙ ap (flat_map (λ (x : Collection). x.series)) e ∙ sym (of_groups ds)
+
+-- a group whose files do not serve stops the run
+pub refuses_stops : (reading : Reading) (ahead : List Contents) (g : Group) (gs : List Group) (status : LiveStatus)
+    → RefusesGroup reading (want_of ahead) g status → StopsAt reading ahead (g ∷ gs) status
+refuses_stops reading ahead g gs Memory x = tt
+refuses_stops reading ahead g gs Done x = inl x
+refuses_stops reading ahead g gs Usage x = inl x
+refuses_stops reading ahead g gs (Missing l) x = inl x
+refuses_stops reading ahead g gs (ReadFault l) x = inl x
+refuses_stops reading ahead g gs (Format l e) x = inl x
+refuses_stops reading ahead g gs (Mismatch l a b) x = inl x
+refuses_stops reading ahead g gs WriteFault x = inl x
+refuses_stops reading ahead g gs (Script at) x = inl x
+refuses_stops reading ahead g gs (Full b t) x = inl x

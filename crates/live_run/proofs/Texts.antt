@@ -56,7 +56,7 @@ queries_lower : (s : Scene) (i low least : ℕ) (qs : List Query) (text : List �
     → IsQueriesText s i least qs text last → (told : ℕ) × IsQueriesText s i low qs text told
 queries_lower s i low least [] text last le is = (low, (is.0, refl))
 queries_lower s i low least (q ∷ qs) text last le (m, rest, told, grows, is, whole) =
-    (last, m, rest, told, omega (arith, le, grows), is, whole)
+    (last, (m, rest, told, omega (arith, le, grows), is, whole))
 
 scene_fits : (series : List (List ℤ)) (ahead : List Contents) (c : Contents) → (scene series ahead c).before ≤ (scene series ahead c).after
 scene_fits series ahead c = omega arith

@@ -101,10 +101,5 @@ asked_told n i least bs b seen (q ∷ qs) text later low high le (next, rest, pr
     let same : batches_text n i next q ≡ first_text (scene_more n bs b) i m q
     = ap (λ s. query_text i m (answer (record { points = n; series = s }) q.values q.k)) first.1 in (
       more.0,
-      m,
-      rest,
-      first.0,
-      omega (arith, grows, le),
-      more.1,
-      whole ∙ ap (λ t. t ++ rest) same,
+      (m, rest, first.0, omega (arith, grows, le), more.1, whole ∙ ap (λ t. t ++ rest) same),
     )
