@@ -6,6 +6,7 @@ pub mod Taking
 pub mod Texts
 pub mod Askings
 pub mod Stopping
+pub mod Beginning
 pub mod State
 pub mod Held
 pub mod Completing

@@ -16,10 +16,15 @@ use Rattle.series_core.specs.declared.rows.TheConstants.{MAX_COUNT}
 use Rattle.live_collection.specs.Histories.{Log, appended, appended_by, series_of}
 use Rattle.live_collection.specs.PlainLive.{empty_live}
 use Rattle.live_collection.specs.Sides.{IsWriterOf, points_of, reader_saw, writer_made, writer_saw}
-use Rattle.live_collection.specs.Steps.{BatchRefused, BatchStands, CallsAppend, MakesCall, appends}
+use Rattle.live_collection.specs.Steps.{Appends, BatchRefused, BatchStands, CallsAppend, MakesCall, appends}
 use Rattle.live_collection.proofs.Takings.{appended_prefix, writer_appends}
 use Rattle.live_run.specs.Replies.{IsAskedText}
-use Rattle.live_run.specs.Sessions.{batches_of, batches_seen}
+use Rattle.live_run.specs.Sessions.{RefusesBatch, batches_of, batches_seen}
+use Rattle.live_run.specs.Status.{status_of}
+use Rattle.live_run.specs.declared.session.Session.{Session}
+use Rattle.live_collection.specs.declared.live.AppendError.{AppendError}
+use Rattle.live_collection.specs.declared.live.AppendError.TheVariants.{Full, NoMemory}
+use Rattle.std.specs.Prelude.{Err}
 use Rattle.live_run.specs.Texts.{IsQueriesText, Query, Scene}
 use Rattle.live_run.proofs.Told.{asked_told, fewer}
 
@@ -93,4 +98,15 @@ stands_limits k c old mid new m writer stands made =
       subst (λ bs. length bs ≤ MAX_BATCHES) same stands.batches,
       subst (λ bs. length (series_of bs) ≤ MAX_COUNT) same
           (let e = stands.count in let s = stands.series in omega arith),
+    )
+
+-- what an append refuses, its session refuses
+pub refuses_append : (s : Session) (c : Collection) (new : Writer) (e : AppendError) → IsWriterOf s.live s.writer
+    → Appends s.live c s.writer new (Err e) → RefusesBatch s c (status_of e)
+refuses_append s c new NoMemory writer appends = tt
+refuses_append s c new (Full b t) writer appends =
+    let same = refused_same s.live c s.writer new b t writer appends in (
+      appends.batches ∙ ap length same,
+      appends.series ∙ ap (λ bs. length (series_of bs)) same,
+      appends.full,
     )

@@ -1,4 +1,4 @@
-use Rattle.std.proofs.Common.{◌≡◌, ◌+◌, ◌++◌, ap, ◌∙◌, length, append_assoc}
+use Rattle.std.proofs.Common.{◌≡◌, ◌+◌, ◌++◌, ap, ◌∙◌, length, append_assoc, arith}
 use Rattle.live_collection.specs.Histories.{standing}
 use Rattle.live_collection.specs.Sides.{points_of, reader_saw}
 use Rattle.live_run.specs.Replies.{batches_text}
@@ -28,7 +28,7 @@ loop-i-preserved g c =
       told = (
         inv.told.0 ++ piece,
         query_more n c.args.first c.loop-i.i (batches_seen c.args.reader.now) (batches_seen c.loop-i.reader) next file v inv.told.0
-            (omega (c.loop-i-test.true, c.count-i-end.ensures.count)) c.row-query.ensures inv.told.1 pre,
+            (omega (arith, c.loop-i-test.true, c.count-i-end.ensures.count)) c.row-query.ensures inv.told.1 pre,
         c.in_ok-push_query.ensures ∙ ap (λ t. c.loop-i.text.items ++ t) same
             ∙ ap (λ t. t ++ piece) inv.told.2 ∙ append_assoc c.args.text.now.items inv.told.0 piece,
       );

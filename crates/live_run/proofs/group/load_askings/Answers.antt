@@ -1,4 +1,4 @@
-use Rattle.std.proofs.Common.{rules, ◌≡◌, ◌≤◌, refl, arith, get_or, subst, sym, ap, ◌∙◌}
+use Rattle.std.proofs.Common.{rules, ◌≡◌, ◌≤◌, inl, refl, arith, get_or, subst, sym, ap, ◌∙◌}
 use Rattle.std.proofs.lemmas.Result.{err_from_is_err_and}
 use Rattle.live_script.specs.declared.script.Asking.{Asking}
 use Rattle.live_run.specs.Groups.{HoldsAsking}
@@ -26,7 +26,12 @@ returns-in_err-queries-clause-refused g c whole ends =
     (subst (λ (x : Asking). RefusesFitting whole (Some c.args.points) x.queries status) same (c.in_err-queries.ensures.refused whole later)))
 
 pub returns-in_err-put-clause-refused : goal.returns-in_err-put-clause-refused
-returns-in_err-put-clause-refused g c whole ends = ?
+returns-in_err-put-clause-refused g c whole ends =
+    let inv = c.loop-asking.invariant in
+    let part = read_from g.F.Files.held g.F.Files.faults g.F.Files.misses g.F.Files.blamed c.args.files.now c.load_fitting.new.files in
+    let told = err_from_is_err_and c.from_residual-in_err-put.result c.from_residual-in_err-put.ensures.1 in
+    rw (told.1, told.2) (askings_refused whole part c.args.points c.args.askings.now c.loop-asking.asking-index c.asking-item.result
+    c.loop-asking.loaded.items Memory c.loop-asking-test.true ends inv.passed (inl tt))
 
 pub loop-asking-preserved : goal.loop-asking-preserved
 loop-asking-preserved g c =
