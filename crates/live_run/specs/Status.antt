@@ -1,5 +1,5 @@
 -- The number of each status, and the line that tells it.
-use Rattle.std.specs.Prelude.{ℕ, List, [], ◌∷◌, ◌++◌, codes, decimal}
+use Rattle.std.specs.Prelude.{ℕ, List, [], ◌∷◌, ◌++◌, codes}
 use Rattle.live_collection.specs.declared.live.AppendError.{AppendError}
 use Rattle.live_collection.specs.declared.live.AppendError.TheVariants as append
 use Rattle.live_run.specs.declared.status.LiveStatus.{LiveStatus}
@@ -18,10 +18,23 @@ code_of Memory = 9
 code_of (Script at) = 12
 code_of (Full batches series) = 13
 
+-- the same number in decimals
+abbrev pub code_text : LiveStatus → List ℕ
+code_text Done = codes "0"
+code_text Usage = codes "2"
+code_text (Missing line) = codes "3"
+code_text (ReadFault line) = codes "4"
+code_text (Format line e) = codes "5"
+code_text (Mismatch line have want) = codes "6"
+code_text WriteFault = codes "8"
+code_text Memory = codes "9"
+code_text (Script at) = codes "12"
+code_text (Full batches series) = codes "13"
+
 -- the line that tells a status: nothing where the whole text was written
 abbrev pub fault_line : LiveStatus → List ℕ
 fault_line Done = []
-fault_line s = codes "isearch_live: status " ++ decimal (code_of s) ++ 10 ∷ []
+fault_line s = codes "isearch_live: status " ++ code_text s ++ 10 ∷ []
 
 -- the status for a batch that was not appended
 abbrev pub status_of : AppendError → LiveStatus

@@ -53,8 +53,9 @@ take-requires-clause-numbers g c κs within =
     let fits = subst (λ w. FitsLength w c.length-points.result) c.length_of.ensures
     (subst (FitsLength c.length_of.result) (sym c.length-points.ensures.length) had.holds.points) in
     let begun = c.in_ok-current.ensures cs inv.behind.stands fits in
-    let few = asked_few c.args.groups.now at group cs c.in_ok-contents.contents _ c.length_of.result _ c.loop-at-test.true c.requires.few
-    inv.behind.few (subst (λ (x : Group). HoldsGroup _ c.length_of.result x c.in_ok-contents.contents) same had.holds) had.askable in
+    let few = asked_few c.args.groups.now at group cs c.in_ok-contents.contents (g.F.Files.held c.loop-at.files)
+    c.length_of.result c.in_ok-contents.contents.batch.points c.loop-at-test.true c.requires.few
+    inv.behind.few (subst (λ (x : Group). HoldsGroup (g.F.Files.held c.loop-at.files) c.length_of.result x c.in_ok-contents.contents) same had.holds) had.askable in
     let asked = begun.0.asked in
     omega arith
 

@@ -20,7 +20,7 @@ use Rattle.live_run.proofs.session.Session.take.Goals as goal
 
 pub join-writer-requires-send-F : goal.join-writer-requires-send-F
 join-writer-requires-send-F g c κs within =
-    search (writer_sends, collection_shares, flat.the_send, global.the_send, vec.the_send, c.type_bounds, within, crosses, sendable) depth 60 fits 60000
+    search (writer_sends, collection_shares, flat.the_send, c.type_bounds.sync-H, c.type_bounds.sync-G, crosses, sendable) depth 60 fits 20000
 
 pub join-writer-requires-send-A : goal.join-writer-requires-send-A
 join-writer-requires-send-A g c κs within = search (writer_sends, crosses, sendable) depth 60 fits 20000
