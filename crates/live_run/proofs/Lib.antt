@@ -11,3 +11,4 @@ pub mod State
 pub mod Held
 pub mod Completing
 pub mod Running
+pub mod Sends
