@@ -3,7 +3,8 @@ use Rattle.std.specs.Prelude.{IfOk}
 use Rattle.std.specs.List.{flat_map}
 use Rattle.std.proofs.Crossing.{crosses}
 use Rattle.std.proofs.lemmas.Result.{err_from_is_err_and}
-use denote.Param.Send.{sendable}
+use denote.Exit.{no}
+use denote.Param.Send.{IsSync, arg_send, param_send, sendable}
 use Rattle.live_collection.specs.Histories.{appended}
 use Rattle.live_collection.specs.Sides.{points_of}
 use Rattle.live_collection.specs.Steps.{Appends}
@@ -13,13 +14,15 @@ use Rattle.live_run.specs.Sessions.{batches_of, batches_seen, RefusesBatch}
 use Rattle.live_run.specs.Texts.{file_queries}
 use Rattle.live_run.specs.declared.answering.Answers.{Answers}
 use Rattle.std.proofs.alloc.Global.TheSendSync as global
-use Rattle.live_run.proofs.Sends.{flat_sends}
+use Rattle.live_run.proofs.Sends.{side_sends}
 use Rattle.live_run.proofs.Taking.{all_seen, group_told, refuses_append, stands_limits, stands_more}
 use Rattle.live_run.proofs.session.Session.take.Goals as goal
 
 pub join-writer-requires-send-F : goal.join-writer-requires-send-F
 join-writer-requires-send-F g c κs within =
-    search (writer_sends, collection_shares, flat_sends, global.the_send, c.type_bounds.sync-H.shared, c.type_bounds.sync-G.shared, crosses, sendable) depth 60 fits 20000
+    let runs : IsSync g.row.H = record { shared = c.type_bounds.sync-H.shared } in
+    let gates : IsSync g.row.G = record { shared = c.type_bounds.sync-G.shared } in
+    param_send 1 _ (arg_send _ no _ (side_sends _ g.row.H g.row.G runs gates _ _ _ _ _))
 
 pub join-writer-requires-send-A : goal.join-writer-requires-send-A
 join-writer-requires-send-A g c κs within = search (writer_sends, crosses, sendable) depth 60 fits 20000
