@@ -1,0 +1,14 @@
+pub mod Lines
+pub mod Loading
+pub mod Asked
+pub mod Told
+pub mod Taking
+pub mod Texts
+pub mod Askings
+pub mod Stopping
+pub mod Beginning
+pub mod State
+pub mod Held
+pub mod Completing
+pub mod Running
+pub mod Sends

@@ -1,0 +1,176 @@
+-- What is known of a run behind some groups: what their files held, the session that took them, and the text of them, which
+-- was written.
+use Rattle.std.proofs.Common.{◌≡◌, ℕ, suc, ◌+◌, ◌*◌, ◌<◌, ◌≤◌, ◌^◌, List, [], ◌∷◌, ◌++◌, All, length, map, take, drop, get_or, Option, None, Some, refl, sym, ap, ◌∙◌, subst, append_assoc, append-nil, length-append, inl, inr, arith}
+use Rattle.std.specs.List.{AllZip, flat_map}
+use Rattle.std.specs.Io.KnownBytes.{append_known}
+use Rattle.std.proofs.lemmas.List.{drop_more, length-map, take-append-drop, take_more, take_all}
+use Rattle.outside.specs.Count.{Rose, Rose-wider}
+use Rattle.outside.specs.Files.{Held}
+use Rattle.outside.specs.Sink.{AppendsPrefix}
+use Rattle.live_script.specs.Grammar.{asking_line, group_lines, script_lines}
+use Rattle.live_script.specs.declared.script.Group.{Group}
+use Rattle.live_run.specs.Ends.{GroupsEnd, StopsWriting, Taken}
+use Rattle.live_run.specs.Groups.{AllPass, HoldsAsking, HoldsGroup, StopsAt, want_of}
+use Rattle.live_run.specs.Loads.{FitsLength, most_bytes}
+use Rattle.live_run.specs.Replies.{CanAsk}
+use Rattle.live_run.specs.Sessions.{HasTaken, IsTextOfGroup, Stands, Takes}
+use Rattle.live_run.specs.Texts.{IsScriptText, all_queries, queries_of}
+use Rattle.live_run.specs.Traffic.{Appended, Reading, Writing}
+use Rattle.live_run.specs.declared.group.Contents.{Contents}
+use Rattle.live_run.specs.declared.session.Session.{Session}
+use Rattle.live_run.specs.declared.status.LiveStatus.{LiveStatus}
+use Rattle.live_run.specs.declared.status.LiveStatus.TheVariants.{WriteFault, Done}
+use Rattle.live_run.proofs.Askings.{queries_few, zip_length}
+use Rattle.live_run.proofs.Stopping.{lines_more, lines_within, pass_more, stands_more, stops_end, text_more, took_room}
+use Rattle.live_run.proofs.Texts.{queries_more, script_none}
+
+pub record IsBehind (held : Option Held) (done : List Group) (session : Option Session) (before now : Option (List ℕ)) : Type 0 where
+  pub contents : List Contents
+  pub passed : AllPass held [] done contents
+  pub stands : Stands contents session
+  pub text : List ℕ
+  pub told : IsScriptText contents text
+  pub wrote : now ≡ append_known before text
+  pub few : length (all_queries contents) ≤ 16777216 * length (script_lines done)
+
+-- nothing appended changes nothing
+append_known-nil : (known : Option (List ℕ)) → known ≡ append_known known []
+append_known-nil None = refl
+append_known-nil (Some bytes) = ap (λ zs. Some zs) (sym (append-nil bytes))
+
+-- appending twice appends both
+append_known-append : (known : Option (List ℕ)) (xs ys : List ℕ)
+    → append_known (append_known known xs) ys ≡ append_known known (xs ++ ys)
+append_known-append None xs ys = refl
+append_known-append (Some bytes) xs ys = ap (λ zs. Some zs) (append_assoc bytes xs ys)
+
+-- at first there are no groups
+pub behind_none : (held : Option Held) (before : Option (List ℕ)) → IsBehind held [] None before before
+behind_none held before = record {
+  contents = [];
+  passed = tt;
+  stands = tt;
+  text = [];
+  told = script_none;
+  wrote = append_known-nil before;
+  few = omega arith;
+}
+
+-- the groups taken, where others are left
+abbrev pub taken_of : (held whole : Option Held) → held ≡ whole → (groups : List Group) (i : ℕ) (session : Option Session)
+    (before now : Option (List ℕ)) → IsBehind held (take i groups) session before now → Taken whole groups
+taken_of held whole same groups i session before now behind = record {
+  done = take i groups;
+  rest = drop i groups;
+  all = sym (take-append-drop i groups);
+  contents = behind.contents;
+  passed = subst (λ h. AllPass h [] (take i groups) behind.contents) same behind.passed;
+  text = behind.text;
+  told = behind.told;
+}
+
+-- the run ends where the next group is not taken
+pub behind_stops : (reading : Reading) (writing : Writing) (held : Option Held) → held ≡ reading.held → (groups : List Group)
+    (i : ℕ) (d : Group) (session : Option Session) (now : Option (List ℕ)) (status : LiveStatus) → i < length groups
+    → (behind : IsBehind held (take i groups) session writing.before now)
+    → ((rest : List Group) → StopsAt reading behind.contents (get_or groups i d ∷ rest) status)
+    → writing.now ≡ now → GroupsEnd reading writing groups status
+behind_stops reading writing held e groups i d session now status low behind stops same =
+    stops_end reading writing groups status (taken_of held reading.held e groups i session writing.before now behind)
+    (subst (λ gs. StopsAt reading behind.contents gs status) (sym (drop_more groups i d low)) (stops (drop (i + 1) groups)))
+    (same ∙ behind.wrote)
+
+-- the whole script was taken
+pub behind_done : (reading : Reading) (writing : Writing) (held : Option Held) → held ≡ reading.held → (groups : List Group)
+    (i : ℕ) (session : Option Session) (now : Option (List ℕ)) → length groups ≤ i
+    → IsBehind held (take i groups) session writing.before now
+    → writing.now ≡ now → GroupsEnd reading writing groups Done
+behind_done reading writing held e groups i session now all behind same = (
+  behind.contents,
+  behind.text,
+  subst (λ gs. AllPass reading.held [] gs behind.contents) (take_all i groups all)
+      (subst (λ h. AllPass h [] (take i groups) behind.contents) e behind.passed),
+  behind.told,
+  same ∙ behind.wrote,
+)
+
+-- the lines of a group are one more than its askings
+group_size : (g : Group) → length (group_lines g) ≡ 1 + length g.askings
+group_size g = let l = length-map g.askings asking_line in omega arith
+
+-- a group has no more queries than this for each of its lines
+contents_few : (held : Option Held) (want : Option ℕ) (g : Group) (c : Contents) (n : ℕ) → HoldsGroup held want g c
+    → All (CanAsk n) c.askings.items → length (queries_of c) ≤ 16777216 * length (group_lines g)
+contents_few held want g c n holds askable =
+    let f = queries_few n c.askings.items askable in
+    let z = zip_length (HoldsAsking held c.batch.points) g.askings c.askings.items holds.askings in
+    let s = group_size g in
+    omega arith
+
+-- how many queries have been asked behind a group, and that they are few
+pub asked_few : (groups : List Group) (i : ℕ) (d : Group) (cs : List Contents) (c : Contents) (held : Option Held) (want : Option ℕ)
+    (n : ℕ) → i < length groups → length (script_lines groups) ≤ most_bytes
+    → length (all_queries cs) ≤ 16777216 * length (script_lines (take i groups))
+    → HoldsGroup held want (get_or groups i d) c → All (CanAsk n) c.askings.items
+    → length (all_queries cs) + length (queries_of c) < 2 ^ 64
+asked_few groups i d cs c held want n low most few holds askable =
+    let f = contents_few held want (get_or groups i d) c n holds askable in
+    let m = lines_more groups i d low in
+    let w = lines_within groups (i + 1) in
+    omega arith
+
+-- one group more
+pub behind_more : (held : Option Held) (groups : List Group) (i : ℕ) (d : Group) (session : Option Session) (s next : Session)
+    (c : Contents) (n : ℕ) (piece : List ℕ) (before now later : Option (List ℕ)) → i < length groups
+    → (behind : IsBehind held (take i groups) session before now)
+    → HasTaken behind.contents s → s.points ≡ c.batch.points
+    → HoldsGroup held (want_of behind.contents) (get_or groups i d) c → All (CanAsk n) c.askings.items
+    → Takes s c next → IsTextOfGroup s c piece → later ≡ append_known now piece
+    → IsBehind held (take (i + 1) groups) (Some next) before later
+behind_more held groups i d session s next c n piece before now later low behind has points holds askable takes is wrote =
+    let cs = behind.contents in
+    let gs = take_more groups i d low in
+    let room = took_room cs c s next has takes in
+    let q = ap length (queries_more cs c) in
+    let l = length-append (all_queries cs) (queries_of c) in
+    let f = contents_few held (want_of cs) (get_or groups i d) c n holds askable in
+    let m = lines_more groups i d low in
+    let b = behind.few in record {
+      contents = cs ++ c ∷ [];
+      passed = subst (λ l. AllPass held [] l (cs ++ c ∷ [])) (sym gs)
+          (pass_more held [] (take i groups) cs (get_or groups i d) c behind.passed (record { holds = holds; room = room }));
+      stands = stands_more cs c s next has points holds.points takes;
+      text = behind.text ++ piece;
+      told = text_more cs c s behind.text piece has points behind.told is;
+      wrote = wrote ∙ ap (λ known. append_known known piece) behind.wrote ∙ append_known-append before behind.text piece;
+      few = omega arith;
+    }
+
+-- the run ends where a text is not written to its end
+pub behind_fault : (reading : Reading) (writing : Writing) (held : Option Held) → held ≡ reading.held → (groups : List Group)
+    (i : ℕ) (d : Group) (session : Option Session) (s next : Session) (c : Contents) (piece : List ℕ) (now : Option (List ℕ))
+    → i < length groups → (behind : IsBehind held (take i groups) session writing.before now)
+    → HasTaken behind.contents s → s.points ≡ c.batch.points
+    → HoldsGroup held (want_of behind.contents) (get_or groups i d) c
+    → Takes s c next → IsTextOfGroup s c piece → AppendsPrefix now piece writing.now → Rose writing.faults writing.later
+    → GroupsEnd reading writing groups WriteFault
+behind_fault reading writing held e groups i d session s next c piece now low behind has points holds takes is (k, within, wrote) rose = (
+  taken_of held reading.held e groups i session writing.before now behind,
+  behind.text ++ take k piece,
+  record {
+    group = get_or groups i d;
+    rest = drop (i + 1) groups;
+    next = drop_more groups i d low;
+    contents = c;
+    holds = subst (λ h. HoldsGroup h (want_of behind.contents) (get_or groups i d) c) e holds;
+    room = took_room behind.contents c s next has takes;
+    piece = piece;
+    told = text_more behind.contents c s behind.text piece has points behind.told is;
+    count = k;
+    within = within;
+    wrote = refl;
+  },
+  wrote ∙ ap (λ known. append_known known (take k piece)) behind.wrote
+      ∙ append_known-append writing.before behind.text (take k piece),
+  rose,
+)
