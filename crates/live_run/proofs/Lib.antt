@@ -1,0 +1,10 @@
+pub mod Lines
+pub mod Loading
+pub mod Asked
+pub mod Told
+pub mod Taking
+pub mod Texts
+pub mod Askings
+pub mod Stopping
+pub mod Held
+pub mod Completing

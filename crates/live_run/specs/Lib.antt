@@ -1,0 +1,14 @@
+-- How a run of a script ends, what it writes, and what it tells.
+pub mod Status
+pub mod Traffic
+pub mod Texts
+pub mod Loads
+pub mod Groups
+pub mod Replies
+pub mod Sessions
+pub mod Ends
+pub use Rattle.series_core.specs.Collection
+pub use Rattle.series_core.specs.Answer
+pub use Rattle.series_file.specs.Format
+pub use Rattle.series_file.specs.Faults
+pub use Rattle.live_script.specs.Grammar

@@ -1,0 +1,62 @@
+-- What a run was handed to read from and to write to, and what reading and writing did.
+use Rattle.std.specs.Prelude.{◌≡◌, ℕ, ◌≤◌, ◌⊎◌, List, Option}
+use Rattle.std.specs.Io.KnownBytes.{append_known}
+use Rattle.outside.specs.Count.{Rose}
+use Rattle.outside.specs.Files.{Held}
+use Rattle.outside.specs.Sink.{AppendsPrefix}
+
+-- What was handed in to read from, and what reading did: the files, the counts of faults and of absent names
+-- before and after, and the name of the file that failed. Files and name are there where they are told.
+pub record Reading : Type 0 where
+  pub held : Option Held
+  pub faults : ℕ
+  pub later : ℕ
+  pub misses : ℕ
+  pub more : ℕ
+  pub blamed : Option (List ℕ)
+
+-- What was handed in to write to, and what writing did: the bytes before and after, where told, and the count of
+-- faults before and after.
+pub record Writing : Type 0 where
+  pub before : Option (List ℕ)
+  pub now : Option (List ℕ)
+  pub faults : ℕ
+  pub later : ℕ
+
+-- what reading did between two states of the files
+abbrev pub read_from : {F : Type 0} → (F → Option Held) → (F → ℕ) → (F → ℕ) → (F → Option (List ℕ)) → F → F → Reading
+read_from held faults misses blamed old new = record {
+  held = held old;
+  faults = faults old;
+  later = faults new;
+  misses = misses old;
+  more = misses new;
+  blamed = blamed new;
+}
+
+-- what writing did between two states of a sink
+abbrev pub wrote_to : {S : Type 0} → (S → Option (List ℕ)) → (S → ℕ) → S → S → Writing
+wrote_to written faults old new = record {
+  before = written old;
+  now = written new;
+  faults = faults old;
+  later = faults new;
+}
+
+-- a part of a reading that goes on to its end
+pub record EndsReading (whole part : Reading) : Type 0 where
+  pub held : part.held ≡ whole.held
+  pub faults : whole.faults ≤ part.faults
+  pub misses : whole.misses ≤ part.misses
+  pub later : part.later ≡ whole.later
+  pub more : part.more ≡ whole.more
+  pub blamed : part.blamed ≡ whole.blamed
+
+-- this was appended, and nothing else
+abbrev pub Appended : Writing → List ℕ → Type 0
+Appended writing text = writing.now ≡ append_known writing.before text
+
+-- the text was appended, or a prefix of it and the count of faults rose
+abbrev pub Tells : List ℕ → Option (List ℕ) → Option (List ℕ) → ℕ → ℕ → Type 0
+Tells text before now faults later =
+    (now ≡ append_known before text) ⊎ (AppendsPrefix before text now × Rose faults later)

@@ -1,0 +1,221 @@
+//! A live collection with its one writer and its one reader: each group is appended and asked side by side, and then the writer
+//! and the reader tell each other what they have seen.
+
+ghost use Rattle.std.specs.Prelude.{◌≡◌, ◌+◌, ◌<◌, ◌≤◌, ◌^◌, All, IfOk, IfErr, List, length};
+ghost use Rattle.std.specs.List.{flat_map};
+ghost use Rattle.std.specs.Thread.{IsSync};
+ghost use Rattle.live_collection.specs.Sides.{IsReaderOf, IsWriterOf, points_of};
+ghost use Rattle.live_collection.specs.Steps.{Appends};
+ghost use Rattle.live_run.specs.Loads.{FitsLength};
+ghost use Rattle.live_run.specs.Replies.{CanAsk, IsAskedText};
+ghost use Rattle.live_run.specs.Sessions.{HasTaken, IsNew, IsSession, IsTextOfGroup, RefusesBatch, Stands, Takes};
+ghost use Rattle.live_run.specs.Sessions.{batches_seen, length_of};
+ghost use Rattle.live_run.specs.Texts.{file_queries, queries_of};
+
+use crate::answering::{Answers, answer_all};
+use crate::group::{Contents, QueryFile};
+use crate::status::LiveStatus;
+use breakpoints::Table;
+use isax_word::Layout;
+use live_collection::{AppendError, LiveCollection, Reader, Writer};
+use outside::{Gate, NoMemory};
+use segment_sums::Cuts;
+use series_core::Flat;
+use std::alloc::Global;
+use std::sync::Wait;
+use std::thread::{Threads, join};
+use subtree_build::Settings;
+
+/// The most segments of a series, where it has as many values.
+const MOST_SEGMENTS: u32 = 16;
+
+/// How many series a leaf holds before it is split.
+const LEAF_SIZE: u32 = 1000;
+
+/// A live collection, between two groups of a script.
+#[derive(Drop)]
+pub struct Session {
+    live: LiveCollection,
+    writer: Writer,
+    reader: Reader,
+    // The room that the end of the collection needs for its reader.
+    room: Vec<Reader>,
+    // The length of each series.
+    points: u32,
+    // How many queries were asked.
+    asked: u64,
+}
+
+impl Session {
+    /// A session over a new collection of series of so many values.
+    fn begin(alloc: Global, points: u32) -> Result<Session, NoMemory>
+        requires { (1 ≤ points) × (points ≤ 65536) }
+        ensures { IfOk result (IsNew points) }
+    {
+        let (live, writer, mut room) = LiveCollection::begin(alloc, settings_of(points), 1)?;
+        let Some(reader) = room.pop() else {
+            unreachable!()
+        };
+        Ok(Session {
+            live,
+            writer,
+            reader,
+            room,
+            points,
+            asked: 0,
+        })
+    }
+
+    /// Appends the batch of a group while its queries are asked, and gives the text of their answers. Both run side by side
+    /// where a thread is to be had, and else one after the other. It may wait for the collection's lock.
+    pub fn take<H: Threads + Wait + Sync, G: Gate + Sync>(
+        self,
+        rt: &H,
+        alloc: Global,
+        contents: Contents,
+        gate: &G,
+        turn: u64,
+    ) -> Result<(Session, Vec<u8>), LiveStatus>
+        requires session { IsSession self }
+        requires points { contents.batch.points ≡ self.points }
+        requires askings { All (CanAsk self.points) contents.askings.items }
+        requires numbers { self.asked + length (queries_of contents) < 2 ^ 64 }
+        ensures takes { IfOk result (λ r. Takes self contents r.0) }
+        ensures text { IfOk result (λ r. IsTextOfGroup self contents r.1.items) }
+        ensures refused { IfErr result (RefusesBatch self contents.batch) }
+    {
+        let Session {
+            live,
+            writer,
+            reader,
+            room,
+            points,
+            asked,
+        } = self;
+        let Contents { batch, askings } = contents;
+        let ((mut writer, appended), (mut reader, answers)) = join(
+            rt,
+            || -> (Writer, Result<u32, AppendError>)
+                requires { IsSync H.row × IsSync G.row × IsWriterOf live writer × (batch.points ≡ points_of live) }
+                ensures { IsWriterOf live result.0 × Appends live batch writer result.0 result.1 }
+            { append_side(rt, alloc, &live, writer, batch, gate, turn) },
+            || -> (Reader, Result<Answers, NoMemory>)
+                requires { IsSync H.row × IsSync G.row × IsReaderOf live reader
+                    × All (CanAsk (points_of live)) askings.items
+                    × (asked + length (flat_map file_queries askings.items) < 2 ^ 64) }
+                ensures { IsReaderOf live result.0 × (result.0.pass.number ≡ reader.pass.number)
+                    × IfOk result.1 (λ answers. IsAskedText (points_of live) asked (batches_seen reader)
+                    (flat_map file_queries askings.items) answers.text.items (batches_seen result.0)
+                    × (answers.next ≡ asked + length (flat_map file_queries askings.items))) }
+            { answer_side(rt, alloc, &live, reader, &askings, asked, gate, turn) },
+        );
+        appended?;
+        let Answers { text, next } = answers?;
+        live.tell(&mut writer, &mut reader);
+        let session = Session {
+            live,
+            writer,
+            reader,
+            room,
+            points,
+            asked: next,
+        };
+        Ok((session, text))
+    }
+
+    /// Ends the session and its collection.
+    pub fn close(self)
+        requires { IsSession self }
+    {
+        let Session {
+            live,
+            writer,
+            reader,
+            room: mut readers,
+            ..
+        } = self;
+        readers.push_reserved(reader);
+        live.close(writer, readers);
+    }
+}
+
+/// The length of the series of a session, where one has begun.
+pub fn length_of(session: &Option<Session>) -> Option<u32>
+    ensures { result ≡ length_of session.now }
+{
+    match session {
+        Some(session) => Some(session.points),
+        None => None,
+    }
+}
+
+/// The session that has begun, or a new one over series of so many values.
+pub fn begun(alloc: Global, session: Option<Session>, points: u32) -> Result<Session, NoMemory>
+    requires limits { (1 ≤ points) × (points ≤ 65536) }
+    ensures { (cs : List _) → Stands cs session → FitsLength (length_of session) points
+        → IfOk result (λ s. HasTaken cs s × (s.points ≡ points)) }
+{
+    match session {
+        Some(session) => Ok(session),
+        None => Session::begin(alloc, points),
+    }
+}
+
+// The settings of a collection of series of so many values.
+fn settings_of(points: u32) -> Settings
+    requires { (1 ≤ points) × (points ≤ 65536) }
+    ensures points { result.layout.cuts.row_length ≡ points }
+    ensures leaf_size { (1 ≤ result.leaf_size) × (result.leaf_size ≤ 65535) }
+{
+    Settings {
+        layout: Layout {
+            cuts: Cuts::new(points, points.min(MOST_SEGMENTS)),
+            table: Table::Flat,
+        },
+        leaf_size: LEAF_SIZE,
+    }
+}
+
+// The writer's side of a group.
+fn append_side<H: Threads + Wait + Sync, G: Gate>(
+    rt: &H,
+    alloc: Global,
+    live: &LiveCollection,
+    mut writer: Writer,
+    batch: Flat,
+    gate: &G,
+    turn: u64,
+) -> (Writer, Result<u32, AppendError>)
+    requires writer { IsWriterOf live.now writer }
+    requires points { batch.points ≡ points_of live.now }
+    ensures writer { IsWriterOf live.now result.0 }
+    ensures appends { Appends live.now batch writer result.0 result.1 }
+{
+    gate.pass(0, turn);
+    let appended = live.append(rt, alloc, &mut writer, batch);
+    (writer, appended)
+}
+
+// The reader's side of a group.
+fn answer_side<H: Wait, G: Gate>(
+    rt: &H,
+    alloc: Global,
+    live: &LiveCollection,
+    mut reader: Reader,
+    askings: &[QueryFile],
+    first: u64,
+    gate: &G,
+    turn: u64,
+) -> (Reader, Result<Answers, NoMemory>)
+    requires reader { IsReaderOf live.now reader }
+    requires askings { All (CanAsk (points_of live.now)) askings.now }
+    requires numbers { first + length (flat_map file_queries askings.now) < 2 ^ 64 }
+    ensures reader { IsReaderOf live.now result.0 × (result.0.pass.number ≡ reader.pass.number) }
+    ensures text { IfOk result.1 (λ answers. IsAskedText (points_of live.now) first (batches_seen reader)
+        (flat_map file_queries askings.now) answers.text.items (batches_seen result.0)) }
+    ensures next { IfOk result.1 (λ answers. answers.next ≡ first + length (flat_map file_queries askings.now)) }
+{
+    gate.pass(1, turn);
+    let answers = answer_all(rt, alloc, live, &mut reader, askings, first);
+    (reader, answers)
+}
