@@ -1,0 +1,2 @@
+-- The status where the words cannot be had.
+pub mod Refusals
