@@ -1,4 +1,4 @@
--- What is known of a run behind some groups: what their files held, the session that took them, and the text of them, which
+-- What is known of a run behind some groups: what their files held, the dialogue that took them, and the text of them, which
 -- was written.
 use Rattle.std.proofs.Common.{◌≡◌, ℕ, suc, ◌+◌, ◌*◌, ◌<◌, ◌≤◌, ◌^◌, List, [], ◌∷◌, ◌++◌, All, length, map, take, drop, get_or, Option, None, Some, refl, sym, ap, ◌∙◌, subst, append_assoc, append-nil, length-append, inl, inr, arith}
 use Rattle.std.specs.List.{AllZip, flat_map}
@@ -13,21 +13,21 @@ use Rattle.live_run.specs.Ends.{GroupsEnd, StopsWriting, Taken}
 use Rattle.live_run.specs.Groups.{AllPass, HoldsAsking, HoldsGroup, StopsAt, want_of}
 use Rattle.live_run.specs.Loads.{FitsLength, most_bytes}
 use Rattle.live_run.specs.Replies.{CanAsk}
-use Rattle.live_run.specs.Sessions.{HasTaken, IsTextOfGroup, Stands, Takes}
+use Rattle.live_run.specs.Dialogues.{HasTaken, IsTextOfGroup, Stands, Takes}
 use Rattle.live_run.specs.Texts.{IsScriptText, all_queries, queries_of}
 use Rattle.live_run.specs.Traffic.{Appended, Reading, Writing}
 use Rattle.live_run.specs.declared.group.Contents.{Contents}
-use Rattle.live_run.specs.declared.session.Session.{Session}
+use Rattle.live_run.specs.declared.dialogue.Dialogue.{Dialogue}
 use Rattle.live_run.specs.declared.status.LiveStatus.{LiveStatus}
 use Rattle.live_run.specs.declared.status.LiveStatus.TheVariants.{WriteFault, Done}
 use Rattle.live_run.proofs.Askings.{queries_few, zip_length}
 use Rattle.live_run.proofs.Stopping.{lines_more, lines_within, pass_more, stands_more, stops_end, text_more, took_room}
 use Rattle.live_run.proofs.Texts.{queries_more, script_none}
 
-pub record IsBehind (held : Option Held) (done : List Group) (session : Option Session) (before now : Option (List ℕ)) : Type 0 where
+pub record IsBehind (held : Option Held) (done : List Group) (dialogue : Option Dialogue) (before now : Option (List ℕ)) : Type 0 where
   pub contents : List Contents
   pub passed : AllPass held [] done contents
-  pub stands : Stands contents session
+  pub stands : Stands contents dialogue
   pub text : List ℕ
   pub told : IsScriptText contents text
   pub wrote : now ≡ append_known before text
@@ -57,9 +57,9 @@ behind_none held before = record {
 }
 
 -- the groups taken, where others are left
-abbrev pub taken_of : (held whole : Option Held) → held ≡ whole → (groups : List Group) (i : ℕ) (session : Option Session)
-    (before now : Option (List ℕ)) → IsBehind held (take i groups) session before now → Taken whole groups
-taken_of held whole same groups i session before now behind = record {
+abbrev pub taken_of : (held whole : Option Held) → held ≡ whole → (groups : List Group) (i : ℕ) (dialogue : Option Dialogue)
+    (before now : Option (List ℕ)) → IsBehind held (take i groups) dialogue before now → Taken whole groups
+taken_of held whole same groups i dialogue before now behind = record {
   done = take i groups;
   rest = drop i groups;
   all = sym (take-append-drop i groups);
@@ -71,21 +71,21 @@ taken_of held whole same groups i session before now behind = record {
 
 -- the run ends where the next group is not taken
 pub behind_stops : (reading : Reading) (writing : Writing) (held : Option Held) → held ≡ reading.held → (groups : List Group)
-    (i : ℕ) (d : Group) (session : Option Session) (now : Option (List ℕ)) (status : LiveStatus) → i < length groups
-    → (behind : IsBehind held (take i groups) session writing.before now)
+    (i : ℕ) (d : Group) (dialogue : Option Dialogue) (now : Option (List ℕ)) (status : LiveStatus) → i < length groups
+    → (behind : IsBehind held (take i groups) dialogue writing.before now)
     → ((rest : List Group) → StopsAt reading behind.contents (get_or groups i d ∷ rest) status)
     → writing.now ≡ now → GroupsEnd reading writing groups status
-behind_stops reading writing held e groups i d session now status low behind stops same =
-    stops_end reading writing groups status (taken_of held reading.held e groups i session writing.before now behind)
+behind_stops reading writing held e groups i d dialogue now status low behind stops same =
+    stops_end reading writing groups status (taken_of held reading.held e groups i dialogue writing.before now behind)
     (subst (λ gs. StopsAt reading behind.contents gs status) (sym (drop_more groups i d low)) (stops (drop (i + 1) groups)))
     (same ∙ behind.wrote)
 
 -- the whole script was taken
 pub behind_done : (reading : Reading) (writing : Writing) (held : Option Held) → held ≡ reading.held → (groups : List Group)
-    (i : ℕ) (session : Option Session) (now : Option (List ℕ)) → length groups ≤ i
-    → IsBehind held (take i groups) session writing.before now
+    (i : ℕ) (dialogue : Option Dialogue) (now : Option (List ℕ)) → length groups ≤ i
+    → IsBehind held (take i groups) dialogue writing.before now
     → writing.now ≡ now → GroupsEnd reading writing groups Done
-behind_done reading writing held e groups i session now all behind same = (
+behind_done reading writing held e groups i dialogue now all behind same = (
   behind.contents,
   behind.text,
   subst (λ gs. AllPass reading.held [] gs behind.contents) (take_all i groups all)
@@ -120,14 +120,14 @@ asked_few groups i d cs c held want n low most few holds askable =
     omega arith
 
 -- one group more
-pub behind_more : (held : Option Held) (groups : List Group) (i : ℕ) (d : Group) (session : Option Session) (s next : Session)
+pub behind_more : (held : Option Held) (groups : List Group) (i : ℕ) (d : Group) (dialogue : Option Dialogue) (s next : Dialogue)
     (c : Contents) (n : ℕ) (piece : List ℕ) (before now later : Option (List ℕ)) → i < length groups
-    → (behind : IsBehind held (take i groups) session before now)
+    → (behind : IsBehind held (take i groups) dialogue before now)
     → HasTaken behind.contents s → s.points ≡ c.batch.points
     → HoldsGroup held (want_of behind.contents) (get_or groups i d) c → All (CanAsk n) c.askings.items
     → Takes s c next → IsTextOfGroup s c piece → later ≡ append_known now piece
     → IsBehind held (take (i + 1) groups) (Some next) before later
-behind_more held groups i d session s next c n piece before now later low behind has points holds askable takes is wrote =
+behind_more held groups i d dialogue s next c n piece before now later low behind has points holds askable takes is wrote =
     let cs = behind.contents in
     let gs = take_more groups i d low in
     let room = took_room cs c s next has takes in
@@ -148,14 +148,14 @@ behind_more held groups i d session s next c n piece before now later low behind
 
 -- the run ends where a text is not written to its end
 pub behind_fault : (reading : Reading) (writing : Writing) (held : Option Held) → held ≡ reading.held → (groups : List Group)
-    (i : ℕ) (d : Group) (session : Option Session) (s next : Session) (c : Contents) (piece : List ℕ) (now : Option (List ℕ))
-    → i < length groups → (behind : IsBehind held (take i groups) session writing.before now)
+    (i : ℕ) (d : Group) (dialogue : Option Dialogue) (s next : Dialogue) (c : Contents) (piece : List ℕ) (now : Option (List ℕ))
+    → i < length groups → (behind : IsBehind held (take i groups) dialogue writing.before now)
     → HasTaken behind.contents s → s.points ≡ c.batch.points
     → HoldsGroup held (want_of behind.contents) (get_or groups i d) c
     → Takes s c next → IsTextOfGroup s c piece → AppendsPrefix now piece writing.now → Rose writing.faults writing.later
     → GroupsEnd reading writing groups WriteFault
-behind_fault reading writing held e groups i d session s next c piece now low behind has points holds takes is (k, within, wrote) rose = (
-  taken_of held reading.held e groups i session writing.before now behind,
+behind_fault reading writing held e groups i d dialogue s next c piece now low behind has points holds takes is (k, within, wrote) rose = (
+  taken_of held reading.held e groups i dialogue writing.before now behind,
   behind.text ++ take k piece,
   record {
     group = get_or groups i d;

@@ -16,11 +16,11 @@ use Rattle.live_script.specs.declared.script.NamedFile.{NamedFile}
 use Rattle.live_run.specs.Ends.{GroupsEnd, StopsWriting, Taken}
 use Rattle.live_run.specs.Groups.{AllPass, HasRoom, HoldsGroup, IsFull, Passes, RefusesGroup, StopsAt, want_of}
 use Rattle.live_run.specs.Loads.{Differs, FitsLength, RefusesFitting}
-use Rattle.live_run.specs.Sessions.{AreBatchesOf, HasTaken, IsNew, IsSession, IsTextOfGroup, RefusesBatch, Stands, Takes, batches_of, length_of, scene_of}
+use Rattle.live_run.specs.Dialogues.{AreBatchesOf, HasTaken, IsNew, IsDialogue, IsTextOfGroup, RefusesBatch, Stands, Takes, batches_of, length_of, scene_of}
 use Rattle.live_run.specs.Texts.{IsQueriesText, IsScriptText, Scene, all_queries, all_series, queries_of, scene}
 use Rattle.live_run.specs.Traffic.{Appended, Reading, Writing}
 use Rattle.live_run.specs.declared.group.Contents.{Contents}
-use Rattle.live_run.specs.declared.session.Session.{Session}
+use Rattle.live_run.specs.declared.dialogue.Dialogue.{Dialogue}
 use Rattle.live_run.specs.declared.status.LiveStatus.{LiveStatus}
 use Rattle.live_run.specs.declared.status.LiveStatus.TheVariants.{Done, Usage, Missing, ReadFault, Format, Mismatch, WriteFault, Memory, Script, Full}
 use Rattle.live_run.proofs.Texts.{queries_more, script_more}
@@ -62,39 +62,39 @@ batches_more cs bs c b are same =
     ∙ ap (λ (x : Collection). map (λ (d : Contents). d.batch) cs ++ x ∷ []) same
     ∙ sym (map-append (λ (d : Contents). d.batch) cs (c ∷ []))
 
--- the length that a session has is the one that is wanted
-pub wanted : (cs : List Contents) (session : Option Session) → Stands cs session → length_of session ≡ want_of cs
+-- the length that a dialogue has is the one that is wanted
+pub wanted : (cs : List Contents) (dialogue : Option Dialogue) → Stands cs dialogue → length_of dialogue ≡ want_of cs
 wanted [] None stands = refl
 wanted [] (Some s) stands = absurd stands
 wanted (c ∷ cs) None stands = absurd stands
 wanted (c ∷ cs) (Some s) stands = ap (λ n. Some n) stands.1
 
--- the first groups of a new session are none
-pub new_taken : (n : ℕ) (s : Session) → IsNew n s → HasTaken [] s
+-- the first groups of a new dialogue are none
+pub new_taken : (n : ℕ) (s : Dialogue) → IsNew n s → HasTaken [] s
 new_taken n s new = record {
-  session = new.session;
+  dialogue = new.dialogue;
   batches = ap (map (λ (b : Batch). b.series)) new.batches;
   asked = new.asked;
 }
 
--- the session that took one group more
-pub taken_more : (cs : List Contents) (c : Contents) (s next : Session) → HasTaken cs s → Takes s c next → HasTaken (cs ++ c ∷ []) next
+-- the dialogue that took one group more
+pub taken_more : (cs : List Contents) (c : Contents) (s next : Dialogue) → HasTaken cs s → Takes s c next → HasTaken (cs ++ c ∷ []) next
 taken_more cs c s next has takes = record {
-  session = takes.session;
+  dialogue = takes.dialogue;
   batches = subst (AreBatchesOf (cs ++ c ∷ [])) (sym takes.batches)
       (batches_more cs (batches_of s.writer) c takes.batch has.batches takes.series);
   asked = takes.asked ∙ ap (λ n. n + length (queries_of c)) has.asked
       ∙ sym (ap length (queries_more cs c) ∙ length-append (all_queries cs) (queries_of c));
 }
 
-pub stands_more : (cs : List Contents) (c : Contents) (s next : Session) → HasTaken cs s → s.points ≡ c.batch.points
+pub stands_more : (cs : List Contents) (c : Contents) (s next : Dialogue) → HasTaken cs s → s.points ≡ c.batch.points
     → FitsLength (want_of cs) c.batch.points → Takes s c next → Stands (cs ++ c ∷ []) (Some next)
 stands_more [] c s next has points fits takes = (taken_more [] c s next has takes, takes.points ∙ points)
 stands_more (d ∷ cs) c s next has points fits takes =
     (taken_more (d ∷ cs) c s next has takes, takes.points ∙ points ∙ fits)
 
 -- there was room for the batch that was taken
-pub took_room : (cs : List Contents) (c : Contents) (s next : Session) → HasTaken cs s → Takes s c next → HasRoom cs c
+pub took_room : (cs : List Contents) (c : Contents) (s next : Dialogue) → HasTaken cs s → Takes s c next → HasRoom cs c
 took_room cs c s next has takes =
     let bs = batches_of s.writer in
     let l : length (batches_of next.writer) ≡ length bs + 1
@@ -114,7 +114,7 @@ took_room cs c s next has takes =
     }
 
 -- the text of the group that was taken stands behind that of the others
-pub text_more : (cs : List Contents) (c : Contents) (s : Session) (text piece : List ℕ) → HasTaken cs s → s.points ≡ c.batch.points
+pub text_more : (cs : List Contents) (c : Contents) (s : Dialogue) (text piece : List ℕ) → HasTaken cs s → s.points ≡ c.batch.points
     → IsScriptText cs text → IsTextOfGroup s c piece → IsScriptText (cs ++ c ∷ []) (text ++ piece)
 text_more cs c s text piece has points told (last, is) =
     let e = same_series cs (batches_of s.writer) has.batches in
@@ -131,7 +131,7 @@ text_more cs c s text piece has points told (last, is) =
     (subst (λ (x : Scene). IsQueriesText x (length (all_queries cs)) x.before (queries_of c) piece last) same here)
 
 -- what refuses a batch stops the run at its group
-pub refused_stops : (reading : Reading) (cs : List Contents) (g : Group) (gs : List Group) (c : Contents) (s : Session)
+pub refused_stops : (reading : Reading) (cs : List Contents) (g : Group) (gs : List Group) (c : Contents) (s : Dialogue)
     (status : LiveStatus) → HasTaken cs s → HoldsGroup reading.held (want_of cs) g c → RefusesBatch s c.batch status
     → StopsAt reading cs (g ∷ gs) status
 refused_stops reading cs g gs c s Memory has holds refused = tt

@@ -1,4 +1,4 @@
--- What the append of a group, its asks and the telling behind them make of a session.
+-- What the append of a group, its asks and the telling behind them make of a dialogue.
 use Rattle.std.proofs.Common.{◌≡◌, ℕ, ◌+◌, ◌≤◌, ◌⊎◌, List, [], ◌∷◌, ◌++◌, length, refl, sym, ap, ◌∙◌, subst, append-nil, arith}
 use Rattle.std.proofs.lemmas.List.Concat.{flat_map-append}
 use mathlib.Core.List.{IsPrefix}
@@ -19,9 +19,9 @@ use Rattle.live_collection.specs.Sides.{IsWriterOf, points_of, reader_saw, write
 use Rattle.live_collection.specs.Steps.{Appends, BatchRefused, BatchStands, CallsAppend, MakesCall, appends}
 use Rattle.live_collection.proofs.Takings.{appended_prefix, writer_appends}
 use Rattle.live_run.specs.Replies.{IsAskedText}
-use Rattle.live_run.specs.Sessions.{RefusesBatch, batches_of, batches_seen}
+use Rattle.live_run.specs.Dialogues.{RefusesBatch, batches_of, batches_seen}
 use Rattle.live_run.specs.Status.{status_of}
-use Rattle.live_run.specs.declared.session.Session.{Session}
+use Rattle.live_run.specs.declared.dialogue.Dialogue.{Dialogue}
 use Rattle.live_collection.specs.declared.live.AppendError.{AppendError}
 use Rattle.live_collection.specs.declared.live.AppendError.TheVariants.{Full, NoMemory}
 use Rattle.std.specs.Prelude.{Err}
@@ -100,8 +100,8 @@ stands_limits k c old mid new m writer stands made =
           (let e = stands.count in let s = stands.series in omega arith),
     )
 
--- what an append refuses, its session refuses
-pub refuses_append : (s : Session) (c : Collection) (new : Writer) (e : AppendError) → IsWriterOf s.live s.writer
+-- what an append refuses, its dialogue refuses
+pub refuses_append : (s : Dialogue) (c : Collection) (new : Writer) (e : AppendError) → IsWriterOf s.live s.writer
     → Appends s.live c s.writer new (Err e) → RefusesBatch s c (status_of e)
 refuses_append s c new NoMemory writer appends = tt
 refuses_append s c new (Full b t) writer appends =

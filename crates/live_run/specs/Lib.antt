@@ -5,7 +5,7 @@ pub mod Texts
 pub mod Loads
 pub mod Groups
 pub mod Replies
-pub mod Sessions
+pub mod Dialogues
 pub mod Ends
 pub use Rattle.series_core.specs.Collection
 pub use Rattle.series_core.specs.Answer

@@ -4,7 +4,7 @@ ghost use Rattle.std.specs.Prelude.{◌≡◌, ℕ, ◌+◌, ◌<◌, ◌^◌, �
 ghost use Rattle.std.specs.List.{flat_map};
 ghost use Rattle.live_collection.specs.Sides.{IsReaderOf, points_of};
 ghost use Rattle.live_run.specs.Replies.{CanAsk, IsAskedText};
-ghost use Rattle.live_run.specs.Sessions.{batches_seen};
+ghost use Rattle.live_run.specs.Dialogues.{batches_seen};
 ghost use Rattle.live_run.specs.Texts.{file_queries};
 
 use crate::group::QueryFile;

@@ -55,7 +55,7 @@ pub fn load_group<F: Files>(
     Ok(Contents { batch, askings })
 }
 
-// Loads the files of askings in order, each of series of so many values.
+// Loads the files of askings in order, each of series of `points` values.
 fn load_askings<F: Files>(
     alloc: Global,
     files: &mut F,

@@ -7,8 +7,8 @@ ghost use Rattle.live_run.specs.Ends.{GroupsEnd, ended};
 ghost use Rattle.live_run.specs.Loads.{most_bytes};
 ghost use Rattle.live_run.specs.Traffic.{EndsReading, Reading, read_from, wrote_to};
 
+use crate::dialogue::{Dialogue, begun, length_of};
 use crate::group::load_group;
-use crate::session::{Session, begun, length_of};
 use crate::status::LiveStatus;
 use live_script::Group;
 use outside::{Files, Gate, Sink, write_whole};
@@ -33,17 +33,17 @@ pub fn run_groups<H: Threads + Wait + Sync, F: Files, S: Sink, G: Gate + Sync>(
         → GroupsEnd whole (wrote_to S.written S.faults out.old out.new) groups.now (ended result) }
     ensures kept { F.held files.new ≡ F.held files.old }
 {
-    let mut session: Option<Session> = None;
+    let mut dialogue: Option<Dialogue> = None;
     for at in 0..groups.len() {
-        let contents = load_group(alloc, files, &groups[at], length_of(&session))?;
+        let contents = load_group(alloc, files, &groups[at], length_of(&dialogue))?;
         let points = contents.batch.length();
-        let current = begun(alloc, session, points)?;
+        let current = begun(alloc, dialogue, points)?;
         let (next, text) = current.take(rt, alloc, contents, gate, at as u64)?;
         write_whole(out, &text)?;
-        session = Some(next);
+        dialogue = Some(next);
     }
-    if let Some(session) = session {
-        session.close();
+    if let Some(dialogue) = dialogue {
+        dialogue.close();
     }
     Ok(())
 }

@@ -3,12 +3,12 @@
 #![tactic(auto)]
 
 mod answering;
+mod dialogue;
 mod file;
 mod group;
 mod groups;
 mod run;
 mod script_file;
-mod session;
 mod status;
 mod tell;
 mod text;

@@ -25,7 +25,7 @@ pub enum LiveStatus {
     Memory,
     /// The first line that is not in the grammar, from 1; or 0 where the script is longer than 1048576 bytes.
     Script(u32),
-    /// So many batches and so many series stand, and leave no room for the next batch.
+    /// These numbers of batches and of series stand, and leave no room for the next batch.
     Full(u32, u32),
 }
 

@@ -16,7 +16,7 @@ pub fn push_query(text: &mut Vec<u8>, i: u64, reply: &LiveReply) -> Result<(), N
     push_answers(text, &reply.pairs.items)
 }
 
-// Appends the line of query i, over so many series.
+// Appends the line of query i, over `count` series.
 fn push_head(text: &mut Vec<u8>, i: u64, count: u32) -> Result<(), NoMemory>
     ensures { OnOk result (text.new.items ≡ text.old.items ++ query_line i count) }
 {

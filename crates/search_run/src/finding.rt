@@ -131,7 +131,7 @@ pub fn locked<T: Threads + Wait + Sync, R: Rows + Sync, G: Gate + Sync>(
     )
 }
 
-/// All series within a radius of a query as long as they, by so many workers.
+/// All series within a radius of a query as long as they, by `workers` workers.
 pub fn near<T: Threads + Sync, R: Rows + Sync, G: Gate + Sync>(
     crew: &Crew<'_, T, G>,
     rows: &R,

@@ -41,7 +41,7 @@ struct Trial<'a> {
     options: &'a Options,
 }
 
-/// Answers `trial`: the four lines over the answers to so many queries.
+/// Answers `trial`: the four lines over the answers to `queries` queries.
 pub fn answer_trial<
     T: Threads + Sync,
     S: Sink,

@@ -1,4 +1,4 @@
-//! The text of a batch of queries: for each in order, what is told of the series nearest to it.
+//! The text of a batch of queries: for each in order, the lines of the series nearest to it.
 //! The text of a query is written once all of it stands in memory, and before that of the next.
 
 ghost use Rattle.std.specs.Prelude.{◌≡◌, ◌≤◌, IfErr, IfOk, OnOk};
@@ -18,7 +18,7 @@ use std::alloc::Global;
 use std::thread::Threads;
 use window_rows::choose;
 
-/// What is told of the series that are nearest to a query.
+/// What the lines say of the series that are nearest to a query.
 #[derive(Drop)]
 pub enum Telling<'a> {
     /// All of them, with their labels.
@@ -45,7 +45,7 @@ impl Telling<'_> {
     }
 }
 
-/// Writes for each query what is told of the series nearest to it.
+/// Writes for each query the lines of the series nearest to it.
 pub fn write_answers<
     T: Threads + Sync,
     R: Rows + Sync,

@@ -47,7 +47,7 @@ const CASES: [(u32, bool, &str, &str); 12] = [
     (70, true, "--k 70", "--leaf 2 --queues 1 --workers 1"),
 ];
 
-// Files with so many walks of length 8, `data`, and so many further walks, `asked`.
+// Files with `count` walks of length 8, `data`, and `queries` further walks, `asked`.
 fn drawn(alloc: Global, count: u32, labelled: bool, queries: u32) -> Result<MemFiles, Fail> {
     let mut rng = generator(u64::from(count));
     let rows = walks(alloc, &mut rng, count.min(100), 8)?;

@@ -40,7 +40,7 @@ const COMMANDS: [(&str, [u64; 4], &str); 8] = [
 const CERTIFICATE: &str = "query 0\n1 0 4\nstart 1 4\nqueue 0\nqueue 1\n\
     leaf 0 word 0:1,0:1 bound 10\nleaf 1 word 1:1,1:1 scanned\n";
 
-// The status where read number `read` fails, of files that take so many reads each.
+// The status where read number `read` fails, of files that take these numbers of reads.
 fn status_of(read: u64, reads: [u64; 4]) -> Status {
     let [series, queries, certificate, index] = reads;
     let mut left = read;
@@ -93,7 +93,7 @@ fn place_of(status: Status) -> Option<u32> {
     }
 }
 
-// Each read of pieces of so many bytes fails in turn, until none is left.
+// Each read of pieces of `piece` bytes fails in turn, until none is left.
 fn reads_fail_in_turn<H: Threads + Wait + Abort + Sync>(
     rt: &H,
     alloc: Global,
@@ -172,7 +172,7 @@ fn each_open_may_fail(rt: HostRuntime) -> Result<(), Fail> {
     Ok(())
 }
 
-// Each write of pieces of so many bytes fails in turn, until none is left: one more than the text takes.
+// Each write of pieces of `piece` bytes fails in turn, until none is left: one more than the text takes.
 fn writes_fail_in_turn<H: Threads + Wait + Abort + Sync>(
     rt: &H,
     alloc: Global,

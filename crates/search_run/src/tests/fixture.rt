@@ -166,7 +166,7 @@ pub struct Outside {
 }
 
 impl Outside {
-    /// An outside that never fails, with pieces of so many bytes, at least 1.
+    /// An outside that never fails, with pieces of `piece` bytes, at least 1.
     pub fn sound(piece: usize) -> Outside {
         Outside {
             piece,
@@ -230,7 +230,7 @@ pub fn run_line<T: Threads + Wait + Sync, G: Gate + Sync>(
     Ok(Ended { status, out, err })
 }
 
-/// Runs each row in pieces of so many bytes, and compares how it ends.
+/// Runs each row in pieces of `piece` bytes, and compares how it ends.
 pub fn end_as_they_should<H: Threads + Wait + Abort + Sync>(
     rt: &H,
     alloc: Global,

@@ -1,4 +1,4 @@
-//! The tree of a collection, saved as bytes, and searches over a saved index: what they write, and each fault that is told.
+//! The tree of a collection, saved as bytes, and searches over a saved index: what they write, and each fault that is reported.
 
 use super::fixture::{INDEX, NO_COMMAND, Outside, Row, end_as_they_should, run_line};
 use crate::{Status, Which};

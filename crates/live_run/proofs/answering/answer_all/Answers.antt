@@ -2,7 +2,7 @@ use Rattle.std.proofs.Common.{rules, ◌≡◌, ◌+◌, ◌++◌, ap, sym, ◌�
 use Rattle.std.specs.List.{flat_map}
 use Rattle.live_collection.specs.Sides.{points_of}
 use Rattle.live_run.specs.Replies.{IsAskedText}
-use Rattle.live_run.specs.Sessions.{batches_seen}
+use Rattle.live_run.specs.Dialogues.{batches_seen}
 use Rattle.live_run.specs.Texts.{file_queries}
 use Rattle.live_run.specs.declared.group.QueryFile.{QueryFile}
 use Rattle.live_run.proofs.Asked.{file_more, queries_more, queries_within}

@@ -2,7 +2,7 @@ use Rattle.std.proofs.Common.{◌≡◌, ◌+◌, take, length}
 use Rattle.std.specs.List.{flat_map}
 use Rattle.live_collection.specs.Sides.{IsReaderOf, points_of}
 use Rattle.live_run.specs.Replies.{IsAskedText}
-use Rattle.live_run.specs.Sessions.{batches_seen}
+use Rattle.live_run.specs.Dialogues.{batches_seen}
 use Rattle.live_run.specs.Texts.{file_queries}
 use Rattle.live_run.proofs.answering.answer_all.Given as goal
 

@@ -2,7 +2,7 @@ use Rattle.std.proofs.Common.{◌≡◌, ◌+◌, ◌++◌, ap, ◌∙◌, lengt
 use Rattle.live_collection.specs.Histories.{standing}
 use Rattle.live_collection.specs.Sides.{points_of, reader_saw}
 use Rattle.live_run.specs.Replies.{batches_text}
-use Rattle.live_run.specs.Sessions.{batches_seen}
+use Rattle.live_run.specs.Dialogues.{batches_seen}
 use Rattle.live_run.specs.Texts.{query_text}
 use Rattle.live_run.proofs.Asked.{ends_prefix, query_more}
 use Rattle.live_run.proofs.answering.answer_file.Goals as goal

@@ -1,7 +1,7 @@
 use Rattle.std.proofs.Common.{◌≡◌, ℕ, ◌++◌, List, take}
 use Rattle.live_collection.specs.Sides.{IsReaderOf, points_of}
 use Rattle.live_run.specs.Replies.{IsAskedText}
-use Rattle.live_run.specs.Sessions.{batches_seen}
+use Rattle.live_run.specs.Dialogues.{batches_seen}
 use Rattle.live_run.specs.Texts.{file_queries}
 use Rattle.live_run.proofs.answering.answer_file.Given as goal
 

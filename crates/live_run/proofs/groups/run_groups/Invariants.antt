@@ -8,5 +8,5 @@ invariant-loop-at g l = record {
   faults : g.F.Files.faults l.fn.files ≤ g.F.Files.faults l.files;
   misses : g.F.Files.misses l.fn.files ≤ g.F.Files.misses l.files;
   lost : g.S.Sink.faults l.fn.out ≤ g.S.Sink.faults l.out;
-  behind : IsBehind (g.F.Files.held l.fn.files) (take l.at l.groups) l.session (g.S.Sink.written l.fn.out) (g.S.Sink.written l.out);
+  behind : IsBehind (g.F.Files.held l.fn.files) (take l.at l.groups) l.dialogue (g.S.Sink.written l.fn.out) (g.S.Sink.written l.out);
 }

@@ -8,8 +8,8 @@ ghost use Rattle.live_collection.specs.Sides.{IsReaderOf, IsWriterOf, points_of}
 ghost use Rattle.live_collection.specs.Steps.{Appends};
 ghost use Rattle.live_run.specs.Loads.{FitsLength};
 ghost use Rattle.live_run.specs.Replies.{CanAsk, IsAskedText};
-ghost use Rattle.live_run.specs.Sessions.{HasTaken, IsNew, IsSession, IsTextOfGroup, RefusesBatch, Stands, Takes};
-ghost use Rattle.live_run.specs.Sessions.{batches_seen, length_of};
+ghost use Rattle.live_run.specs.Dialogues.{HasTaken, IsNew, IsDialogue, IsTextOfGroup, RefusesBatch, Stands, Takes};
+ghost use Rattle.live_run.specs.Dialogues.{batches_seen, length_of};
 ghost use Rattle.live_run.specs.Texts.{file_queries, queries_of};
 
 use crate::answering::{Answers, answer_all};
@@ -34,7 +34,7 @@ const LEAF_SIZE: u32 = 1000;
 
 /// A live collection, between two groups of a script.
 #[derive(Drop)]
-pub struct Session {
+pub struct Dialogue {
     live: LiveCollection,
     writer: Writer,
     reader: Reader,
@@ -46,9 +46,9 @@ pub struct Session {
     asked: u64,
 }
 
-impl Session {
-    /// A session over a new collection of series of so many values.
-    fn begin(alloc: Global, points: u32) -> Result<Session, NoMemory>
+impl Dialogue {
+    /// A dialogue over a new collection of series of `points` values.
+    fn begin(alloc: Global, points: u32) -> Result<Dialogue, NoMemory>
         requires { (1 ≤ points) × (points ≤ 65536) }
         ensures { IfOk result (IsNew points) }
     {
@@ -56,7 +56,7 @@ impl Session {
         let Some(reader) = room.pop() else {
             unreachable!()
         };
-        Ok(Session {
+        Ok(Dialogue {
             live,
             writer,
             reader,
@@ -75,8 +75,8 @@ impl Session {
         contents: Contents,
         gate: &G,
         turn: u64,
-    ) -> Result<(Session, Vec<u8>), LiveStatus>
-        requires session { IsSession self }
+    ) -> Result<(Dialogue, Vec<u8>), LiveStatus>
+        requires dialogue { IsDialogue self }
         requires points { contents.batch.points ≡ self.points }
         requires askings { All (CanAsk self.points) contents.askings.items }
         requires numbers { self.asked + length (queries_of contents) < 2 ^ 64 }
@@ -84,7 +84,7 @@ impl Session {
         ensures text { IfOk result (λ r. IsTextOfGroup self contents r.1.items) }
         ensures refused { IfErr result (RefusesBatch self contents.batch) }
     {
-        let Session {
+        let Dialogue {
             live,
             writer,
             reader,
@@ -112,7 +112,7 @@ impl Session {
         appended?;
         let Answers { text, next } = answers?;
         live.tell(&mut writer, &mut reader);
-        let session = Session {
+        let dialogue = Dialogue {
             live,
             writer,
             reader,
@@ -120,14 +120,14 @@ impl Session {
             points,
             asked: next,
         };
-        Ok((session, text))
+        Ok((dialogue, text))
     }
 
-    /// Ends the session and its collection.
+    /// Ends the dialogue and its collection.
     pub fn close(self)
-        requires { IsSession self }
+        requires { IsDialogue self }
     {
-        let Session {
+        let Dialogue {
             live,
             writer,
             reader,
@@ -139,29 +139,29 @@ impl Session {
     }
 }
 
-/// The length of the series of a session, where one has begun.
-pub fn length_of(session: &Option<Session>) -> Option<u32>
-    ensures { result ≡ length_of session.now }
+/// The length of the series of a dialogue, where one has begun.
+pub fn length_of(dialogue: &Option<Dialogue>) -> Option<u32>
+    ensures { result ≡ length_of dialogue.now }
 {
-    match session {
-        Some(session) => Some(session.points),
+    match dialogue {
+        Some(dialogue) => Some(dialogue.points),
         None => None,
     }
 }
 
-/// The session that has begun, or a new one over series of so many values.
-pub fn begun(alloc: Global, session: Option<Session>, points: u32) -> Result<Session, NoMemory>
+/// The dialogue that has begun, or a new one over series of `points` values.
+pub fn begun(alloc: Global, dialogue: Option<Dialogue>, points: u32) -> Result<Dialogue, NoMemory>
     requires limits { (1 ≤ points) × (points ≤ 65536) }
-    ensures { (cs : List _) → Stands cs session → FitsLength (length_of session) points
+    ensures { (cs : List _) → Stands cs dialogue → FitsLength (length_of dialogue) points
         → IfOk result (λ s. HasTaken cs s × (s.points ≡ points)) }
 {
-    match session {
-        Some(session) => Ok(session),
-        None => Session::begin(alloc, points),
+    match dialogue {
+        Some(dialogue) => Ok(dialogue),
+        None => Dialogue::begin(alloc, points),
     }
 }
 
-// The settings of a collection of series of so many values.
+// The settings of a collection of series of `points` values.
 fn settings_of(points: u32) -> Settings
     requires { (1 ≤ points) × (points ≤ 65536) }
     ensures points { result.layout.cuts.row_length ≡ points }

@@ -12,7 +12,7 @@ use Rattle.live_collection.specs.Histories.{appended, series_of}
 use Rattle.live_collection.specs.Sides.{IsReaderOf, IsWriterOf, points_of, reader_saw, writer_made}
 use Rattle.live_run.specs.Texts.{Scene, IsQueriesText, all_queries, all_series, queries_of}
 use Rattle.live_run.specs.declared.group.Contents.{Contents}
-use Rattle.live_run.specs.declared.session.Session.{Session}
+use Rattle.live_run.specs.declared.dialogue.Dialogue.{Dialogue}
 use Rattle.live_run.specs.declared.status.LiveStatus.{LiveStatus}
 use Rattle.live_run.specs.declared.status.LiveStatus.TheVariants.{Memory, Full}
 
@@ -25,7 +25,7 @@ abbrev pub batches_seen : Reader → List Batch
 batches_seen r = appended (reader_saw r)
 
 -- the writer and the one reader are those of the collection, there is room for the reader, and it has seen all appends
-pub record IsSession (s : Session) : Type 0 where
+pub record IsDialogue (s : Dialogue) : Type 0 where
   pub writer : IsWriterOf s.live s.writer
   pub reader : IsReaderOf s.live s.reader
   pub readers : s.live.readers ≡ 1
@@ -35,15 +35,15 @@ pub record IsSession (s : Session) : Type 0 where
   pub points : s.points ≡ points_of s.live
   pub seen : IsPrefix (batches_of s.writer) (batches_seen s.reader)
 
--- the session is new: nothing was appended or asked
-pub record IsNew (n : ℕ) (s : Session) : Type 0 where
-  pub session : IsSession s
+-- the dialogue is new: nothing was appended or asked
+pub record IsNew (n : ℕ) (s : Dialogue) : Type 0 where
+  pub dialogue : IsDialogue s
   pub points : s.points ≡ n
   pub batches : batches_of s.writer ≡ []
   pub asked : s.asked ≡ 0
 
--- what a session knows of the series while it takes a batch: all that stood, and those of the batch
-abbrev pub scene_of : Session → Collection → Scene
+-- what a dialogue knows of the series while it takes a batch: all that stood, and those of the batch
+abbrev pub scene_of : Dialogue → Collection → Scene
 scene_of s c = record {
   points = s.points;
   series = series_of (batches_of s.writer) ++ c.series;
@@ -51,9 +51,9 @@ scene_of s c = record {
   after = length (series_of (batches_of s.writer)) + length c.series;
 }
 
--- the session took a group: one batch more stands, which has the group's series, and found room; its queries were asked
-pub record Takes (old : Session) (c : Contents) (new : Session) : Type 0 where
-  pub session : IsSession new
+-- the dialogue took a group: one batch more stands, which has the group's series, and found room; its queries were asked
+pub record Takes (old : Dialogue) (c : Contents) (new : Dialogue) : Type 0 where
+  pub dialogue : IsDialogue new
   pub points : new.points ≡ old.points
   pub batch : Batch
   pub series : batch.series ≡ c.batch
@@ -62,15 +62,15 @@ pub record Takes (old : Session) (c : Contents) (new : Session) : Type 0 where
   pub fits : length (series_of (batches_of new.writer)) ≤ MAX_COUNT
   pub asked : new.asked ≡ old.asked + length (queries_of c)
 
--- why a session did not take a group: memory ran out, or what stands leaves no room
-abbrev pub RefusesBatch : Session → Collection → LiveStatus → Type 0
+-- why a dialogue did not take a group: memory ran out, or what stands leaves no room
+abbrev pub RefusesBatch : Dialogue → Collection → LiveStatus → Type 0
 RefusesBatch s c Memory = Unit {0}
 RefusesBatch s c (Full b t) = (b ≡ length (batches_of s.writer)) × (t ≡ length (series_of (batches_of s.writer)))
     × ((b ≡ MAX_BATCHES) ⊎ (MAX_COUNT < t + length c.series))
 RefusesBatch s c _ = ⊥
 
--- the text of a group that a session took
-abbrev pub IsTextOfGroup : Session → Contents → List ℕ → Type 0
+-- the text of a group that a dialogue took
+abbrev pub IsTextOfGroup : Dialogue → Contents → List ℕ → Type 0
 IsTextOfGroup s c text = (last : ℕ)
     × IsQueriesText (scene_of s c.batch) s.asked (scene_of s c.batch).before (queries_of c) text last
 
@@ -78,20 +78,20 @@ IsTextOfGroup s c text = (last : ℕ)
 abbrev pub AreBatchesOf : List Contents → List Batch → Type 0
 AreBatchesOf cs bs = map (λ (b : Batch). b.series) bs ≡ map (λ (c : Contents). c.batch) cs
 
--- the session took all of these groups
-pub record HasTaken (cs : List Contents) (s : Session) : Type 0 where
-  pub session : IsSession s
+-- the dialogue took all of these groups
+pub record HasTaken (cs : List Contents) (s : Dialogue) : Type 0 where
+  pub dialogue : IsDialogue s
   pub batches : AreBatchesOf cs (batches_of s.writer)
   pub asked : s.asked ≡ length (all_queries cs)
 
--- the session began with the first of these groups and took them all; where there are none it did not begin
-abbrev pub Stands : List Contents → Option Session → Type 0
+-- the dialogue began with the first of these groups and took them all; where there are none it did not begin
+abbrev pub Stands : List Contents → Option Dialogue → Type 0
 Stands [] (Some s) = ⊥
 Stands [] None = Unit {0}
 Stands (c ∷ cs) (Some s) = HasTaken (c ∷ cs) s × (s.points ≡ c.batch.points)
 Stands (c ∷ cs) None = ⊥
 
--- the length of the series of a session, where one has begun
-abbrev pub length_of : Option Session → Option ℕ
+-- the length of the series of a dialogue, where one has begun
+abbrev pub length_of : Option Dialogue → Option ℕ
 length_of None = None
 length_of (Some s) = Some s.points

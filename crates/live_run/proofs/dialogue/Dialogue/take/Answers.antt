@@ -10,13 +10,13 @@ use Rattle.live_collection.specs.Sides.{points_of}
 use Rattle.live_collection.specs.Steps.{Appends}
 use Rattle.live_collection.proofs.Sends.{collection_shares, reader_sends, writer_sends}
 use Rattle.live_run.specs.Replies.{IsAskedText}
-use Rattle.live_run.specs.Sessions.{batches_of, batches_seen, RefusesBatch}
+use Rattle.live_run.specs.Dialogues.{batches_of, batches_seen, RefusesBatch}
 use Rattle.live_run.specs.Texts.{file_queries}
 use Rattle.live_run.specs.declared.answering.Answers.{Answers}
 use Rattle.std.proofs.alloc.Global.TheSendSync as global
 use Rattle.live_run.proofs.Sends.{side_sends}
 use Rattle.live_run.proofs.Taking.{all_seen, group_told, refuses_append, stands_limits, stands_more}
-use Rattle.live_run.proofs.session.Session.take.Goals as goal
+use Rattle.live_run.proofs.dialogue.Dialogue.take.Goals as goal
 
 pub join-writer-requires-send-F : goal.join-writer-requires-send-F
 join-writer-requires-send-F g c κs within =
@@ -32,7 +32,7 @@ returns-in_err-appended-clause-refused g c =
     let s = c.args.self in
     let told = err_from_is_err_and c.from_residual.result c.from_residual.ensures.1 in
     let appends = subst (Appends s.live c.args.contents.batch s.writer c.join-writer.result.0.0) c.in_err-appended.was c.join-writer.ensures.first.1 in
-    rw (told.1, told.2) (refuses_append s c.args.contents.batch c.join-writer.result.0.0 c.in_err-appended.field-0.0 c.requires.session.writer appends)
+    rw (told.1, told.2) (refuses_append s c.args.contents.batch c.join-writer.result.0.0 c.in_err-appended.field-0.0 c.requires.dialogue.writer appends)
 
 pub returns-clause-takes : goal.returns-clause-takes
 returns-clause-takes g c =
@@ -44,20 +44,20 @@ returns-clause-takes g c =
     let later = c.tell.new.reader in
     let stands = subst (Appends k batch s.writer mid) c.in_ok-appended.was c.join-writer.ensures.first.1 in
     let told = c.tell.ensures in
-    let writer = c.requires.session.writer in
+    let writer = c.requires.dialogue.writer in
     let limits = stands_limits k batch s.writer mid new c.in_ok-appended.field-0 writer stands told.same.0 in
     let answered = subst (λ x. IfOk x (λ (a : Answers). IsAskedText (points_of k) s.asked (batches_seen s.reader)
     (flat_map file_queries c.args.contents.askings.items) a.text.items (batches_seen c.join-writer.result.1.0)
     × (a.next ≡ s.asked + length (flat_map file_queries c.args.contents.askings.items)))) c.in_ok-text.was c.join-writer.ensures.second.2 in
     record {
-      session = record {
+      dialogue = record {
         writer = told.sides.0;
         reader = told.sides.1;
-        readers = c.requires.session.readers;
-        number = told.same.2 ∙ c.join-writer.ensures.second.1 ∙ c.requires.session.number;
-        empty = c.requires.session.empty;
-        room = c.requires.session.room;
-        points = c.requires.session.points;
+        readers = c.requires.dialogue.readers;
+        number = told.same.2 ∙ c.join-writer.ensures.second.1 ∙ c.requires.dialogue.number;
+        empty = c.requires.dialogue.empty;
+        room = c.requires.dialogue.room;
+        points = c.requires.dialogue.points;
         seen = all_seen k batch s.writer mid new later c.in_ok-appended.field-0 writer stands told.same.0 told.reader.1;
       };
       points = refl;
@@ -81,5 +81,5 @@ returns-clause-text g c =
     (flat_map file_queries c.args.contents.askings.items) a.text.items (batches_seen c.join-writer.result.1.0)
     × (a.next ≡ s.asked + length (flat_map file_queries c.args.contents.askings.items)))) c.in_ok-text.was c.join-writer.ensures.second.2 in
     group_told k batch s.writer mid c.in_ok-appended.field-0 s.points s.asked (batches_seen s.reader) (batches_seen c.join-writer.result.1.0)
-    (flat_map file_queries c.args.contents.askings.items) c.in_ok-text.field-0.text.items c.requires.session.writer stands
-    c.requires.session.points c.requires.session.seen c.tell.ensures.first answered.0
+    (flat_map file_queries c.args.contents.askings.items) c.in_ok-text.field-0.text.items c.requires.dialogue.writer stands
+    c.requires.dialogue.points c.requires.dialogue.seen c.tell.ensures.first answered.0

@@ -2,9 +2,9 @@ use Rattle.std.proofs.Common.{rules, ◌≡◌, [], refl, sym, ap, ◌∙◌, su
 use mathlib.Core.List.{IsPrefix}
 use Rattle.subtree_build.specs.declared.settings.Settings.{Settings}
 use Rattle.live_collection.specs.Histories.{appended}
-use Rattle.live_run.specs.Sessions.{batches_seen}
+use Rattle.live_run.specs.Dialogues.{batches_seen}
 use Rattle.live_run.proofs.Beginning.{one_popped}
-use Rattle.live_run.proofs.session.Session.begin.Goals as goal
+use Rattle.live_run.proofs.dialogue.Dialogue.begin.Goals as goal
 
 pub returns : goal.returns
 returns c =
@@ -13,7 +13,7 @@ returns c =
     let one = one_popped k c.in_ok-live.room.items c.pop.new.self.items c.in-Some.reader c.in-Some.ensures.items made.count.1 made.readers in
     let none = ap appended made.writer.2 in
     record {
-      session = record {
+      dialogue = record {
         writer = made.writer.0;
         reader = one.1.reader;
         readers = made.count.0;
