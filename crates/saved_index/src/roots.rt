@@ -20,7 +20,7 @@ pub(crate) struct RootsAt {
     pub(crate) at: usize,
 }
 
-/// The root children of words of `segments` segments from a place on.
+/// So many root children of so many segments from a place on.
 pub(crate) fn read_roots(
     alloc: Global,
     bytes: &[u8],
