@@ -1,5 +1,5 @@
 //! The means of a series' segments, as they are stored. Values are raised by 32768, so that no mean is below 0; a mean is
-//! rounded down, and never up, since what is told of a series is that its sum is at least the mean times the length.
+//! rounded down, and never up, so that a series' sum is at least its mean times the length.
 ghost use Rattle.std.specs.Prelude.{◌≡◌, ◌*◌, ◌/◌, ◌≤◌, pos, neg_ℤ, ◌+ℤ◌, ◌≤ℤ◌, length, replicate, unsigned_abs};
 ghost use Rattle.mean_bound.specs.Means.{of_segments, raised_sum, row_means, NoRaisedSumAbove};
 
@@ -35,6 +35,39 @@ impl Means {
         requires { length row.now ≡ cuts.now.row_length }
         ensures { result ≡ row_means cuts.now row.now }
     {
+        match (cuts.segments(), cuts.length()) {
+            (16, 64) => Means::of_equal::<4>(cuts, row),
+            (16, 128) => Means::of_equal::<8>(cuts, row),
+            (16, 256) => Means::of_equal::<16>(cuts, row),
+            (16, 512) => Means::of_equal::<32>(cuts, row),
+            (16, 1024) => Means::of_equal::<64>(cuts, row),
+            _ => Means::of_any(cuts, row),
+        }
+    }
+
+    // The means of sixteen segments of L values each. The compiler knows L, so that it divides without a division.
+    fn of_equal<const L: usize>(cuts: &Cuts, row: &[i16]) -> Means
+        requires length { length row.now ≡ cuts.now.row_length }
+        requires sixteen { cuts.now.segments ≡ 16 }
+        requires equal { cuts.now.row_length ≡ 16 * L }
+        ensures { result ≡ row_means cuts.now row.now }
+    {
+        // for the fact that the cuts divide
+        let _segments = cuts.segments();
+        let mut sums = [0; 16];
+        cuts.sums(row, &mut sums);
+        let mut raised = [0; 16];
+        for j in 0..16 {
+            raised[j] = (raised_by(L as u32, sums[j]) / L as u32) as u16;
+        }
+        Means { raised }
+    }
+
+    // The means of segments of any lengths.
+    fn of_any(cuts: &Cuts, row: &[i16]) -> Means
+        requires { length row.now ≡ cuts.now.row_length }
+        ensures { result ≡ row_means cuts.now row.now }
+    {
         let sums = raised_sums(cuts, row);
         let mut raised = [0; 16];
         for j in 0..cuts.segments() {
@@ -45,26 +78,13 @@ impl Means {
     }
 }
 
-/// The mean of so many values of a raised sum, rounded down. A division costs more than all sums of a segment of few values, and by a
-/// known power of two it is none.
+/// The mean of `length` values whose raised sum is `sum`, rounded down.
 fn mean_of(sum: u32, length: u32) -> u16
     requires some { 1 ≤ length }
     requires limit { sum ≤ 65535 * length }
     ensures { result ≡ sum / length }
 {
-    let mean = match length {
-        1 => sum,
-        2 => sum / 2,
-        4 => sum / 4,
-        8 => sum / 8,
-        16 => sum / 16,
-        32 => sum / 32,
-        64 => sum / 64,
-        128 => sum / 128,
-        256 => sum / 256,
-        _ => sum / length,
-    };
-    mean as u16
+    (sum / length) as u16
 }
 
 /// The sums of a row's values, each raised by 32768, over each segment; the entries from the number of segments on are 0.
@@ -83,7 +103,7 @@ pub(crate) fn raised_sums(cuts: &Cuts, row: &[i16]) -> [u32; 16]
     raised
 }
 
-/// The sum of so many values, each raised by 32768, from the sum of the values as they are.
+/// The sum of `length` values, each raised by 32768, from the sum of the values as they are.
 fn raised_by(length: u32, sum: i32) -> u32
     requires few_values { length ≤ 65536 }
     requires not_low { neg_ℤ (pos (32768 * length)) ≤ℤ sum }

@@ -1,10 +1,11 @@
 -- The cut points of a division: they rise from 0 to the length of the row, by at least 1 each
--- (`cut_place_rises`).
-use Rattle.std.proofs.Common.{◌≡◌, ℕ, suc, ◌+◌, ◌*◌, ◌/◌, ◌<◌, ◌≤◌, arith, List, length, get_or}
+-- (`cut_place_rises`). Where all segments have one length they are its multiples (`equal_places`,
+-- `equal_lengths`).
+use Rattle.std.proofs.Common.{◌≡◌, ◌∙◌, ap, ℕ, suc, ◌+◌, ◌*◌, ◌/◌, ◌<◌, ◌≤◌, arith, List, length, get_or}
 use Rattle.std.proofs.lemmas.List.FromFn.{get_or-map-range_with_len, fill_by_all}
 use Rattle.std.proofs.lemmas.Nat.{le-div}
 use Rattle.std.proofs.Math.Nat.{div-mul-le_self, mul-le-mul_right, mul-div_cancel_left}
-use Rattle.segment_sums.specs.Division.{Division, IsDivision, cut_place, cut_places}
+use Rattle.segment_sums.specs.Division.{Division, IsDivision, cut_place, cut_places, segment_length}
 
 -- the stored place of number j is the cut point
 pub cut_places_at : (d : Division) (j : ℕ) → j < 17 → get_or (cut_places d) j 0 ≡ cut_place d j
@@ -50,3 +51,19 @@ pub cut_place_inside : (d : Division) (j : ℕ) → IsDivision d → j ≤ d.seg
     → cut_place d j ≤ d.row_length
 cut_place_inside d j is used =
     omega (arith, cut_place_ascends d j d.segments is used, cut_place_last d is)
+
+-- the cut points of segments of one length l
+pub equal_places : (d : Division) (w l j : ℕ) → 1 ≤ w → d.segments ≡ w → d.row_length ≡ w * l → cut_place d j ≡ j * l
+equal_places d w l j some count long =
+    let turned : j * (w * l) ≡ w * (j * l) = omega arith in
+    ap (λ n. j * n / d.segments) long
+    ∙ ap (λ n. j * (w * l) / n) count
+    ∙ ap (λ n. n / w) turned
+    ∙ mul-div_cancel_left (j * l) some
+
+-- the segments between these cut points are of length l
+pub equal_lengths : (d : Division) (w l j : ℕ) → 1 ≤ w → d.segments ≡ w → d.row_length ≡ w * l → segment_length d j ≡ l
+equal_lengths d w l j some count long =
+    let from = equal_places d w l j some count long in
+    let to = equal_places d w l (j + 1) some count long in
+    omega (arith, from, to)

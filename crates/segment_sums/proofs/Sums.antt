@@ -1,7 +1,7 @@
 -- Sums of the values of a segment: one of l values of 16 bits lies from -32768 * l to 32767 * l
--- (`segment_sum_within`).
+-- (`segment_sum_within`), and so does what was summed between two cut points (`sum_between_cuts`).
 use Rattle.std.proofs.Common.{◌≡◌, ℕ, ◌+◌, ◌*◌, ◌<◌, ◌≤◌, ℤ, pos, neg_ℤ, ◌≤ℤ◌, arith, List, [], ◌∷◌, ◌++◌, length, drop, get_or, replicate, ap, ◌∙◌, subst}
-use Rattle.std.specs.Prelude.{FitsSigned}
+use Rattle.std.specs.Prelude.{FitsSigned, slice_range}
 use Rattle.std.specs.Int.{w16}
 use Rattle.std.specs.List.{All}
 use Rattle.std.proofs.lemmas.Int.{ints}
@@ -47,6 +47,32 @@ segment_sum_within d row j is whole fit used =
     (λ n. (neg_ℤ (pos (32768 * n)) ≤ℤ segment_sum d row j)
     × (segment_sum d row j ≤ℤ pos (32767 * n)))
     long (signed_sum_within values fits)
+
+-- what sums the values between two cut points is the sum of that segment, within its bounds
+pub sum_between_cuts : (d : Division) (row : List ℤ) (j from to : ℕ) (sum : ℤ) → IsDivision d
+    → length row ≡ d.row_length → j < d.segments
+    → from ≡ cut_place d j → to ≡ cut_place d (j + 1)
+    → sum ≡ signed_sum (slice_range row from to)
+    → neg_ℤ (pos (32768 * length (slice_range row from to))) ≤ℤ sum
+    → sum ≤ℤ pos (32767 * length (slice_range row from to))
+    → (sum ≡ segment_sum d row j)
+    × ((neg_ℤ (pos (32768 * segment_length d j)) ≤ℤ segment_sum d row j)
+    × (segment_sum d row j ≤ℤ pos (32767 * segment_length d j)))
+sum_between_cuts d row j from to sum is whole used first last summed not_low not_high =
+    let values : slice_range row from to ≡ segment_values d row j
+    = ap (λ a. slice_range row a to) first
+    ∙ ap (λ b. slice_range row (cut_place d j) b) last in
+    let value : sum ≡ segment_sum d row j = summed ∙ ap signed_sum values in
+    let long : length (slice_range row from to) ≡ segment_length d j
+    = ap (λ xs. length xs) values ∙ length-segment_values d row j is whole used in (
+      value,
+      (
+        subst (λ z. neg_ℤ (pos (32768 * segment_length d j)) ≤ℤ z) value
+            (subst (λ n. neg_ℤ (pos (32768 * n)) ≤ℤ sum) long not_low),
+        subst (λ z. z ≤ℤ pos (32767 * segment_length d j)) value
+            (subst (λ n. sum ≤ℤ pos (32767 * n)) long not_high),
+      ),
+    )
 
 -- the sums of all segments with a padding behind them hold at each segment its sum
 pub segment_sums_at : (d : Division) (row sums : List ℤ) (n j : ℕ)

@@ -94,6 +94,41 @@ impl Cuts {
         ensures not_low { NoSumBelow self.now row.now self.now.segments }
         ensures not_high { NoSumAbove self.now row.now self.now.segments }
     {
+        match (self.segments(), self.length()) {
+            (8, 8) => self.equal_sums::<8, 1>(row, into),
+            (16, 64) => self.equal_sums::<16, 4>(row, into),
+            (16, 128) => self.equal_sums::<16, 8>(row, into),
+            (16, 256) => self.equal_sums::<16, 16>(row, into),
+            (16, 512) => self.equal_sums::<16, 32>(row, into),
+            (16, 1024) => self.equal_sums::<16, 64>(row, into),
+            _ => self.any_sums(row, into),
+        }
+    }
+
+    // The sums over W segments of L values each. The compiler knows both numbers, so that it adds a segment's values without a loop.
+    fn equal_sums<const W: usize, const L: usize>(&self, row: &[i16], into: &mut [i32; 16])
+        requires length { length row.now ≡ self.now.row_length }
+        requires segments { self.now.segments ≡ W }
+        requires equal { self.now.row_length ≡ W * L }
+        ensures sums { into.new ≡ segment_sums self.now row.now ++ replicate (16 - self.now.segments) (pos 0) }
+        ensures not_low { NoSumBelow self.now row.now self.now.segments }
+        ensures not_high { NoSumAbove self.now row.now self.now.segments }
+    {
+        // for the fact that the cuts divide
+        let _segments = self.segments();
+        *into = [0; 16];
+        for j in 0..W {
+            into[j] = sum_of(&row[j * L..j * L + L]);
+        }
+    }
+
+    // The sums over segments of any lengths.
+    fn any_sums(&self, row: &[i16], into: &mut [i32; 16])
+        requires { length row.now ≡ self.now.row_length }
+        ensures sums { into.new ≡ segment_sums self.now row.now ++ replicate (16 - self.now.segments) (pos 0) }
+        ensures not_low { NoSumBelow self.now row.now self.now.segments }
+        ensures not_high { NoSumAbove self.now row.now self.now.segments }
+    {
         *into = [0; 16];
         for j in 0..self.segments() {
             let (from, to) = self.cut(j);
@@ -103,6 +138,7 @@ impl Cuts {
 }
 
 /// The sum of at most 65536 values.
+#[inline(always)]
 fn sum_of(values: &[i16]) -> i32
     requires { length values.now ≤ 65536 }
     ensures value { result ≡ signed_sum values.now }
@@ -171,6 +207,52 @@ mod tests {
             Cuts::new(5, w).sums(&row, &mut into);
             assert_eq!(rt; &into[..3], &sums[..], "{w} segments of {row:?}");
             assert_eq!(rt; into[15], 0, "what lies past {w} segments");
+        }
+        Ok(())
+    }
+
+    // Value i of a row of the next test: all bits change.
+    fn value_at(i: usize) -> i16 {
+        (((i as u32).wrapping_mul(2654435761) >> 16) as i32 - 32768) as i16
+    }
+
+    #[test]
+    fn sums_of_equal_segments(rt: HostRuntime) -> Result<(), Fail> {
+        let mut row = [0i16; 1040];
+        for i in 0..1040 {
+            row[i] = value_at(i);
+        }
+        let divisions: [(u32, u32); 9] = [
+            (8, 8),
+            (16, 16),
+            (64, 16),
+            (65, 16),
+            (128, 16),
+            (256, 16),
+            (512, 16),
+            (1024, 16),
+            (1040, 16),
+        ];
+        for (n, w) in divisions {
+            assert!(rt;
+                1 <= w && w <= 16 && w <= n && n <= 1040,
+                "{n} {w} is no division"
+            );
+            let cuts = Cuts::new(n, w);
+            let mut into = [7; 16];
+            cuts.sums(&row[..n as usize], &mut into);
+            for j in 0..w {
+                let (from, to) = cuts.cut(j);
+                let mut sum = 0i64;
+                for i in from..to {
+                    sum += i64::from(value_at(i as usize));
+                }
+                assert_eq!(rt;
+                    i64::from(into[j as usize]),
+                    sum,
+                    "segment {j} of {w} over {n}"
+                );
+            }
         }
         Ok(())
     }

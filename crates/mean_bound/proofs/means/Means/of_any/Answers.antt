@@ -4,7 +4,7 @@ use Rattle.segment_sums.specs.Division.{cut_place, segment_length}
 use Rattle.segment_sums.proofs.Filled.{fill_next}
 use Rattle.mean_bound.specs.Means.{raised_sum, segment_mean}
 use Rattle.mean_bound.proofs.OfSegments.{at_segment}
-use Rattle.mean_bound.proofs.means.Means.of.Goals as goal
+use Rattle.mean_bound.proofs.means.Means.of_any.Goals as goal
 
 pub mean_of-requires-clause-limit : goal.mean_of-requires-clause-limit
 mean_of-requires-clause-limit c =

@@ -2,10 +2,10 @@
 use Rattle.std.proofs.Common.{◌≡◌, pos}
 use Rattle.segment_sums.specs.Sum.{segment_sum, NoSumBelow, NoSumAbove}
 use Rattle.segment_sums.proofs.Filled.{filled}
-use Rattle.segment_sums.proofs.cuts.Cuts.sums.Given as goal
+use Rattle.segment_sums.proofs.cuts.Cuts.equal_sums.Given as goal
 
 abbrev pub invariant-loop-j : goal.invariant-loop-j
-invariant-loop-j l = record {
+invariant-loop-j g l = record {
   sums : l.into ≡ filled (segment_sum l.self l.row) (pos 0) 16 l.j;
   not_low : NoSumBelow l.self l.row l.j;
   not_high : NoSumAbove l.self l.row l.j;
