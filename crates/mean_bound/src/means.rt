@@ -1,5 +1,5 @@
 //! The means of a series' segments, as they are stored. Values are raised by 32768, so that no mean is below 0; a mean is
-//! rounded down, and never up, since what is told of a series is that its sum is at least the mean times the length.
+//! rounded down, and never up, since what is known of a series is that its sum is at least the mean times the length.
 ghost use Rattle.std.specs.Prelude.{◌≡◌, ◌*◌, ◌/◌, ◌≤◌, pos, neg_ℤ, ◌+ℤ◌, ◌≤ℤ◌, length, replicate, unsigned_abs};
 ghost use Rattle.mean_bound.specs.Means.{of_segments, raised_sum, row_means, NoRaisedSumAbove};
 
@@ -45,8 +45,8 @@ impl Means {
     }
 }
 
-/// The mean of so many values of a raised sum, rounded down. A division costs more than all sums of a segment of few values, and by a
-/// known power of two it is none.
+/// The mean of `length` values whose raised sum is `sum`, rounded down. A division costs more than all sums of a segment of few
+/// values, and by a known power of two it is none.
 fn mean_of(sum: u32, length: u32) -> u16
     requires some { 1 ≤ length }
     requires limit { sum ≤ 65535 * length }
@@ -83,7 +83,7 @@ pub(crate) fn raised_sums(cuts: &Cuts, row: &[i16]) -> [u32; 16]
     raised
 }
 
-/// The sum of so many values, each raised by 32768, from the sum of the values as they are.
+/// The sum of `length` values, each raised by 32768, from the sum of the values as they are.
 fn raised_by(length: u32, sum: i32) -> u32
     requires few_values { length ≤ 65536 }
     requires not_low { neg_ℤ (pos (32768 * length)) ≤ℤ sum }
