@@ -1,4 +1,4 @@
--- The opening: before there is any pass, the number is the start, and the first record may be told any floor up to it.
+-- The opening: before there is any pass, the number is the start, and the first record may be given any floor up to it.
 use Rattle.std.proofs.Common.{◌≡◌, ◌≢◌, ℕ, ◌≤◌, List, [], ◌∷◌, set, All, refl, sym, ap, ◌∙◌, subst, inl, ⊎_elim, arith, slice_index}
 use mathlib.Core.Option.{some}
 use mathlib.Core.Logic.{dite}
@@ -109,7 +109,7 @@ Gives terms floor id me st s ws =
     × Kept terms (stepped state 0 (slice_index ws 0) id me.1 w a)
     × Opens floor st me (slice_index ws 0) (w, carried_after {S = ℕ} me.1 a)
 
--- a seat that stands for all passes and has no trace may be told any floor up to the start
+-- a seat that stands for all passes and has no trace may be given any floor up to the start
 pub opens : (terms : Terms) (slots id floor : ℕ) (me : Me ℕ View) (st : Step ℕ) → me.1 ≡ []
     → me.0.parts ≡ terms.callers → me.0.trace ≡ [] → floor ≤ terms.start
     → Allows (Kept terms) slots id me 0 (λ n. n) (Opens floor st me)

@@ -166,7 +166,7 @@ module _ (terms : Terms) (id now : ℕ) (v : View) (e : Event) (s : State ℕ Vi
         crossed = crossed_after;
       }
 
--- what a step of a pass that leaves `f n` gives where the word is ws: a new record that keeps the rule and is told
+-- what a step of a pass that leaves `f n` gives where the word is ws: a new record that keeps the rule and of which tell holds
 abbrev Gives : Terms → ℕ → Me ℕ View → (ℕ → ℕ) → (ℕ → Me ℕ View → Type 0) → State ℕ View → List ℕ
     → Type 0
 Gives terms id me f tell s ws =

@@ -13,7 +13,7 @@ pub record Best : Type 0 where
   pub start : ℕ
   pub callers : ℕ
 
--- the number at this place, with this start and so many passes
+-- the number at this place, with this start and `callers` passes
 abbrev pub best_of : TableId → ℕ → ℕ → Best
 best_of table start callers = record { table = table; start = start; callers = callers }
 

@@ -10,12 +10,12 @@ use Rattle.best_word.specs.declared.rule.Terms.{Terms}
 use Rattle.best_word.specs.declared.rule.Event.{Event}
 use Rattle.best_word.specs.declared.rule.Event.TheVariants.{Read, Offer}
 
--- the record of so many passes of this floor that have read and offered nothing
+-- the record of `parts` passes of this floor that have read and offered nothing
 abbrev pub fresh : Terms → ℕ → ℕ → View
 fresh t floor parts =
     record { start = t.start; floor = floor; callers = t.callers; parts = parts; trace = [] }
 
--- the first record stands for all passes and has yet to be told their floor
+-- the first record stands for all passes and has yet to be given their floor
 abbrev pub root : Terms → View
 root t = fresh t 0 t.callers
 
@@ -82,7 +82,7 @@ pub record Kept (terms : Terms) (s : State ℕ View) : Type 0 where
   pub crossed : (i j : ℕ) (u v : View) → i ≢ j → get_elem? s.views i ≡ some u
       → get_elem? s.views j ≡ some v → CrossAll u.trace v.trace
 
--- the opening load tells the record this floor
+-- the opening load gives the record this floor
 pub record Opens (floor : ℕ) (s : Step ℕ) (v : Me ℕ View) (n : ℕ) (w : Me ℕ View) : Type 0 where
   pub slots : w.1 ≡ []
   pub view : w.0 ≡ floored v.0 floor

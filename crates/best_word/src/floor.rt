@@ -9,7 +9,7 @@ pub trait Floor {
     ghost floor: { Self → ℕ };
 }
 
-/// A number that the dealing of passes is told without any code for it.
+/// A number that is given to the dealing of passes without any code for it.
 pub trait Told {
     /// The number.
     ghost told: { ℕ };

@@ -37,7 +37,7 @@ impl Model for BestWord {
     ghost invariant = { λ b. IsBest b.table.shared.table_id b.table.shared.key b.start b.callers };
 }
 
-/// Deals the passes out of the first seat, each with the task's floor, which K tells to the opening load.
+/// Deals the passes out of the first seat, each with the task's floor, which K gives to the opening load.
 fn deal<K: Told, T: Floor>(
     task: &T,
     table: &Table<u8, View, Terms, Falling, Global>,

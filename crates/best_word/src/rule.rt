@@ -1,5 +1,5 @@
 //! The rule of the falling number, and its kinds of step: a load, a min, a split and a join.
-//! A load for no pass tells the first record its floor, before there is any pass.
+//! A load for no pass gives the first record its floor, before there is any pass.
 use crate::floor::Told;
 use atomic_table::{Join, Play, Split, TableRule};
 use std::collections::LinkedList;
@@ -39,7 +39,7 @@ impl TableRule<u8, View, Terms> for Falling {
     ghost first = { root };
 }
 
-/// A load before there is any pass: the first record is told its floor.
+/// A load before there is any pass: the first record is given its floor.
 pub struct Opening<K> {
     pub told: PhantomData<K>,
 }

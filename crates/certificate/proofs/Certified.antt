@@ -36,7 +36,7 @@ line_taken [] m es here = absurd (none-some es here)
 line_taken (line ∷ lines) zero es here = (line, refl, same_Some line.taken es here)
 line_taken (line ∷ lines) (suc m) es here = line_taken lines m es here
 
--- the fate that is told of at a place
+-- what a leaf line says is what is said of the fate at its place
 fate_said : (leaves : List TreeLeaf) (fates : List Fate) (l : ℕ) (leaf : LeafLine)
     → slice_get (leaves_said leaves fates) l ≡ Some leaf
     → (fate : Fate) × (slice_get fates l ≡ Some fate) × (leaf.said ≡ said_of fate)

@@ -7,7 +7,7 @@ use Rattle.certificate.specs.declared.block.LeafLine.{LeafLine}
 use Rattle.certificate.specs.Grammar.{IsLeafLine, IsBlock, AreBlocks}
 use Rattle.certificate.specs.Verdict.{IsFor}
 
--- the words of leaf lines have so many segments
+-- the words of leaf lines have s segments
 words_fit : (s : ℕ) (fs : List LeafLine) → AllByRecursion (IsLeafLine s) fs
     → AllByRecursion (λ leaf. length leaf.word ≡ s) fs
 words_fit s [] fits = tt

@@ -78,7 +78,7 @@ part_takes text rest p read =
     (first.0 ∙ ap (λ (t : List ℕ). decimal prefix.0 ++ t) (middle ∙ ap (λ (t : List ℕ). 58 ∷ t) second.0)
     ∙ sym (append_assoc (decimal prefix.0) (58 ∷ decimal bits.0) bits.1)))))
 
--- further parts, so many of them
+-- n further parts
 pub parts_take : (n : ℕ) (text rest : List ℕ) (ps : List Part) → parts_at n text ≡ Some (ps, rest)
     → (text ≡ parts_text ps ++ rest) × (length ps ≡ n)
 unfolding parts_at

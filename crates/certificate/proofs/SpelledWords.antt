@@ -18,7 +18,7 @@ use Rattle.certificate.proofs.NumberTexts.{number_takes}
 use Rattle.certificate.proofs.Spelled.{part_takes, parts_take}
 use Rattle.certificate.proofs.WordTests.{word_passes}
 
--- so many parts, parted by commas
+-- as many parts as segments, parted by commas
 all_parts_take : (segments : ℕ) (text rest : List ℕ) (ps : List Part) → 1 ≤ segments
     → all_parts_at segments text ≡ Some (ps, rest) → (text ≡ word_text ps ++ rest) × (length ps ≡ segments)
 unfolding all_parts_at

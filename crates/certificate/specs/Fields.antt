@@ -101,11 +101,11 @@ parts_at (suc n) text = do
 abbrev pub is_part : Part → Bool
 is_part part = nat_le 1 part.bits && (nat_le part.bits 8 && nat_lt part.prefix (2 ^ part.bits))
 
--- so many parts of a word, parted by commas
+-- `segments` parts of a word, parted by commas
 unfoldable pub all_parts_at : ℕ → List ℕ → Option (List Part × List ℕ)
 all_parts_at segments text = part_at text >>= λ part. with_front (part.0 ∷ []) (parts_at (segments - 1) part.1)
 
--- a word of so many segments, where its parts make one
+-- a word of `segments` segments, where its parts make one
 unfoldable pub word_at : ℕ → List ℕ → Option (List Part × List ℕ)
 word_at segments text = all_parts_at segments text >>= λ word. if list_all is_part word.0 then Some word else None
 

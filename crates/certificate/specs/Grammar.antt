@@ -35,7 +35,7 @@ abbrev pub IsSaid : Said → Type 0
 IsSaid Scanned = Unit {0}
 IsSaid (Bound bound) = bound < 2 ^ 64
 
--- a leaf line has a word of so many segments
+-- a leaf line has a word of `segments` segments
 pub record IsLeafLine (segments : ℕ) (leaf : LeafLine) : Type 0 where
   pub size : length leaf.word ≡ segments
   pub word : IsWord leaf.word

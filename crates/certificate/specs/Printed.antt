@@ -58,7 +58,7 @@ IsRightlySaid a g queues l Scanned = (g.start ≡ Some l) ⊎ (0 < times_taken l
 IsRightlySaid a g queues l (Bound bound) =
     (g.start ≢ Some l) × (times_taken l queues ≡ 0) × (bound ≡ g.bound l) × IsAboveLast a bound
 
--- what is said of the search of an index for a question, over so many queues, is right
+-- what is said of the search of an index for a question, over `queues` queues, is right
 pub record IsRight (a : Question) (queues : ℕ) (ix : IndexParts) (s : SearchSaid) : Type 0 where
   -- the start is the start leaf with the distance of the k-th of its members' pairs
   pub start : s.start ≡ start_of (search_over a ix 1 queues)
@@ -74,8 +74,8 @@ pub record IsRight (a : Question) (queues : ℕ) (ix : IndexParts) (s : SearchSa
   pub said : (l : ℕ) (leaf : LeafLine) → slice_get s.leaves l ≡ Some leaf
       → IsRightlySaid a (search_over a ix 1 queues) s.queues l leaf.said
 
--- these lines certify the answers to a question, by a search over so many queues of the tree that the definition
--- divides the collection into, with leaves of so many members
+-- these lines certify the answers to a question, by a search over `queues` queues of the tree that the definition
+-- divides the collection into with this leaf size
 pub record Certifies (a : Question) (leaf_size queues : ℕ) (s : SearchSaid) : Type 0 where
   pub index : IndexParts
   pub is_index : IsIndex index

@@ -17,7 +17,7 @@ use Rattle.certificate.specs.declared.error.Reject.{Reject}
 use Rattle.certificate.specs.declared.error.Reject.TheVariants as reject
 use Rattle.certificate.specs.Refusals.{when, unless, first_of, first_refusal}
 
--- the lesser of k and the number of series: an answer has so many pairs
+-- how many pairs an answer has: the lesser of k and the number of series
 abbrev pub wanted : Collection → ℕ → ℕ
 wanted rows k = min k (length rows.series)
 
@@ -130,8 +130,8 @@ abbrev pub HaveAnswers : Collection → Collection → ℕ → List Block → Ty
 HaveAnswers rows queries k blocks = (b : ℕ) (block : Block) → slice_get blocks b ≡ Some block
     → block.answers ≡ answer rows (slice_index_or queries.series b []) k
 
--- A block that may be checked under a layout of so many segments: it has at most 2^32 leaf lines, each with a word of
--- these segments, and where the series have labels it has one label an answer.
+-- A block that may be checked under a layout of `segments` segments: it has at most 2^32 leaf lines, each with a word of
+-- as many segments, and where the series have labels it has one label an answer.
 pub record IsFor (segments : ℕ) (labelled : Bool) (block : Block) : Type 0 where
   pub leaves : length block.leaves ≤ 2 ^ 32
   pub words : All (λ leaf. length leaf.word ≡ segments) block.leaves

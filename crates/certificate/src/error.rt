@@ -67,7 +67,7 @@ pub enum Reject {
     NoMemory,
 }
 
-// A last distance as it is told: `none` where it stands for no last answer.
+// A last distance as it is reported: `none` where it stands for no last answer.
 #[derive(Clone, Copy)]
 struct Last(u64);
 

@@ -13,8 +13,9 @@ use memchr::memchr;
 use std::alloc::Global;
 
 /// Reads the text of a certificate whose words have `segments` segments, from 1 to 16. With `labelled` each answer has a
-/// label. `Line(at)`: the first `at` lines are the fewest with which no certificate begins; where there are none such
-/// and a block is not finished, `at` is the number of lines plus 1. Otherwise the answer is the blocks of the text.
+/// label. `Line(at)`: the first `at` lines are the fewest with which no certificate begins; where some certificate begins
+/// with all lines and a block is not finished, `at` is the number of lines plus 1. Otherwise the answer is the blocks of
+/// the text.
 pub fn read(
     alloc: Global,
     bytes: &[u8],
@@ -29,7 +30,7 @@ pub fn read(
     ensures fit { IfOk result (λ blocks. All (IsFor segments labelled) blocks.items) }
     // What the bytes spell is read, unless memory runs out.
     ensures only { (blocks : List Block) → Spells segments labelled bytes.now blocks → ReadsAs result blocks }
-    // A line is told exactly where it is the first with which no certificate begins.
+    // A line is reported exactly where it is the first with which no certificate begins.
     ensures error { IfErr result (IsRightError segments labelled bytes.now) }
 {
     let _length = bytes.len();

@@ -73,7 +73,7 @@ fn long_part(text: &[u8]) -> Option<(Part, &[u8])>
     Some((Part { prefix, bits }, rest))
 }
 
-// So many parts of a word, parted by commas.
+// `segments` parts of a word, parted by commas.
 #[tactic(auto, unfolding(crate::specs::Fields::all_parts_at))]
 fn parts(text: &[u8], segments: u32) -> Option<(Parts, &[u8])>
     requires some { 1 ≤ segments }

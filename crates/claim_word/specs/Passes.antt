@@ -12,7 +12,7 @@ pub record Claim : Type 0 where
   pub count : ℕ
   pub callers : ℕ
 
--- the claims at this place, with this count and so many passes
+-- the claims at this place, with this count and `callers` passes
 abbrev pub claim_of : TableId → ℕ → ℕ → Claim
 claim_of table count callers = record { table = table; count = count; callers = callers }
 

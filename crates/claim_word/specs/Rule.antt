@@ -7,7 +7,7 @@ use Rattle.list_totals.specs.Totals.{total, times, once_below}
 use Rattle.claim_word.specs.declared.rule.View.{View}
 use Rattle.claim_word.specs.declared.rule.Terms.{Terms}
 
--- the record of so many passes that have drawn nothing
+-- the record of `parts` passes that have drawn nothing
 abbrev pub fresh : Terms → ℕ → View
 fresh t parts = record {
   count = t.count;
@@ -53,7 +53,7 @@ taken v n = record v { draws = v.draws ++ n ∷ []; met = n + 1 }
 abbrev pub ended : View → View
 ended v = record v { met = v.count; ends = v.ends + 1 }
 
--- a record fits where so many numbers are drawn: no more passes ended than there are, a record of no pass has no
+-- a record fits where `drawn` numbers are drawn: no more passes ended than there are, a record of no pass has no
 -- draws, its draws are below what it met, and it met no more than is drawn
 pub record Fits (drawn : ℕ) (v : View) : Type 0 where
   pub ends : v.ends ≤ v.parts

@@ -1,4 +1,4 @@
-//! Why words come to no command. Want of memory is told apart from words that ask for nothing.
+//! Why words come to no command. Want of memory is kept apart from words that ask for nothing.
 
 use std::alloc::AllocError;
 use thiserror::Error;

@@ -1,4 +1,4 @@
-//! The k discords: a team of workers finds their numbers, and each of these is then told with its nearest other.
+//! The k discords: a team of workers finds their numbers, and each of these is then reported with its nearest other.
 ghost use Rattle.std.specs.Prelude.{◌≡◌, ◌≤◌, IfOk};
 ghost use Rattle.std.specs.List.{flat_map};
 ghost use Rattle.subtree_build.specs.Fits.{Fits};

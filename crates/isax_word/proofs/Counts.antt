@@ -45,7 +45,7 @@ count_is p a (suc n) (suc k) inside passing failing =
     ∙ ap (λ b. cond b 1 0 + count_by p (range_with_len (a + 1) n)) here
     ∙ one
 
--- what a count tells of a run: so many numbers pass, all before the count and none behind it
+-- what a count c says of a run: the first c numbers pass, and none behind them
 pub record Splits (p : ℕ → Bool) (a n c : ℕ) : Type 0 where
   pub inside : c ≤ n
   pub before : (i : ℕ) → i < c → p (a + i) ≡ true

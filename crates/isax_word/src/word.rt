@@ -86,7 +86,7 @@ impl Word {
 
     /// The word of these prefixes and numbers of bits, one of each for each segment. None exactly where
     /// there are not as many of the one as of the other, or not 1 to 16, or some prefix has more bits than
-    /// are told, or some number of bits is not from 1 to 8.
+    /// its number says, or some number of bits is not from 1 to 8.
     pub fn of_parts(prefixes: &[u8], bits: &[u8]) -> Option<Word>
         ensures accepted { IsSome result ↔ MakeWord prefixes.now bits.now }
         ensures value { IfSome result (λ word. word ≡ parts_of prefixes.now bits.now) }
@@ -120,7 +120,7 @@ impl Word {
         self.parts[j as usize].prefix
     }
 
-    /// How many bits of the symbol of segment `j` are told, from 1 to 8.
+    /// How many bits of the symbol of segment `j` are known, from 1 to 8.
     pub fn bits(&self, j: u32) -> u8
         requires { j < length self.now }
         ensures value { result ≡ (part_at self.now j).bits }

@@ -75,7 +75,7 @@ shuts v q [] h = refl
 shuts v q (e ∷ es) h =
     ap (λ b. cond b (shut_with v q, Closed v) (taken_from e es q, Leaf e)) (above e.bound v h)
 
--- a queue that keeps these entries, of which so many were taken
+-- a queue that keeps these entries, of which the first `next` were taken
 abbrev pub queue_of : List Entry → ℕ → ℕ → Option ℕ → PlainQueue
 queue_of entries next capacity kept = record {
   waiting = ascending (drop next entries);

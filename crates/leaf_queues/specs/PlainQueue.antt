@@ -26,7 +26,7 @@ abbrev pub place : Entry → List Entry → List Entry
 place e [] = e ∷ []
 place e (d ∷ ds) = cond (entry_before d e) (d ∷ place e ds) (e ∷ d ∷ ds)
 
--- a queue with room for so many entries, none of which was put yet
+-- a queue with room for n entries, none of which was put yet
 abbrev pub empty_queue : ℕ → PlainQueue
 empty_queue n = record { waiting = []; taken = []; placed = 0; capacity = n; kept = None }
 

@@ -39,7 +39,7 @@ impl Model for Queue {
 }
 
 impl Queue {
-    /// A queue with room for so many entries, over its whole life.
+    /// A queue with room for `capacity` entries, over its whole life.
     pub fn new(alloc: Global, capacity: u32) -> Result<Queue, NoMemory>
         ensures { IfOk result (λ q. q ≡ empty_queue capacity) }
     {

@@ -7,6 +7,6 @@ use Rattle.live_collection.specs.declared.batch.Batch.{Batch}
 abbrev pub counted_from : ℕ → Pair → Pair
 counted_from first p = record { distance = p.distance; number = first + p.number }
 
--- the batch's series have so many values
+-- the batch's series have n values
 abbrev pub HasPoints : ℕ → Batch → Type 0
 HasPoints n b = b.series.points ≡ n

@@ -32,7 +32,7 @@ pub record MakesCall (k : LiveCollection) (old new : LivePass) (call : Call) (re
   pub legal : IsHistoryOf k (seen_by new)
   pub own : calls_by old.number (seen_by new) ≡ made_by new
 
--- the call that appends a batch, with so many parts
+-- the call that appends a batch, with `parts` parts
 abbrev pub appends : Batch → ℕ → Call
 appends batch parts = Append (record { batch = batch; parts = parts })
 

@@ -88,7 +88,7 @@ fn tell_and_ask<R: Threads + Wait + Sync>(
     Some((reply.count, are_same(&reply.pairs.items, pairs)))
 }
 
-/// What a reader is answered that was told by the writer: how many series stood, and whether the pairs are these.
+/// What the writer and then a reader that it told are answered: how many series stood each time, and whether the pairs are these.
 fn told_and_asked<R: Threads + Wait + Sync>(
     rt: &R,
     alloc: Global,

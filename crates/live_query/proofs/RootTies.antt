@@ -41,7 +41,7 @@ same_no c p ne = grind (arith, nat_tests)
 pub low_or_not : (a b : ℕ) → (a < b) ⊎ (b ≤ a)
 low_or_not a b = grind arith
 
--- the numbers of a group are those from its first on, so many as its size
+-- the numbers of a group are those from its first on, as many as its size
 group_is : (size p c : ℕ) → 0 < size → one_if_same (c / size) p ≡ once_from (p * size) (p * size + size) c
 group_is size p c some =
     let least = div-mul-le_self c size in

@@ -27,7 +27,7 @@ phase_left (Offer ToLook) = 3
 phase_left (Offer (ToAim j)) = 0
 phase_left Done = 0
 
--- so many with its rest
+-- at most how many turns of the fill part are left from this phase, with those for its rest
 abbrev pub own_left : Phase → List ℕ → ℕ
 own_left phase rest = phase_left phase + 5 * length rest
 

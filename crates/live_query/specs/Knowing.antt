@@ -22,7 +22,7 @@ pub record FillServes (w : Working) (h : FillKept) : Type 0 where
   pub queues : h.queues ≡ w.queues
   pub marks : length h.marks ≡ length w.index.leaves
 
--- the worker is not done; some record is what the hand was told, and the worker stands for it
+-- the worker is not done; some record is what the hand was given, and the worker stands for it
 pub record FillKnows (w : Working) (h : FillKept) : Type 0 where
   pub running : w.phase ≢ Done
   pub member : RecordedWorker
@@ -48,7 +48,7 @@ pub record DrainServes (w : Working) (h : DrainKept) : Type 0 where
   pub queues : length h.runs ≡ w.queues
   pub visits : length h.visits ≡ length h.runs
 
--- this record is what the hand was told, and its worker is the one that the code's worker shows
+-- this record is what the hand was given, and its worker is the one that the code's worker shows
 pub record DrainsBy (w : Working) (h : DrainKept) (x : RecordedWorker) : Type 0 where
   pub shows : Shows w x.worker
   pub stands : StandsFor (search_of w 1) w.number x

@@ -43,7 +43,7 @@ pub record LockTied (earlier : Earlier) (h : LockKept) (x : RecordedWorker) : Ty
   pub calls : (m : ℕ) → m < length h.passes → Agrees m x (earlier m ++ calls_at h m)
   pub named : (m l : ℕ) → m < length h.passes → total (puts_at l) (earlier m ++ calls_at h m) ≤ puts_by l x
 
--- this record is what the hand was told, and its worker is the one that the code's worker shows
+-- this record is what the hand was given, and its worker is the one that the code's worker shows
 pub record LocksBy (earlier : Earlier) (w : Working) (h : LockKept) (x : RecordedWorker) : Type 0 where
   pub shows : Shows w x.worker
   pub stands : StandsFor (search_of w 1) w.number x

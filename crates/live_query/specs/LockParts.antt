@@ -31,7 +31,7 @@ pub record AreFronts (old : List Row) (fronts : List QueuePass) (new : List Row)
   pub each : (j : ℕ) (p : QueuePass) (rest : Row) (row : Row) → slice_get old j ≡ Some row
       → slice_get fronts j ≡ Some p → slice_get new j ≡ Some rest → row.items ≡ p ∷ rest.items
 
--- the passes of a lock with the numbers from n on, so many as callers
+-- the passes of a lock with the numbers from n on, below the number of its callers
 pub record DealtFrom (lock : QueueLock) (n : ℕ) (row : List QueuePass) : Type 0 where
   pub count : n + length row ≡ callers_of lock
   pub each : (j : ℕ) (p : QueuePass) → slice_get row j ≡ Some p → IsNewPass lock (n + j) p
@@ -56,12 +56,12 @@ calls_in_row (Some row) m = calls_of (slice_get row.items m)
 abbrev pub calls_in : List Row → ℕ → ℕ → History
 calls_in rows i m = calls_in_row (slice_get rows i) m
 
--- locks round these queues, for so many callers
+-- locks round these queues, for `callers` callers each
 pub record AreRound (queues : List PlainQueue) (callers : ℕ) (locks : List QueueLock) : Type 0 where
   pub openings : map opening_of locks ≡ queues
   pub each : (m : ℕ) (k : QueueLock) → slice_get locks m ≡ Some k → callers_of k ≡ callers
 
--- one history of calls leads from a queue to what it is later; it has calls of so many callers alone, and those of each are these
+-- one history of calls leads from a queue to what it is later; it has calls of callers below `callers` alone, and those of each are these
 pub record WentBy (callers : ℕ) (calls : ℕ → History) (q r : PlainQueue) : Type 0 where
   pub log : History
   pub leads : Leads q log r
@@ -102,7 +102,7 @@ pub record AreEquipped (roots : Roots) (locks : List QueueLock) (team : List Bet
   pub hands : (i : ℕ) (c : Between) (d : Locking) → slice_get team i ≡ Some c → slice_get cells i ≡ Some d
       → HasNew roots locks i c.hand d.hand
 
--- a searcher over so many queues that has not called at them yet
+-- a searcher over `queues` queues that has not called at them yet
 pub record IsServed (roots : Roots) (best : Best) (queues : ℕ) (c : Between) : Type 0 where
   pub shown : Worker
   pub shows : Shows c.worker shown

@@ -56,7 +56,7 @@ AllDrainOn old new =
     → DrainsOn (slice_index_or old i d).worker (slice_index_or old i d).hand
     (slice_index_or new i d).worker (slice_index_or new i d).hand
 
--- the searcher with its draws of these root children, over so many queues, with no mark of any of so many leaves
+-- the searcher with its draws of these root children, over `queues` queues, with no mark of any of `leaves` leaves
 abbrev pub filling : Roots → ℕ → ℕ → Between → Filling
 filling roots queues leaves c = record {
   worker = c.worker;
@@ -81,7 +81,7 @@ resting c = record {
   turn = c.turn;
 }
 
--- the searcher with fresh visits of these runs, where there are so many root children
+-- the searcher with fresh visits of these runs, where there are `roots` root children
 abbrev pub draining : List Run → ℕ → Resting → Draining
 draining runs roots c = record {
   worker = c.worker;
@@ -98,7 +98,7 @@ marks_of team = map (λ (c : Resting). c.hand.marks) team
 abbrev pub AreEntriesOf : Question → IndexParts → List Resting → List Entry → Type 0
 AreEntriesOf a ix team es = AreMarked (view_in a) ix (marks_of team) (length ix.leaves) es
 
--- run m of so many has those of the leaves that belong to queue m
+-- each run m of `queues` has those of the leaves that belong to queue m
 abbrev pub AreRunsOf : Question → IndexParts → List Resting → ℕ → List Run → Type 0
 AreRunsOf a ix team queues runs =
     (m : ℕ) → m < queues

@@ -5,7 +5,7 @@ use Rattle.list_totals.specs.Standing.{In}
 use Rattle.claim_word.specs.Passes.{Claim as Counter, Pass, drew}
 use Rattle.search_machine.specs.OwnRecord.{claims_of}
 
--- how many groups of so many are cut from a count
+-- how many groups of `size` are cut from `count`
 abbrev pub group_count : ℕ → ℕ → ℕ
 group_count size count = (count + (size - 1)) / size
 

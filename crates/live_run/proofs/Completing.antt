@@ -217,7 +217,7 @@ script_excused reading name groups (Mismatch l a b) told holds x = absurd x
 script_excused reading name groups WriteFault told holds x = absurd x
 script_excused reading name groups (Full b t) told holds x = absurd x
 
--- what is held is told, and its bytes are so
+-- what is held is known, and its bytes are so
 known : (held : Option Held) (name : List ℕ) (P : List ℕ → Type 0) → IsSomeAnd held (λ h. IsHeldAs h name P)
     → IsTold held × HoldsBytes held name P
 known None name P is = absurd is

@@ -1,4 +1,4 @@
--- Where the files are told, a named file holds one thing, and what is held is not refused.
+-- Where the files' contents are known, a named file holds one thing, and what is held is not refused.
 use Rattle.std.proofs.Common.{◌≡◌, ℕ, ◌≤◌, List, [], ◌∷◌, ◌++◌, Option, None, Some, IfSome, inl, inr, ap, sym, ◌∙◌, subst, refl}
 use Rattle.std.specs.Prelude.{IsSomeAnd, ⊤}
 use Rattle.std.specs.List.{AllZip}
@@ -16,7 +16,7 @@ use Rattle.live_run.specs.Traffic.{Reading}
 use Rattle.live_run.specs.declared.status.LiveStatus.{LiveStatus}
 use Rattle.live_run.specs.declared.status.LiveStatus.TheVariants.{Done, Usage, Missing, ReadFault, Format, Mismatch, WriteFault, Memory, Script, Full}
 
--- the files are told
+-- the files' contents are known
 abbrev pub IsTold : Option Held → Type 0
 IsTold held = IsSomeAnd held (λ _. ⊤)
 

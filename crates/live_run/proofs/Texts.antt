@@ -28,7 +28,7 @@ longer s more = record {
 within : (s : Scene) (m : ℕ) → s.before ≤ s.after → (m ≡ s.before) ⊎ (m ≡ s.after) → m ≤ s.after
 within s m le is = ⊎_elim (λ (e : m ≡ s.before). omega (arith, e, le)) (λ (e : m ≡ s.after). omega (arith, e)) is
 
--- series behind those that are told of change no text
+-- further series behind those of the scene change no text
 queries_over : (s : Scene) (more : List (List ℤ)) (i least : ℕ) (qs : List Query) (text : List ℕ) (last : ℕ)
     → s.before ≤ s.after → s.after ≤ length s.series
     → IsQueriesText s i least qs text last → IsQueriesText (longer s more) i least qs text last

@@ -66,7 +66,7 @@ scene_more n bs b = record {
   after = length (series_of bs) + length b.series.series;
 }
 
--- the batches that stand before the append or behind it have the first series, and so many
+-- the batches that stand before the append or behind it have the first series, as many as stood before it or stand behind it
 first_series : (n : ℕ) (bs next : List Batch) (b : Batch) → (next ≡ bs) ⊎ (next ≡ bs ++ b ∷ [])
     → ((length (series_of next) ≡ (scene_more n bs b).before) ⊎ (length (series_of next) ≡ (scene_more n bs b).after))
     × (series_of next ≡ take (length (series_of next)) (scene_more n bs b).series)

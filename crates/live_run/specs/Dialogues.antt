@@ -84,7 +84,7 @@ pub record HasTaken (cs : List Contents) (s : Dialogue) : Type 0 where
   pub batches : AreBatchesOf cs (batches_of s.writer)
   pub asked : s.asked ≡ length (all_queries cs)
 
--- the dialogue began with the first of these groups and took them all; where there are none it did not begin
+-- the dialogue began with the first of these groups and took them all; where there are no groups it did not begin
 abbrev pub Stands : List Contents → Option Dialogue → Type 0
 Stands [] (Some s) = ⊥
 Stands [] None = Unit {0}

@@ -74,7 +74,7 @@ abbrev pub ended : Result (Unit {0}) LiveStatus → LiveStatus
 ended (Ok _) = Done
 ended (Err status) = status
 
--- nothing keeps a run from its work: the words name a script, the files are told, and all that it names is held and finds room
+-- nothing keeps a run from its work: the words name a script, the files' contents are known, and all that it names is held and finds room
 abbrev pub CanRun : List (List ℕ) → Option Held → Type 0
 CanRun words held = (name : List ℕ) × Names words name × (groups : List Group) × (contents : List Contents)
     × IsSomeAnd held (λ h. IsHeldAs h name (IsShortScript groups)) × AllPass held [] groups contents
@@ -88,7 +88,7 @@ IsAnswered faults later lost more (ReadFault line) = Rose faults later
 IsAnswered faults later lost more WriteFault = Rose lost more
 IsAnswered faults later lost more _ = ⊥
 
--- a status tells a cause that shows in the bytes of a file: neither a failed read nor want of memory is told as one
+-- a status tells a cause that shows in the bytes of a file: neither a failed read nor want of memory is reported as one
 abbrev pub TellsCause : LiveStatus → Type 0
 TellsCause (Format line e) = IsShown e
 TellsCause _ = Unit {0}

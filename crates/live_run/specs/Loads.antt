@@ -19,7 +19,7 @@ use Rattle.live_run.specs.declared.status.LiveStatus.TheVariants.{Missing, ReadF
 abbrev pub IsHeldAs : Held → List ℕ → (List ℕ → Type 0) → Type 0
 IsHeldAs h name IsSo = (bytes : List ℕ) × (h name ≡ Some bytes) × IsSo bytes
 
--- where told, the name is held, and this is so of its bytes
+-- where known, the name is held, and this is so of its bytes
 abbrev pub HoldsBytes : Option Held → List ℕ → (List ℕ → Type 0) → Type 0
 HoldsBytes held name IsSo = IfSome held (λ h. IsHeldAs h name IsSo)
 
@@ -37,7 +37,7 @@ RefusesNamed line Shows reading name status = Shows status
 abbrev pub Spells : Collection → List ℕ → Type 0
 Spells rows bytes = (labels : Option (List ℕ)) × IsFile Headed bytes rows labels
 
--- where told, the name is held as a series file of this collection
+-- where known, the name is held as a series file of this collection
 abbrev pub HoldsFile : Option Held → List ℕ → Collection → Type 0
 HoldsFile held name rows = HoldsBytes held name (Spells rows)
 
@@ -101,6 +101,6 @@ pub record IsShortScript (groups : List Group) (bytes : List ℕ) : Type 0 where
   pub spelled : IsScript bytes groups
   pub only : (others : List Group) → IsScript bytes others → groups ≡ others
 
--- bytes are the text of this script, and where told the name is held with them
+-- bytes are the text of this script, and where known the name is held with them
 abbrev pub HoldsScript : Option Held → List ℕ → List Group → Type 0
 HoldsScript held name groups = (bytes : List ℕ) × IsShortScript groups bytes × HoldsBytes held name (λ b. b ≡ bytes)

@@ -6,7 +6,7 @@ use Rattle.series_core.specs.declared.pair.Pair.{Pair}
 use Rattle.live_run.specs.declared.group.Contents.{Contents}
 use Rattle.live_run.specs.declared.group.QueryFile.{QueryFile}
 
--- the line of query i, over so many series
+-- the line of query i, over `count` series
 abbrev pub query_line : ℕ → ℕ → List ℕ
 query_line i count = codes "query " ++ decimal i ++ codes " count " ++ decimal count ++ 10 ∷ []
 
@@ -19,7 +19,7 @@ abbrev pub answer_lines : ℕ → List Pair → List ℕ
 answer_lines r [] = []
 answer_lines r (p ∷ ps) = answer_line r p ++ answer_lines (r + 1) ps
 
--- the text of query i over so many series, with these answers
+-- the text of query i over `count` series, with these answers
 abbrev pub query_text : ℕ → ℕ → List Pair → List ℕ
 query_text i count pairs = query_line i count ++ answer_lines 1 pairs
 

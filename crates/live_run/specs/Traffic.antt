@@ -6,7 +6,7 @@ use Rattle.outside.specs.Files.{Held}
 use Rattle.outside.specs.Sink.{AppendsPrefix}
 
 -- What was handed in to read from, and what reading did: the files, the counts of faults and of absent names
--- before and after, and the name of the file that failed. Files and name are there where they are told.
+-- before and after, and the name of the file that failed. Files and name are there where they are known.
 pub record Reading : Type 0 where
   pub held : Option Held
   pub faults : ℕ
@@ -15,7 +15,7 @@ pub record Reading : Type 0 where
   pub more : ℕ
   pub blamed : Option (List ℕ)
 
--- What was handed in to write to, and what writing did: the bytes before and after, where told, and the count of
+-- What was handed in to write to, and what writing did: the bytes before and after, where known, and the count of
 -- faults before and after.
 pub record Writing : Type 0 where
   pub before : Option (List ℕ)

@@ -10,7 +10,7 @@ use Rattle.live_script.specs.Grammar.{IsGroup, IsScript, IsFault, AddsLine, None
 use Rattle.live_script.proofs.Cuts.{lacks_not, same_cut}
 use Rattle.live_script.proofs.LineLists.{AreLines, IsLine, all_middle, text_cons, text_push, text_size, same_lines, script_are_lines, script_one_line}
 
--- so many lines are read, as these groups, and the rest is left
+-- the first `at` lines are read, as these groups, and the rest is left
 pub record Walk (bytes rest : List ℕ) (at : ℕ) (groups : List Group) : Type 0 where
   pub right : AllByRecursion IsGroup groups
   pub numbers : script_numbers groups ≡ range_with_len 1 at

@@ -16,7 +16,7 @@ ReadsAs (Ok found) groups = found ≡ groups
 ReadsAs (Err NoMemory) groups = Unit {0}
 ReadsAs (Err (Line at)) groups = ⊥
 
--- this line is told, unless memory runs out
+-- this line is reported, unless memory runs out
 abbrev pub RefusesAt : Result (List Group) ScriptError → ℕ → Type 0
 RefusesAt (Ok found) at = ⊥
 RefusesAt (Err NoMemory) at = Unit {0}

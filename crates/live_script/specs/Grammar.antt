@@ -48,7 +48,7 @@ pub record IsScript (bytes : List ℕ) (groups : List Group) : Type 0 where
   pub numbers : script_numbers groups ≡ range_with_len 1 (length (script_lines groups))
   pub text : bytes ≡ script_text groups
 
--- the bytes begin with so many lines of a script
+-- the bytes begin with `count` lines of a script
 pub record Begins (count : ℕ) (bytes : List ℕ) : Type 0 where
   pub groups : List Group
   pub rest : List ℕ

@@ -22,7 +22,7 @@ pub record IsCount (text : List ℕ) (k : ℕ) : Type 0 where
   pub most : k ≤ 1024
   pub spelled : text ≡ decimal k
 
--- the queries of a file may be asked for so many series
+-- the queries of a file may be asked for k series
 pub record IsAsked (name : List ℕ) (k : ℕ) : Type 0 where
   pub named : IsName name
   pub least : 1 ≤ k

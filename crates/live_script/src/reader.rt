@@ -21,9 +21,9 @@ pub fn read_script(alloc: Global, bytes: &[u8]) -> Result<Script, ScriptError>
     ensures found { IfOk result (λ script. IsScript bytes.now script) }
     // What the bytes are the text of is read, unless memory runs out.
     ensures only { (script : List Group) → IsScript bytes.now script → ReadsAs result script }
-    // A line is told only where it is the first that is not in the grammar.
+    // A line is reported only where it is the first that is not in the grammar.
     ensures error { IfErr result (IsRightError bytes.now) }
-    // The first line that is not in the grammar is told, unless memory runs out.
+    // The first line that is not in the grammar is reported, unless memory runs out.
     ensures refused { (at : ℕ) → IsFault bytes.now at → RefusesAt result at }
 {
     let _length = bytes.len();

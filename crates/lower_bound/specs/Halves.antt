@@ -23,7 +23,7 @@ high_segments w = w - 8
 abbrev pub low_segments : ℕ → ℕ
 low_segments w = w - high_segments w
 
--- a list that holds at each number of so many bits the bound of its bits, of which the first is that of segment first
+-- a list that holds at each number of `count` bits the bound of its bits, of which the first is that of segment `first`
 pub record HoldsBounds (view : View) (first count : ℕ) (bounds : List ℕ) : Type 0 where
   pub whole : length bounds ≡ 256
   pub each : (x : ℕ) → x < 2 ^ count → slice_index bounds x ≡ parts_bound view first (one_bit_word x count)

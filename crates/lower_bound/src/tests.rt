@@ -202,7 +202,7 @@ fn bounds_of_root_rows(rt: HostRuntime) -> Result<(), Fail> {
     Ok(())
 }
 
-/// Compares the bounds of 512 root numbers of so many segments with those of their words.
+/// Compares the bounds of 512 root numbers of `segments` segments with those of their words.
 fn compare_roots(rt: &impl Abort, table: Table, segments: u32) {
     assert!(rt; 1 <= segments && segments <= 16, "{segments} segments");
     let query: [i16; 18] = [

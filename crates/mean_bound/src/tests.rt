@@ -86,7 +86,7 @@ fn plain_bound(series: &[i16], query: &[i16], w: usize) -> u64 {
     (squares.unsigned_abs()).wrapping_mul((n / w) as u64)
 }
 
-/// Values scattered over so many bits.
+/// Values scattered over `bits` bits.
 fn scattered(seed: u64, bits: u32) -> [i16; 300] {
     let mut state = seed;
     let mut values = [0; 300];

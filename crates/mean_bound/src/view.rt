@@ -87,7 +87,7 @@ impl MeanView {
     }
 }
 
-/// The least mean without a gap for a raised sum of so many values.
+/// The least mean without a gap for `length` values whose raised sum is `sum`.
 fn low_mean(sum: u32, length: u32) -> u16
     requires some { 1 ≤ length }
     requires limit { sum ≤ 65535 * length }
@@ -96,7 +96,7 @@ fn low_mean(sum: u32, length: u32) -> u16
     ((u64::from(sum) + 1) / u64::from(length)).saturating_sub(1) as u16
 }
 
-/// The greatest mean without a gap for a raised sum of so many values.
+/// The greatest mean without a gap for `length` values whose raised sum is `sum`.
 fn high_mean(sum: u32, length: u32) -> u16
     requires some { 1 ≤ length }
     requires limit { sum ≤ 65535 * length }

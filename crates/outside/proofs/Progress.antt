@@ -3,7 +3,7 @@ use Rattle.std.proofs.Common.{◌≡◌, ℕ, ◌+◌, ◌-◌, ◌<◌, ◌≤�
 use Rattle.std.proofs.Math.Seq.{take-add, take-length}
 use Rattle.std.specs.Io.KnownBytes.{append_known}
 
--- the first `done` bytes were written, at no fault where so many bytes are sure
+-- the first `done` bytes were written, at no fault where all bytes are sure
 pub record Progress {S : Type 0} (written : S → Option (List ℕ)) (faults sure : S → ℕ)
     (first now : S) (bytes : List ℕ) (done : ℕ) : Type 0 where
   pub within : done ≤ length bytes

@@ -36,7 +36,7 @@ open_name files file = option_and_then (λ f. name_at files f.place) file
 abbrev pub IsAmongHeld : List HeldFile → OpenFile → Type 0
 IsAmongHeld files file = (file.place < length files) × (file.taken ≤ length (bytes_at files file.place))
 
--- the open file after so many more bytes were taken
+-- the open file after `count` more bytes were taken
 abbrev pub moved_on : OpenFile → ℕ → OpenFile
 moved_on file count = record { place = file.place; taken = file.taken + count }
 

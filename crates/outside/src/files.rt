@@ -1,4 +1,4 @@
-//! Files by name, one of them open at a time. What they hold is told in memory alone; that a call failed is always told.
+//! Files by name, one of them open at a time. What they hold is known of files in memory alone; that a call failed is always known.
 ghost use Rattle.std.specs.Prelude.{◌≡◌, ◌≢◌, ℕ, ◌<◌, ◌≤◌, List, length, take, IsSome, IfSome, IfOk, OnOk, OnErr, IsOk, IsErrOf, Option};
 ghost use Rattle.std.specs.Io.KnownBytes.{prepend_known, IsAtEnd};
 ghost use Rattle.outside.specs.declared.faults.OpenFault.TheVariants.{Absent, Failed as OpenFailed};
@@ -9,16 +9,16 @@ use crate::{Failed, OpenFault};
 
 /// Files that are opened by name and read from the front, one at a time.
 pub trait Files {
-    /// The bytes held under each name, where told. They never change.
+    /// The bytes held under each name, where known. They never change.
     ghost held: { Self → Option Held };
 
-    /// What is left of the open file, where told; with no file open, nothing.
+    /// What is left of the open file, where known; with no file open, nothing.
     ghost left: { Self → Option (List ℕ) };
 
-    /// The name of the open file, where told and where one is open.
+    /// The name of the open file, where known and where one is open.
     ghost at: { Self → Option (List ℕ) };
 
-    /// The name, where told, of the file whose opening or reading last answered Failed.
+    /// The name, where known, of the file whose opening or reading last answered Failed.
     ghost blamed: { Self → Option (List ℕ) };
 
     /// How often the outside failed.

@@ -43,7 +43,7 @@ pub fn read_all<F: Files>(alloc: Global, files: &mut F, limit: u64) -> Result<Ve
     }
 }
 
-/// So many zeros.
+/// `count` zeros.
 fn zeros(alloc: Global, count: usize) -> Result<Vec<u8>, AllocError>
     ensures { IfOk result (λ bytes. length bytes.items ≡ count) }
 {

@@ -1,4 +1,4 @@
-//! Where text is written. What was written is told in memory alone; that a write failed is always told.
+//! Where text is written. What was written is known of a sink in memory alone; that a write failed is always known.
 ghost use Rattle.std.specs.Prelude.{◌≡◌, ℕ, ◌+◌, ◌<◌, ◌≤◌, List, length, take, IfOk, OnErr, IsOk, Option};
 ghost use Rattle.std.specs.Io.KnownBytes.{append_known};
 ghost use Rattle.outside.specs.Count.{Rose};
@@ -7,13 +7,13 @@ use crate::Failed;
 
 /// Where bytes are written, one after another.
 pub trait Sink {
-    /// All bytes written so far, where told.
+    /// All bytes written so far, where known.
     ghost written: { Self → Option (List ℕ) };
 
     /// How often the outside failed.
     ghost faults: { Self → ℕ };
 
-    /// So many more bytes are taken for sure, with no fault, in whatever pieces they come.
+    /// How many more bytes are taken for sure, with no fault, in whatever pieces they come.
     ghost sure: { Self → ℕ };
 
     /// Appends the first of these bytes, and says how many: at least one, where there are any.

@@ -46,7 +46,7 @@ module _ (g : Ground) (m : ℕ) (low : m < g.queues) where
       all : (m n : ℕ) → m < n → once_below m n ≡ 1
       all m n inside = grind (arith, nat_tests)
 
-  -- so many leaves belong to a queue
+  -- how many leaves belong to a queue
   pub room_of : (leaves : ℕ)
       → capacity_of g m leaves ≡ leaves / g.queues + once_below m (leaves % g.queues)
   room_of leaves =

@@ -11,7 +11,7 @@ pub record IsHeld (h : Held) : Type 0 where
   pub claimed : h.claimed ≤ h.roots
   pub few : length h.queues ≤ 64
 
--- what is held as a search opens, with this floor, so many root children and this limit: no root child is claimed, the word
+-- what is held as a search opens, with this floor, `roots` root children and this limit: no root child is claimed, the word
 -- is the limit, and each queue is empty with room for all leaves that belong to it
 abbrev pub opening_hand : Ground → ℕ → ℕ → ℕ → Held
 opening_hand g floor roots limit = record {

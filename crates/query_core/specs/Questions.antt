@@ -51,7 +51,7 @@ leaf_bound view ix l = word_bound view (leaf_at ix.leaves l).word
 abbrev pub leaf_series : IndexParts → ℕ → List ℕ
 leaf_series ix l = numbers_of (leaf_at ix.leaves l).members
 
--- what the search of an index for the answer stands on, by so many workers over so many queues
+-- what the search of an index for the answer stands on, by `workers` workers over `queues` queues
 abbrev pub search_over : Question → IndexParts → ℕ → ℕ → Ground
 search_over a ix workers queues = record {
   distance = λ s. squared_distance (series_at a.collection s) a.query;

@@ -69,7 +69,7 @@ pub record EndsIn (ws : List Working) (ls : List QueueLine) (s : State) : Type 0
   pub workers : AreShown ws s.workers
   pub lines : ls ≡ map line_of s.queues
 
--- the team stands for the state to which so many turns of worker 0 lead, and all workers are done in it
+-- the team stands for the state to which `turns` turns of worker 0 lead, and all workers are done in it
 pub record EndsAlone (t : TeamParts) : Type 0 where
   pub turns : ℕ
   pub stands : StandsAt t (played (searched t) (replicate turns 0))

@@ -12,7 +12,7 @@ use Rattle.query_core.specs.Questions.{last_of, search_over}
 use Rattle.search_machine.specs.Replies.{ReplyFits, after}
 use Rattle.query_core.specs.Working.{IsOf, Working, Shows}
 
--- what the code's worker searches, where there are so many workers
+-- what the code's worker searches, where there are `workers` workers
 abbrev pub search_of : Working → ℕ → Ground
 search_of w workers = search_over w.question w.index workers w.queues
 

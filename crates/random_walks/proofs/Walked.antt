@@ -34,7 +34,7 @@ values_next x i old values next value here before grown =
     ∙ ap (λ v. old ++ (front ++ v ∷ [])) here
     ∙ ap (λ zs. old ++ zs) (sym (map-range_with_len_more (value_at x) 1 i (i + 1) (omega arith)))
 
--- so many words and then more
+-- a words and then b more lead where a + b words lead
 pub state_at-add : (x a b : ℕ) → state_at (state_at x a) b ≡ state_at x (a + b)
 state_at-add x a zero = let same : a ≡ a + 0 = omega arith in ap (state_at x) same
 state_at-add x a (suc b) =
@@ -93,7 +93,7 @@ pub walks_size : (n x count : ℕ) → length (joined (first_walks n x count)) �
 walks_size n x count =
     length-joined n x (range_with_len 0 count) ∙ ap (λ m. m * n) (length-range_with_len 0 count)
 
--- the values of so many walks: they are all there, and make so many rows of n values
+-- the values of m walks: they are all there, and make m rows of n values
 pub record Whole (n x m long : ℕ) (all : List ℤ) : Type 0 where
   pub values : all ≡ joined (first_walks n x m)
   pub size : long ≡ m * n

@@ -39,6 +39,6 @@ walk_number n x i = walk n (state_at x (i * n))
 abbrev pub first_walks : ℕ → ℕ → ℕ → List (List ℤ)
 first_walks n x count = map (walk_number n x) (range_with_len 0 count)
 
--- the collection of so many walks of n values from this state
+-- the collection of `count` walks of n values from this state
 abbrev pub walks_from : ℕ → ℕ → ℕ → Collection
 walks_from n x count = record { points = n; series = first_walks n x count }

@@ -22,7 +22,7 @@ pub fn generator(seed: u64) -> SplitMix64
     SplitMix64::from_seed(seed.to_le_bytes())
 }
 
-/// So many walks of `length` values each, drawn one after another; the generator goes on behind the last.
+/// `count` walks of `length` values each, drawn one after another; the generator goes on behind the last.
 pub fn walks(alloc: Global, rng: &mut SplitMix64, count: u32, length: u32) -> Result<Flat, NoMemory>
     requires some_point { 0 < length }
     requires length_limit { length ≤ MAX_LENGTH }

@@ -12,7 +12,7 @@ use Rattle.range_query.specs.Near.{group_count, group_of}
 pub range_more : (a n : ℕ) → range_with_len a (n + 1) ≡ range_with_len a n ++ (a + n) ∷ []
 range_more a n = range_parts a n 1
 
--- so many groups have the numbers up to the end of the last of them
+-- the first k groups have the numbers up to the end of the last of them
 first_groups : (size count k : ℕ)
     → flat_map (group_of size count) (range_with_len 0 k) ≡ range_with_len 0 (min count (k * size))
 first_groups size count zero = ap (range_with_len 0) none

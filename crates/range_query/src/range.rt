@@ -70,7 +70,7 @@ fn group_size(roots: u32, workers: u32) -> u32
     (roots / (8 * workers)).clamp(1, 64)
 }
 
-/// How many groups of so many root children there are.
+/// The number of groups of at most `size` into which `roots` root children fall.
 fn groups(roots: u32, size: u32) -> u64
     requires size { 1 ≤ size }
     ensures value { result ≡ group_count size roots }

@@ -1,4 +1,4 @@
-//! The files of the operating system. What they hold is not told; each refusal is counted.
+//! The files of the operating system. What they hold is not known; each refusal is counted.
 ghost use Rattle.std.specs.Prelude.{◌≡◌, ◌≤◌, length, take, IsSome, IfOk, OnOk, OnErr, IsErrOf, None};
 ghost use Rattle.std.specs.Io.KnownBytes.{Consumes};
 ghost use Rattle.outside.specs.declared.faults.OpenFault.TheVariants.{Absent, Failed as OpenFailed};

@@ -1,4 +1,4 @@
-//! A stream of the operating system to write to. What was written is not told; each refusal is counted.
+//! A stream of the operating system to write to. What was written is not known; each refusal is counted.
 ghost use Rattle.std.specs.Prelude.{◌≡◌, ◌<◌, ◌≤◌, length, take, IfOk, OnErr, None};
 ghost use Rattle.std.specs.Io.KnownBytes.{Appends, Keeps};
 ghost use Rattle.outside.specs.Count.{Rose};

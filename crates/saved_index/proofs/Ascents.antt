@@ -1,4 +1,4 @@
--- Members that strictly ascend by number, told pair by pair (`ascend_told`), and two that do not (`not_ascending`).
+-- Members that strictly ascend by number, stated pair by pair (`ascend_told`), and two that do not (`not_ascending`).
 use Rattle.std.proofs.Common.{◌≡◌, ℕ, ◌+◌, ◌-◌, ◌<◌, ◌≤◌, List, [], ◌∷◌, length, get_or, subst, arith}
 use Rattle.std.specs.List.Sorted.{IsStrictlyIncreasing}
 use Rattle.std.proofs.lemmas.List.{get_or-map, length-map}

@@ -53,7 +53,7 @@ pub not_index : (bytes : List ℕ) (c : Collection) (e : IndexFault) → length 
 not_index bytes c e short refused is =
     ⊎_elim (λ same. inr (short_fault bytes c None short (refused same) ∙ ap Some (sym same))) (λ left. inl left) is
 
--- the bytes that were read, where told, have no other fault
+-- the bytes that were read, where known, have no other fault
 told : (c : Collection) (before : Option (List ℕ)) (bytes : List ℕ) (e : IndexFault) → IfSome before (λ rest. bytes ≡ rest)
     → index_fault bytes c ≡ Some e → IfSome before (λ rest. index_fault rest c ≡ Some e)
 told c before bytes e are fault =

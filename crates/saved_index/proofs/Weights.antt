@@ -37,7 +37,7 @@ one_weight : (i n a b : ℕ) → (i ≡ n → a ≡ b) → one_if_same i n * a �
 one_weight i n a b same =
     cond_both (eqb i n) 1 0 (λ k. k * a ≡ k * b) (λ is. ap (λ x. 1 * x) (same (eqb-true i n is))) (λ _. omega arith)
 
--- one of so many more, times 1 or 2
+-- one * f and t * f together are (one + t) * f, where f is 1 or 2
 one_more : (one t f : ℕ) → (f ≡ 1) ⊎ (f ≡ 2) → one * f + t * f ≡ (one + t) * f
 one_more one t f is =
     let once : one * 1 + t * 1 ≡ (one + t) * 1 = omega arith in

@@ -1,5 +1,5 @@
 -- Members that are made of numbers: they have these numbers (`lists_back`), they are series (`are_series`) with their own words
--- (`have_words`) of so many segments (`have_segments`).
+-- (`have_words`), of the layout's number of segments (`have_segments`).
 use Rattle.std.proofs.Common.{◌≡◌, ℕ, ◌<◌, List, [], ◌∷◌, length, map, get_or, refl, sym, ap, ◌∙◌, subst, arith, All}
 use Rattle.std.proofs.Math.ListN.{get_or-map}
 use Rattle.std.proofs.lemmas.List.{length-map, get_or-map as word_there}

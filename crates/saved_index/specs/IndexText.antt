@@ -21,7 +21,7 @@ filled leaves absent = absent
 filled leaves (leaf l) = leaf (numbers_in_leaf leaves l)
 filled leaves (split segment low high) = split segment (filled leaves low) (filled leaves high)
 
--- the header of settings, for so many series
+-- the header of settings, for `count` series
 abbrev pub header_for : Settings → ℕ → Header
 header_for settings count = record {
   segments = settings.layout.cuts.segments;
@@ -39,7 +39,7 @@ saved_of settings count ix = record {
   nodes = map (λ node. filled ix.leaves (outline node)) ix.nodes;
 }
 
--- the bytes are the text of an index of so many series, built with these settings
+-- the bytes are the text of an index of `count` series, built with these settings
 abbrev pub IndexText : List ℕ → Settings → ℕ → IndexParts → Type 0
 IndexText bytes settings count ix = IsTextOf bytes (saved_of settings count ix)
 
@@ -54,7 +54,7 @@ abbrev pub HasSaved : ℕ → TreeLeaf → Type 0
 HasSaved count x = AreSaved count x.members
 
 -- an index that can be saved: it has the settings' number of segments, the count and the leaf size are within their limits, and
--- each leaf holds members of a collection of so many series
+-- each leaf holds members of a collection of `count` series
 pub record CanSave (settings : Settings) (count : ℕ) (ix : IndexParts) : Type 0 where
   pub segments : ix.segments ≡ settings.layout.cuts.segments
   pub count_limit : count ≤ 16777216

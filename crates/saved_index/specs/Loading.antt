@@ -40,17 +40,17 @@ pub record IsSavedFor (c : Collection) (bytes : List ℕ) (r : Spelled) : Type 0
 abbrev pub Refuses : Collection → List ℕ → IndexFault → Type 0
 Refuses c bytes e = (e ≡ NoMemory) ⊎ (index_fault bytes c ≡ Some e)
 
--- The file was read to its end, and its bytes, where told, are the text of what was loaded.
+-- The file was read to its end, and its bytes, where known, are the text of what was loaded.
 abbrev pub LoadsWhole : Collection → Option (List ℕ) → Option (List ℕ) → LoadedIndex → Type 0
 LoadsWhole c before now loaded = IsAtEnd now × IfSome before (IsTextFor c loaded)
 
--- The refusal is what the file's bytes, where told, have against the collection, or one that no bytes explain.
+-- The refusal is what the file's bytes, where known, have against the collection, or one that no bytes explain.
 abbrev pub Explains : Collection → Option (List ℕ) → IndexFault → Type 0
 Explains c before ReadFault = ⊤
 Explains c before NoMemory = ⊤
 Explains c before e = IfSome before (λ bytes. index_fault bytes c ≡ Some e)
 
--- What a refusal leaves of the file, where told: of one that is too long what lies behind one byte more than the limit, where memory ran
+-- What a refusal leaves of the file, where known: of one that is too long what lies behind one byte more than the limit, where memory ran
 -- out that or more, or nothing, and after a failed read anything; else nothing.
 abbrev pub Leaves : Option (List ℕ) → Option (List ℕ) → IndexFault → Type 0
 Leaves before now ReadFault = ⊤

@@ -19,7 +19,7 @@ abbrev pub then_read : {A B : Type 0} → Read A → (A → List ℕ → Read B)
 then_read None f = None
 then_read (Some p) f = f p.0 p.1
 
--- so many numbers of four bytes, each at least one above the one before, the first at least `from`, and all below the count
+-- as many numbers of four bytes as asked for, each at least one above the one before, the first at least `from`, and all below the count
 unfoldable pub numbers_in : ℕ → ℕ → ℕ → List ℕ → Read (List ℕ)
 numbers_in zero from count bytes = Some ([], bytes)
 numbers_in (suc k) from count bytes =
@@ -45,7 +45,7 @@ abbrev pub is_split_of : List Part → ℕ → ℕ → Bool
 is_split_of word kind segment =
     nat_le kind 3 && (nat_lt segment (length word) && nat_lt (part_at word segment).bits 8)
 
--- a node of a word that lacks so many bits: a leaf behind 0, and else a split, with a low child unless its byte is 2 and a
+-- a node of a word that lacks `lacking` bits: a leaf behind 0, and else a split, with a low child unless its byte is 2 and a
 -- high child unless it is 1
 unfoldable pub node_in : ℕ → ℕ → List Part → List ℕ → Read (Tree (List ℕ))
 node_in lacking count word [] = None
@@ -59,7 +59,7 @@ node_in (suc lacking) count word (suc kind ∷ j ∷ bytes) =
     Some (split j low high, end)))
     else None
 
--- so many root children, each a root number of so many segments, at least one above the one before, and its node
+-- as many root children as asked for, each a root number of `segments` segments, at least one above the one before, and its node
 unfoldable pub roots_in : ℕ → ℕ → ℕ → ℕ → List ℕ → Read (List ℕ × List (Tree (List ℕ)))
 roots_in zero from segments count bytes = Some (([], []), bytes)
 roots_in (suc k) from segments count bytes =

@@ -28,7 +28,7 @@ fn loaded<H: Threads + Sync>(
     Ok(load(rt, alloc, &mut files, rows, 2))
 }
 
-/// The first bytes of the worked text, so many of them, with other values at some places.
+/// The first `size` bytes of the worked text, with other values at some places.
 fn changed(alloc: Global, size: usize, changes: &[(usize, u8)]) -> Result<Vec<u8>, Fail> {
     let mut bytes = TEXT.to_vec(alloc)?;
     for (place, value) in changes {

@@ -43,7 +43,7 @@ pub(crate) fn number_at(bytes: &[u8], at: usize) -> Option<u32>
     Some(LittleEndian::read_u32(&bytes[at..]))
 }
 
-/// So many numbers from a place on, strictly ascending and below the count.
+/// `many` numbers from place `from` on, strictly ascending and below `count`.
 pub(crate) fn read_numbers(
     alloc: Global,
     bytes: &[u8],

@@ -119,7 +119,7 @@ fn plain_leaf(bytes: &[u8], at: usize, told: &mut Vec<u32>) -> Result<Option<usi
     Ok(Some(at))
 }
 
-// A place so many bytes on.
+// The place `more` bytes behind `at`.
 fn past(at: usize, more: usize) -> usize {
     at.saturating_add(more)
 }

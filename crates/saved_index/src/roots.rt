@@ -20,7 +20,7 @@ pub(crate) struct RootsAt {
     pub(crate) at: usize,
 }
 
-/// So many root children of so many segments from a place on.
+/// `many` root children of `segments` segments each, from place `from` on.
 pub(crate) fn read_roots(
     alloc: Global,
     bytes: &[u8],

@@ -33,7 +33,7 @@ fn all_saved(index: &Index, count: u32) -> bool
     true
 }
 
-/// Whether an index can be saved as that of so many series under these settings.
+/// Whether an index can be saved as that of `count` series under these settings.
 pub fn can_save(settings: &Settings, count: u32, index: &Index) -> bool
     ensures { IsTrue result ↔ CanSave settings.now count index.now }
 {

@@ -31,7 +31,7 @@ pub(crate) fn worked(alloc: Global) -> Result<Flat, Fail>
     Ok(Flat::from_values(4, values.to_vec(alloc)?))
 }
 
-/// The text of the tree of rows of length 4 by two segments, with leaves of so many members.
+/// The text of the tree of rows of length 4 by two segments, with the leaf size `leaf_size`.
 pub(crate) fn text_of<H: std::thread::Threads + Sync>(
     rt: &H,
     alloc: Global,

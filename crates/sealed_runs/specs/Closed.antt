@@ -26,7 +26,7 @@ lesser None b = b
 lesser (Some a) None = Some a
 lesser (Some a) (Some b) = Some (min a b)
 
--- the least limit of the Closed replies, and None where there are none
+-- the least limit of the Closed replies, and None where no reply is Closed
 abbrev pub least_limit : List Visit → Option ℕ
 least_limit [] = None
 least_limit (v ∷ vs) = lesser v.closed (least_limit vs)

@@ -6,7 +6,7 @@ use Rattle.series_core.specs.EntryOrder.{IsAscending}
 use Rattle.sealed_runs.specs.Entries.{Run}
 use Rattle.sealed_runs.specs.Visits.{Visit, fresh_visit}
 
--- a run that so many passes may pop: it ascends, and its counter has one place for each entry
+-- a run that `passes` passes may pop: it ascends, and its counter has one place for each entry
 pub record IsReady (passes : ℕ) (run : Run) : Type 0 where
   pub ascending : IsAscending run.entries
   pub callers : run.claims.callers ≡ passes

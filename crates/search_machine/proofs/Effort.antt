@@ -43,7 +43,7 @@ turns_left g (Pop j v) = 2 * (g.queues - j) - 1
 turns_left g (Offer next) = 1 + turns_onward g next
 turns_left g Done = 0
 
--- so many with its rest
+-- at most how many turns a worker takes, with those for its rest
 abbrev pub worker_effort : Ground → Worker → ℕ
 worker_effort g w = turns_left g w.phase + 5 * length w.rest
 

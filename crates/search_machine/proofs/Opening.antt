@@ -60,7 +60,7 @@ roots_other m l [] ne = refl
 roots_other m l (r ∷ rs) ne = let a = remove_other m l r ne in
     let b = roots_other m l rs ne in omega arith
 
--- so many workers are so many
+-- a list of n idle workers has length n
 length_idle : (n : ℕ) → length (replicate n idle) ≡ n
 length_idle zero = refl
 length_idle (suc n) = let a = length_idle n in omega arith
@@ -75,7 +75,7 @@ pub takes_new : (g : Ground) (l m n : ℕ) → total (takes l) (empty_queues g m
 takes_new g l m zero = refl
 takes_new g l m (suc n) = let a = takes_new g l (suc m) n in omega arith
 
--- there are so many
+-- n new queues are n
 length_new : (g : Ground) (m n : ℕ) → length (empty_queues g m n) ≡ n
 length_new g m zero = refl
 length_new g m (suc n) = let a = length_new g (suc m) n in omega arith

@@ -58,7 +58,7 @@ pub start_false : (o : Option ℕ) (l : ℕ) → is_start o l ≡ false → o �
 start_false None l h e = none-some l e
 start_false (Some m) l h e = eqb-false m l h (same_Some m l e)
 
--- so many fates are so many
+-- the fates of n leaves are n
 pub length_fates : (g : Ground) (s : State) (l n : ℕ) → length (fates_from g s l n) ≡ n
 length_fates g s l zero = refl
 length_fates g s l (suc n) = let a = length_fates g s (suc l) n in omega arith

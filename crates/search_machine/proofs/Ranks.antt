@@ -40,7 +40,7 @@ answer_rank g n p e =
           ∙ place_rank (plain g) n p (ascending_plain g) place.1;
     }
 
--- the pairs of so many series are so many
+-- the pairs of n series are n
 length_pairs : (g : Ground) (s n : ℕ) → length (pairs_from g s n) ≡ n
 length_pairs g s zero = refl
 length_pairs g s (suc n) = let rest = length_pairs g (s + 1) n in omega arith

@@ -32,7 +32,7 @@ abbrev pub two_bounds : ℕ → ℕ
 two_bounds zero = 1
 two_bounds (suc l) = 0
 
--- the search of the nearest series with one queue and so many workers; leaf 1 is the start leaf
+-- the search of the nearest series with one queue and `workers` workers; leaf 1 is the start leaf
 abbrev pub two_series : ℕ → Ground
 two_series workers = record {
   distance = λ s. 1;

@@ -90,7 +90,7 @@ opening g = opening_of g g.start
 abbrev pub start_limit : Ground → ℕ
 start_limit g = worst g (opening g)
 
--- the pair of a series that so many pairs are smaller than, where fewer than k are
+-- the pair of a series that n pairs are smaller than, where n is below k
 pub record HasRank (g : Ground) (n : ℕ) (p : Pair) : Type 0 where
   pub below : n < g.k
   pub series : p.number < g.count
@@ -105,11 +105,11 @@ queue_of g l = l % g.queues
 abbrev pub entry_of : Ground → ℕ → Entry
 entry_of g l = record { bound = g.bound l; leaf = l }
 
--- so many turns of each worker are enough
+-- how many turns of each worker are enough
 abbrev pub enough_turns : Ground → ℕ
 enough_turns g = 8 * g.leaves + g.workers + 2 * g.workers * g.queues
 
--- the same search by so many workers
+-- the same search by n workers
 abbrev pub with_workers : ℕ → Ground → Ground
 with_workers n g = record g { workers = n }
 

@@ -1,4 +1,4 @@
--- Where all steps can pass, one fault of a saved index or of a certificate is told at most (`one_told`), and none where a
+-- Where all steps can pass, at most one fault of a saved index or of a certificate is reported (`one_told`), and none where a
 -- text is written.
 use Rattle.std.proofs.Common.{◌≡◌, ℕ, List, Option, Some, ap, subst, sym, ◌∙◌, ⊎_elim}
 use Rattle.std.specs.Prelude.{IsSome, IsSomeAnd}
@@ -17,7 +17,7 @@ use Rattle.search_run.specs.declared.status.CertFault.{CertFault}
 use Rattle.search_run.specs.declared.status.Status.{Status}
 use Rattle.search_run.specs.declared.status.Status.TheVariants.{Invalid, Index}
 
--- a certificate that holds has no fault that is told
+-- a certificate that holds has no fault that is reported
 valid_without : (held : Option Held) (name : List ℕ) (s : Subject) (told : Status)
     → IsSomeAnd held (λ h. IsSome (h name)) → HoldsBytes held name (IsValid s) → ShowsInvalid (IsFault s) held name told → ⊥
 valid_without held name s (Invalid e) is valid fault =
@@ -25,7 +25,7 @@ valid_without held name s (Invalid e) is valid fault =
     holds_without s both.0 e both.1 both.2
 valid_without held name s told is valid fault = absurd fault
 
--- of a certificate one fault is told
+-- of a certificate at most one fault is reported
 one_invalid : (held : Option Held) (name : List ℕ) (s : Subject) (told other : Status)
     → IsSomeAnd held (λ h. IsSome (h name)) → ShowsInvalid (IsFault s) held name told
     → ShowsInvalid (IsFault s) held name other → told ≡ other
@@ -35,7 +35,7 @@ one_invalid held name s (Invalid e) (Invalid f) is first second =
 one_invalid held name s (Invalid e) other is first second = absurd second
 one_invalid held name s told other is first second = absurd first
 
--- a saved index that fits has no fault that is told
+-- a saved index that fits has no fault that is reported
 fit_without : (held : Option Held) (name : List ℕ) (c : Collection) (told : Status)
     → IsSomeAnd held (λ h. IsSome (h name)) → HoldsBytes held name (IsFitIndex c) → ShowsIndexFault c held name told → ⊥
 fit_without held name c (Index e) is fits fault =
@@ -43,7 +43,7 @@ fit_without held name c (Index e) is fits fault =
     none-some e (sym both.1 ∙ both.2)
 fit_without held name c told is fits fault = absurd fault
 
--- of a saved index one fault is told
+-- of a saved index at most one fault is reported
 one_index : (held : Option Held) (name : List ℕ) (c : Collection) (told other : Status)
     → IsSomeAnd held (λ h. IsSome (h name)) → ShowsIndexFault c held name told
     → ShowsIndexFault c held name other → told ≡ other

@@ -16,7 +16,7 @@ use Rattle.search_run.specs.declared.status.Status.{Status}
 use Rattle.search_run.specs.declared.status.Status.TheVariants.{Done, Usage, Missing, ReadFault, Format, Mismatch, Settings, WriteFault, Memory, Invalid, Index}
 use Rattle.search_run.specs.declared.status.Which.{Which}
 
--- reading failed and was counted, or memory ran out, or a saved index or a certificate is told to have a fault
+-- reading failed and was counted, or memory ran out, or a saved index or a certificate is reported to have a fault
 abbrev pub IsRead : Reading → Status → Type 0
 IsRead reading (ReadFault w) = Rose reading.faults reading.later
 IsRead reading Memory = Unit {0}

@@ -1,5 +1,5 @@
 -- What the statuses of refusals are: a status of words or of written text refuses no step (`refuses_for_cause`), and
--- of a saved index or a certificate a fault is told only where it has that (`told_has_fault`).
+-- of a saved index or a certificate a fault is reported only where it has that (`told_has_fault`).
 use Rattle.std.proofs.Common.{ℕ, List, Option, None, Some, inl, inr, ⊎_elim}
 use Rattle.series_core.specs.Collection.{Collection}
 use Rattle.series_file.specs.declared.error.Form.{Form}
@@ -121,7 +121,7 @@ certificate_tells s reading name (Invalid e) is x = x
 certificate_tells s reading name (Index e) is x = x
 certificate_tells s reading name status is x = absurd is
 
--- a saved index or a certificate of which a fault is told has that fault
+-- a saved index or a certificate of which a fault is reported has that fault
 pub told_has_fault : (reading : Reading) (plan : Plan) (status : Status) → IsToldFault status
     → Refuses reading plan status → HasFault reading.held plan status
 told_has_fault reading (Load w name form then_) status is =

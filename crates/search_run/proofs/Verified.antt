@@ -75,7 +75,7 @@ texts_valid held series queries o v text certified alike =
       valid_for held series queries o v text certified alike,
     )
 
--- a certificate of this name that holds has no fault that is told
+-- a certificate of this name that holds has no fault that is reported
 none_told : (h : Held) (name text : List ℕ) (s : Subject) (told : Status) → h name ≡ Some text → IsValid s text
     → ShowsInvalid (IsFault s) (Some h) name told → ⊥
 none_told h name text s (Invalid e) named valid found =

@@ -97,7 +97,7 @@ stops_conclude P each qs IsRight R writing right stop stopped =
     by_stop WriteFault x = (x.1, (x.0, x.2), x.3, x.4, x.5)
     by_stop NoMemory x = inr (x.1, (x.0, x.2), x.3)
 
--- what is told of as many of the nearest as are needed has those that are chosen from all
+-- what is written of as many of the nearest as are needed has those that are chosen from all
 told_chosen : (o : Options) → 0 < o.apart → (c : Collection) (i : ℕ) (query : List ℤ) (piece : List ℕ)
     → IsTold (Apart o.apart o.k) c (windows_needed o) i query piece → IsChoice o c i query piece
 told_chosen o some c i query piece is =

@@ -80,7 +80,7 @@ abbrev pub told : Telling → ℕ → List Pair → List ℕ
 told (Nearest labels) i pairs = query_text labels.now i pairs
 told (Apart apart k) i pairs = query_text None i (chosen_apart apart pairs k)
 
--- the piece of query i has what is told of the k series nearest to it
+-- the piece of query i is what is written of the k series nearest to it
 abbrev pub IsTold : Telling → Collection → ℕ → ℕ → List ℤ → List ℕ → Type 0
 IsTold telling c k i query piece = piece ≡ told telling i (answer c query k)
 

@@ -71,7 +71,7 @@ IsAnswered faults later lost more (ReadFault which) = Rose faults later
 IsAnswered faults later lost more WriteFault = Rose lost more
 IsAnswered faults later lost more _ = ⊥
 
--- the same, or the saved index or the certificate that the command tests has the fault that is told
+-- the same, or the saved index or the certificate that the command tests has the fault that is reported
 abbrev pub Finishes : Option Held → Command → ℕ → ℕ → ℕ → ℕ → Status → Type 0
 Finishes held command faults later lost more (Invalid fault) = HasFault held (plan_of command) (Invalid fault)
 Finishes held command faults later lost more (Index fault) = HasFault held (plan_of command) (Index fault)
@@ -87,7 +87,7 @@ TellsFault faults later told Memory = Unit {0}
 TellsFault faults later told (ReadFault which) = Rose faults later
 TellsFault faults later told status = status ≡ told
 
--- A status tells a cause that shows in the bytes of a file: neither a failed read nor want of memory is told as one.
+-- A status tells a cause that shows in the bytes of a file: neither a failed read nor want of memory is reported as one.
 abbrev pub TellsCause : Status → Type 0
 TellsCause (Format w e) = IsShown e
 TellsCause (Invalid fault) = CanBeFault fault

@@ -18,7 +18,7 @@ use Rattle.search_run.specs.declared.status.Status.TheVariants.{Missing, ReadFau
 abbrev pub IsHeldAs : Held → List ℕ → (List ℕ → Type 0) → Type 0
 IsHeldAs h name IsSo = (bytes : List ℕ) × (h name ≡ Some bytes) × IsSo bytes
 
--- where told, the name is held, and this is so of its bytes
+-- where known, the name is held, and this is so of its bytes
 abbrev pub HoldsBytes : Option Held → List ℕ → (List ℕ → Type 0) → Type 0
 HoldsBytes held name IsSo = IfSome held (λ h. IsHeldAs h name IsSo)
 
@@ -42,7 +42,7 @@ abbrev pub Spells : Form → Loaded → List ℕ → Type 0
 Spells form loaded bytes = IsFile form bytes loaded.rows loaded.labels
 
 -- What was loaded of a name: series of one length within the limits, of values of 16 bits, with a label for each
--- where there are any, as this form spells them; and where the files are told, the name is held with that content.
+-- where there are any, as this form spells them; and where the files' contents are known, the name is held with that content.
 pub record HoldsFile (held : Option Held) (name : List ℕ) (form : Form) (loaded : Loaded) : Type 0 where
   pub formed : HasText form loaded.rows loaded.labels
   pub told : HoldsBytes held name (Spells form loaded)

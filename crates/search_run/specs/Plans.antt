@@ -64,7 +64,7 @@ Refuses reading (Check name s then_) status = RefusesCertificate (IsFault s) rea
     ⊎ (HoldsBytes reading.held name (IsValid s) × Refuses reading then_ status)
 Refuses reading (Write IsRight) status = ⊥
 
--- Nothing keeps a command from its work: the files are told, each name is held with what the command needs of it, and
+-- Nothing keeps a command from its work: the files' contents are known, each name is held with what the command needs of it, and
 -- the lengths fit. A saved index and a certificate are held; whether the one fits and the other holds is the work.
 abbrev pub CanPass : Option Held → Plan → Type 0
 CanPass held (Load w name form then_) = (loaded : Loaded)

@@ -65,7 +65,7 @@ query_part b word n = codes "query " ++ decimal b ++ word ++ decimal n
 abbrev pub bound_part : ℕ → ℕ → ℕ → List ℕ
 bound_part b l bound = query_part b (codes " leaf ") l ++ codes " bound " ++ decimal bound
 
--- which test a certificate fails; a last distance that stands for no last answer is told by a word
+-- which test a certificate fails; a last distance that stands for no last answer is reported as a word
 abbrev pub reject_cause : Reject → List ℕ
 reject_cause (reject.Blocks have want) = decimal have ++ codes " blocks for " ++ decimal want ++ codes " queries"
 reject_cause (reject.Answers b r) = query_part b (codes " answer ") r

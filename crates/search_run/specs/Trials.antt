@@ -7,11 +7,11 @@ use Rattle.series_core.specs.declared.pair.Pair.{Pair}
 use Rattle.random_walks.specs.Walks.{state_at, walks_from}
 use Rattle.search_run.specs.declared.output.summary.Summary.{Summary}
 
--- the series of a trial: so many walks of n values, drawn from the generator that stands at the seed
+-- the series of a trial: `count` walks of n values, drawn from the generator that stands at the seed
 abbrev pub trial_series : ℕ → ℕ → ℕ → Collection
 trial_series seed count n = walks_from n seed count
 
--- the queries of a trial: so many walks, drawn behind the series from the same stream
+-- the queries of a trial: `queries` walks, drawn behind the series from the same stream
 abbrev pub trial_queries : ℕ → ℕ → ℕ → ℕ → Collection
 trial_queries seed count n queries = walks_from n (state_at seed (count * n)) queries
 

@@ -17,14 +17,14 @@ use Rattle.search_run.specs.Traffic.{Writing}
 use Rattle.search_run.specs.declared.status.Status.{Status}
 use Rattle.search_run.specs.declared.status.Status.TheVariants.{Done}
 
--- both ask the same: so many answers, the same words of series, files of one form
+-- both ask the same: as many answers, the same words of series, files of one form
 pub record AskAlike (o v : Options) : Type 0 where
   pub k : o.k ≡ v.k
   pub segments : o.segments ≡ v.segments
   pub table : o.table ≡ v.table
   pub raw : o.raw ≡ v.raw
 
--- this is a text of `nearest` with certificates, of at most so many bytes as a certificate may have
+-- this is a text of `nearest` with certificates, of at most as many bytes as a certificate may have
 pub record IsCertifiedText (held : Option Held) (series queries : List ℕ) (o : Options) (text : List ℕ) : Type 0 where
   pub limits : OptionsKeepLimits o
   pub alone : IndexStandsAlone o

@@ -15,7 +15,7 @@ use Rattle.search_run.specs.Plans.{Divide, HasSegments, Load, Plan, Write}
 use Rattle.search_run.specs.Texts.{AppendsPieces, IsAnswerPiece, IsTextOf}
 use Rattle.search_run.specs.declared.status.Which.TheVariants.{Series, Queries}
 
--- the windows of the values of one file, as long as the queries of another, from every place of so many steps
+-- the windows of the values of one file, as long as the queries of another, from every place that `step` divides
 abbrev pub windows_in : Loaded → Loaded → ℕ → Collection
 windows_in x y step = collection_of (joined x.rows.series) y.rows.points step
 

@@ -4,7 +4,7 @@ use Rattle.std.specs.List.{All}
 use mir.Syntax.{w16}
 use Rattle.series_core.specs.declared.rows.TheConstants.{MAX_LENGTH, MAX_COUNT, MAX_VALUES}
 
--- so many rows of n values each, the first of them at the front of the list
+-- `count` rows of n values each, the first of them at the front of the list
 abbrev pub rows_of : ℕ → ℕ → List ℤ → List (List ℤ)
 rows_of n zero values = []
 rows_of n (suc count) values = take n values ∷ rows_of n count (drop n values)
@@ -14,7 +14,7 @@ abbrev pub joined : List (List ℤ) → List ℤ
 joined [] = []
 joined (row ∷ rows) = row ++ joined rows
 
--- the values are those of so many rows of n values, and the limits are kept
+-- the values are those of `count` rows of n values, and the limits are kept
 pub record IsFlat (n count : ℕ) (values : List ℤ) : Type 0 where
   pub some_point : 0 < n
   pub length_limit : n ≤ MAX_LENGTH

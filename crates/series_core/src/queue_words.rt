@@ -17,7 +17,7 @@ pub enum PutReply {
     Placed,
     /// The queue was shut before, and keeps this limit.
     Shut(u64),
-    /// The queue is not shut, and so many puts were placed: as many as it has room for.
+    /// The queue is not shut, and this many puts were placed: as many as it has room for.
     Filled(u32),
 }
 

@@ -111,7 +111,7 @@ values_fit (suc count) bytes each =
     (Fits-of_lt (little_from-lt 0 2 bytes (are_bytes bytes each))))
     (values_fit count (drop 2 bytes) (All-drop (λ b. b < 256) 2 bytes each))
 
--- so many series of n values, read out of bytes
+-- `count` series of n values, read out of bytes
 read_rows : (n count : ℕ) (bytes : List ℕ) → 0 < n → n ≤ MAX_LENGTH → count ≤ MAX_COUNT
     → count * n ≤ MAX_VALUES
     → All (λ b. b < 256) bytes

@@ -37,7 +37,7 @@ behind-end far bytes before now taken ended within =
         ap (λ xs. Some xs) (h ∙ sym (drop_of_length-le bytes within))
         ∙ ap (λ bs. Some (drop (far bs) bs)) (sym (append-nil bytes) ∙ ap (λ xs. bytes ++ xs) (sym h))
 
--- where so many bytes were taken as the reach says, the others lie behind it
+-- where as many bytes were taken as the reach says, the others lie behind it
 pub behind-taken : (far : List ℕ → ℕ) (bytes : List ℕ) (before now : Option (List ℕ))
     → before ≡ prepend_known bytes now → ((rest : List ℕ) → far (bytes ++ rest) ≡ length bytes)
     → LeavesBehind far before now
@@ -93,7 +93,7 @@ Leaves-wider m n before now e less none left =
     of_memory None h = tt
     of_memory (Some bytes) h = (h.0, omega (arith, h.1), h.2)
 
--- where memory ran out after at most so many bytes
+-- where memory ran out after at most n bytes
 pub Leaves-memory : (n : ℕ) (bytes : List ℕ) (before now : Option (List ℕ)) → before ≡ prepend_known bytes now
     → length bytes ≤ n → Leaves (λ _. n) before now NoMemory
 Leaves-memory n bytes before now taken less =

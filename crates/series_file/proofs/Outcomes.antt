@@ -1,4 +1,4 @@
--- What the stages of reading a file say together, where its bytes are told.
+-- What the stages of reading a file say together, where its bytes are known.
 use Rattle.std.proofs.Common.{◌≡◌, ℕ, ◌+◌, ◌<◌, ◌≤◌, List, [], ◌∷◌, ◌++◌, length, take, Option, None, Some, IfSome, refl, sym, ap, ◌∙◌, subst, arith, append_assoc, append-nil, length-append}
 use Rattle.std.specs.List.{All}
 use Rattle.std.specs.Io.KnownBytes.{prepend_known, IsAtEnd}
@@ -21,7 +21,7 @@ use Rattle.series_file.proofs.Numbers.{are_bytes}
 use Rattle.series_file.proofs.Spelled.{is_headed}
 use Rattle.series_file.proofs.HeaderTests.{fault_short, fault_header, fault_size}
 
--- where bytes were taken, what was left is told as these and what is left now
+-- where bytes were taken and it is known what is left now, what was left before is these and that
 pub told : (P : List ℕ → Type 0) (bytes : List ℕ) (before now : Option (List ℕ))
     → before ≡ prepend_known bytes now
     → IfSome now (λ rest. P (bytes ++ rest)) → IfSome before P
@@ -141,7 +141,7 @@ headed_file before between rest now h labels loaded came labelled valued =
     same : h ≡ header_of came.0
     same = came.1.spelled
 
--- where they are told, they are all that was left
+-- where they are known, they are all that was left
 pub headed_found : (before between rest now : Option (List ℕ)) (h : Header)
     (labels : Option (List ℕ)) (loaded : Loaded)
     → HeaderCame before between h → LabelsCame h between rest labels
@@ -163,7 +163,7 @@ pub has_text : (form : Form) (bytes : List ℕ) (rows : Collection) (labels : Op
 has_text form bytes rows labels file =
     record { sound = file.sound; total = file.total; fits = file.fits; spelled = refl }
 
--- so has what came from a file with a header, told or not
+-- so has what came from a file with a header, known or not
 pub headed_fits : (before between rest now : Option (List ℕ)) (h : Header)
     (labels : Option (List ℕ)) (loaded : Loaded)
     → HeaderCame before between h → LabelsCame h between rest labels

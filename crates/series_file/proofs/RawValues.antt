@@ -32,7 +32,7 @@ raw_whole n bytes whole =
     ∙ sym (mul_assoc q n 2) in
     omega (arith, split, turn)
 
--- so many values came
+-- how many values came
 pub raw_size : (n limit bytes size : ℕ) (before now : Option (List ℕ)) (items : List ℤ)
     → Comes value_at 2 limit before now items bytes → bytes % (2 * n) ≡ 0 → size ≡ length items
     → size ≡ bytes / (2 * n) * n
@@ -41,7 +41,7 @@ raw_size n limit bytes size before now items came whole e =
     ∙ ap (λ m. m / 2) (raw_whole n bytes whole)
     ∙ mul-div_cancel (bytes / (2 * n) * n) (omega arith)
 
--- which are so many series
+-- q * n values are q series
 pub raw_count : (n q size : ℕ) → 0 < n → size ≡ q * n → size / n ≡ q
 raw_count n q size some e = ap (λ m. m / n) e ∙ mul-div_cancel q some
 
@@ -74,7 +74,7 @@ raw_file n limit bytes size before between items rows some e came whole count so
     half : bytes / 2 ≡ q * n
     half = ap (λ m. m / 2) (raw_whole n bytes whole) ∙ mul-div_cancel (q * n) (omega arith)
 
--- where they are told, they are all that was left
+-- where they are known, they are all that was left
 pub raw_found : (n limit bytes size : ℕ) (before between now : Option (List ℕ)) (items : List ℤ)
     (rows : Collection)
     → 0 < n → limit ≡ raw_limit n → Comes value_at 2 limit before between items bytes
@@ -91,7 +91,7 @@ raw_found n limit bytes size before between now items rows some e came whole cou
       (raw_file n limit bytes size before between items rows some e came whole count sound points series),
 )
 
--- what came has a text, told or not
+-- what came has a text, known or not
 pub raw_fits : (n limit bytes size : ℕ) (before between : Option (List ℕ)) (items : List ℤ)
     (rows : Collection)
     → 0 < n → limit ≡ raw_limit n → Comes value_at 2 limit before between items bytes

@@ -54,7 +54,7 @@ pub record ValuesTaken (h : Header) (before now : Option (List ℕ)) (labels : O
 abbrev pub ValuesCame : Header → Option (List ℕ) → Option (List ℕ) → Option (List ℕ) → Loaded → Type 0
 ValuesCame h before now labels loaded = (bytes : List ℕ) × ValuesTaken h before now labels loaded bytes
 
--- the file ends too early or too late, where so many bytes came before these
+-- the file ends too early or too late, where `before` bytes came before these
 abbrev pub size_fault : Header → ℕ → List ℕ → Option FileError
 size_fault h before rest =
     first_of
@@ -62,7 +62,7 @@ size_fault h before rest =
     ∷ (nat_lt (file_bytes h) (before + length rest), Trailing (file_bytes h))
     ∷ [])
 
--- the error is that of the size, where the rest is told, or one that no bytes explain
+-- the error is that of the size, where the rest is known, or one that no bytes explain
 abbrev pub ExplainsSize : Header → ℕ → Option (List ℕ) → FileError → Type 0
 ExplainsSize h before rest ReadFault = ⊤
 ExplainsSize h before rest NoMemory = ⊤

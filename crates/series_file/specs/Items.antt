@@ -8,7 +8,7 @@ use Rattle.std.specs.Int.{cast_signed}
 use Rattle.byteorder.specs.Endian.{little_number}
 use mir.Syntax.{w16}
 
--- so many items of n bytes each, the first of them at the front
+-- `count` items of n bytes each, the first of them at the front
 abbrev pub items_from : {X : Type 0} → (List ℕ → X) → ℕ → ℕ → List ℕ → List X
 items_from at n zero bytes = []
 items_from at n (suc count) bytes = at bytes ∷ items_from at n count (drop n bytes)
@@ -29,7 +29,7 @@ value_at-append xs ys h = ap (cast_signed w16) (little_from-append 2 xs ys h)
 pub label_at-append : (xs ys : List ℕ) → 8 ≤ length xs → label_at (xs ++ ys) ≡ label_at xs
 label_at-append xs ys h = little_from-append 8 xs ys h
 
--- Items of n bytes came: so many bytes, at most as many as wanted, fewer only at the end of the file.
+-- Items of n bytes came: `count` bytes, at most as many as wanted, fewer only at the end of the file.
 pub record Came {X : Type 0} (at : List ℕ → X) (n want : ℕ) (before now : Option (List ℕ)) (came : List X)
     (count : ℕ) (bytes : List ℕ) : Type 0 where
   pub taken : before ≡ prepend_known bytes now

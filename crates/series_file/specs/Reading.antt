@@ -12,7 +12,7 @@ use Rattle.series_file.specs.declared.error.FileError.{FileError}
 use Rattle.series_file.specs.declared.error.FileError.TheVariants.{ReadFault, NoMemory}
 use Rattle.series_file.specs.declared.error.Loaded.{Loaded}
 
--- The file was read to its end and, where its bytes are told, stands for what is handed out.
+-- The file was read to its end and, where its bytes are known, stands for what is handed out.
 abbrev pub ReadsWhole : Form → Option (List ℕ) → Option (List ℕ) → Loaded → Type 0
 ReadsWhole form before now loaded =
     IsAtEnd now × IfSome before (λ bytes. IsFile form bytes loaded.rows loaded.labels)
@@ -23,7 +23,7 @@ abbrev pub reach : Form → List ℕ → ℕ
 reach (Raw n) bytes = raw_limit n + 1
 reach Headed bytes = if is_some (first_of (header_tests bytes)) then 16 else size_of bytes + 1
 
--- What an error leaves of the file, where told: what lies behind the reach. Where memory ran out, that or more.
+-- What an error leaves of the file, where known: what lies behind the reach. Where memory ran out, that or more.
 -- After a failed read no file is open.
 abbrev pub Leaves : (List ℕ → ℕ) → Option (List ℕ) → Option (List ℕ) → FileError → Type 0
 Leaves far before now ReadFault = ⊤
@@ -38,7 +38,7 @@ Answers rows labels (Err ReadFault) = ⊤
 Answers rows labels (Err NoMemory) = ⊤
 Answers rows labels (Err e) = ⊥
 
--- Where the bytes are told and stand for a collection, that is what is read.
+-- Where the bytes are known and stand for a collection, that is what is read.
 abbrev pub ReadsBack : Form → Option (List ℕ) → Result Loaded FileError → Type 0
 ReadsBack form before result = IfSome before (λ bytes. (rows : Collection) (labels : Option (List ℕ))
     → IsFile form bytes rows labels → Answers rows labels result)

@@ -33,7 +33,7 @@ abbrev pub Ends : Bool → Option (List ℕ) → Option (List ℕ) → Type 0
 Ends true before now = (before ≡ prepend_known [] now) × IsAtEnd now
 Ends false before now = (byte : ℕ) × (before ≡ prepend_known (byte ∷ []) now)
 
--- the error is that of the file's bytes, where told, or one that no bytes explain
+-- the error is that of the file's bytes, where known, or one that no bytes explain
 abbrev pub Explains : Form → Option (List ℕ) → FileError → Type 0
 Explains form before ReadFault = ⊤
 Explains form before NoMemory = ⊤

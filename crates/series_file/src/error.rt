@@ -30,7 +30,7 @@ pub struct Loaded {
 /// Why a series file is refused: the first failing test, with its values, or that reading failed.
 #[derive(Clone, Copy, Debug, PartialEq, Eq, Error)]
 pub enum FileError {
-    /// The file ends within its header, after so many bytes.
+    /// The file ends within its header, after this many bytes.
     #[error("header ends at byte {0}")]
     ShortHeader(u64),
     /// The file does not begin with the magic of a series file.
@@ -48,7 +48,7 @@ pub enum FileError {
     /// The reserved field is not 0.
     #[error("reserved {0}")]
     Reserved(u32),
-    /// More values, or of a raw file more bytes, than allowed: so many.
+    /// More values, or of a raw file more bytes, than allowed: this many.
     #[error("too large {0}")]
     TooLarge(u64),
     /// The file ends before its last value.
@@ -62,7 +62,7 @@ pub enum FileError {
     /// Something follows the last value, which ends at this byte.
     #[error("bytes after {0}")]
     Trailing(u64),
-    /// A raw file of so many bytes, which make no whole number of series.
+    /// A raw file of this many bytes, which make no whole number of series.
     #[error("{0} bytes are no whole number of series")]
     Uneven(u64),
     /// A read failed.

@@ -59,7 +59,7 @@ impl Header {
         HEADER_BYTES as u64 + self.label_bytes() + self.value_bytes()
     }
 
-    /// The error where the file ends so many bytes behind its header.
+    /// The error where the file ends `bytes` bytes behind its header.
     pub fn ends_at(&self, bytes: u64) -> FileError
         requires sound { IsHeader self.now }
         requires limit { bytes ≤ 1000000000 }

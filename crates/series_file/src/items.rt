@@ -25,7 +25,7 @@ pub struct Arrived<T> {
     pub bytes: u64,
 }
 
-/// Reads items through one buffer of fixed size until so many bytes came or the file is at its end.
+/// Reads items through one buffer of fixed size until `want` bytes came or the file is at its end.
 pub fn read_items<F: Files, T: Item>(
     alloc: Global,
     files: &mut F,
@@ -43,7 +43,7 @@ pub fn read_items<F: Files, T: Item>(
     read_pieces(alloc, files, &mut buffer, &mut cells, want)
 }
 
-// So many copies of an item.
+// `count` copies of an item.
 fn room<T: Copy>(alloc: Global, item: T, count: usize) -> Result<Vec<T>, AllocError>
     ensures { IfOk result (λ items. length items.items ≡ count) }
 {

@@ -17,7 +17,7 @@ const NUMBERED: [u8; 80] = [
     0xf6, 0xff, 0xf6, 0xff, 0xf6, 0xff, 0xf6, 0xff, 0, 0, 0, 0, 10, 0, 10, 0,
 ];
 
-// What the bytes are read to, in pieces of at most so many bytes.
+// What the bytes are read to, in pieces of at most `cap` bytes.
 fn read(alloc: Global, bytes: &[u8], cap: usize) -> Result<Loaded, FileError> {
     let mut files = MemFiles::new(alloc, cap.max(1), Vec::new(alloc), Vec::new(alloc));
     if files.hold("a", bytes).is_err() || files.open_file("a").is_err() {

@@ -100,7 +100,7 @@ fn append_labels(bytes: &mut Vec<u8>, labels: &[u64]) -> Result<(), AllocError>
     Ok(())
 }
 
-// Appends the numbers from 0 as labels, so many.
+// Appends the first `count` numbers from 0 on as labels.
 fn append_numbers(bytes: &mut Vec<u8>, count: u32) -> Result<(), AllocError>
     ensures { OnOk result (bytes.new.items ≡ bytes.old.items ++ labels_text (range_with_len 0 count)) }
 {

@@ -31,7 +31,7 @@ mask_of b = cond b 65535 0
 abbrev pub bits_minus : ℕ → ℕ → ℕ
 bits_minus a b = (a + (65536 - b)) % 65536
 
--- what a lane computes of the bits of two values, where it is told which is the lesser
+-- what a lane computes of the bits of two values, where it is known which is the lesser
 abbrev pub lane_minus : Bool → ℕ → ℕ → ℕ
 lane_minus less a b =
     bits_minus (cond (top 15 (mask_of less)) b a) (cond (top 15 (mask_of less)) a b)

@@ -71,7 +71,7 @@ pub(crate) fn far_distance(x: &[i16], q: &[i16]) -> u64
     lane_sum(sums)
 }
 
-/// The squared differences of the sixteen pairs of values from place `at` on, told by their sum.
+/// The squared differences of the sixteen pairs of values from place `at` on, stated by their sum.
 fn sixteen_squares(x: &[i16], q: &[i16], at: usize) -> u64x16
     requires x_sixteen { at + 16 ≤ length x.now }
     requires q_sixteen { at + 16 ≤ length q.now }
@@ -90,7 +90,7 @@ fn squares(numbers: u32x16) -> u64x16
     (numbers * numbers).cast::<u64>()
 }
 
-/// The sums of two vectors, lane by lane, told by their sum.
+/// The sums of two vectors, lane by lane, stated by their sum.
 fn lanes_added(a: u64x16, b: u64x16) -> u64x16
     requires { sum_l a + sum_l b < 2 ^ 64 }
     ensures { sum_l result ≡ sum_l a + sum_l b }

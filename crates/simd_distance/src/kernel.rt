@@ -70,7 +70,7 @@ fn far_behind(x: &[i16], q: &[i16], at: usize, sum: u64, limit: u64) -> Option<u
     }
 }
 
-/// The squared Euclidean distance of so many values from place `at` on, whole sixteens, where they differ by less than 32768 each.
+/// The squared Euclidean distance of `count` values from place `at` on, whole sixteens, where they differ by less than 32768 each.
 #[inline(always)]
 fn near_part(x: &[i16], q: &[i16], at: usize, count: usize) -> Option<u64>
     requires same_length { length x.now ≡ length q.now }

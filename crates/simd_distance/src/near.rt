@@ -77,7 +77,7 @@ fn bits_of_all(lanes: u32x16) -> u32
     lanes.reduce_or()
 }
 
-/// The sums of two vectors, lane by lane, told by their sum.
+/// The sums of two vectors, lane by lane, stated by their sum.
 pub(crate) fn sums_added(a: u64x4, b: u64x4) -> u64x4
     requires { sum_l a + sum_l b < 2 ^ 64 }
     ensures { sum_l result ≡ sum_l a + sum_l b }

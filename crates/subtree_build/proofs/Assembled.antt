@@ -303,7 +303,7 @@ module _ (w : ℕ) (roots : List ℕ) (nodes : List Node) (words : List (List Pa
       let P : List LeafPlace → Type 0 = λ ps. ArePlaces members ps in
       subst P (sym row.places_are) (are_places members 0 leaves (omega (arith, row.whole)))
 
-  -- so many
+  -- there are as many places as lists
   row_long : length places ≡ length lists
   row_long =
       ap (λ (ps : List LeafPlace). length ps) row.places_are

@@ -85,7 +85,7 @@ all_are_divided p all now waiting low i is end =
     ∙ ap (λ l. filter (λ m. not (p m)) (take i all) ++ l) is.others
     ∙ ap (λ (l : List Member). filter (λ m. not (p m)) l ++ filter p l) whole
 
--- so many stand in front
+-- at the end low is the number of members that do not pass
 pub front_count : (p : Member → Bool) (all now waiting : List Member) (low i : ℕ)
     → IsDivided p all now waiting low i → i ≡ length all → low ≡ length (filter (λ m. not (p m)) all)
 front_count p all now waiting low i is end =

@@ -100,7 +100,7 @@ means_there c layout members i m inside item =
 finer_long : (c : Collection) (m : Member) → length (finer_of c m) ≡ part_count (finer_points c)
 finer_long c m = length-map-range_with_len (part_means (finer_points c) (series_at c m.number)) 0 (part_count (finer_points c))
 
--- so all of them together have so many
+-- so the finer means of all members are as many as the members times the parts of each
 pub length_finer : (c : Collection) (members : List Member)
     → length (all_finer c members) ≡ length members * part_count (finer_points c)
 length_finer c members = length_pieces (finer_of c) (part_count (finer_points c)) (finer_long c) members

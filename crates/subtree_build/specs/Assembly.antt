@@ -24,7 +24,7 @@ CanStand word (split segment low high) =
     × CanStand (child_word word segment false) low
     × CanStand (child_word word segment true) high
 
--- root numbers of so many segments, which strictly ascend
+-- root numbers of `segments` segments, which strictly ascend
 pub record AreRoots (segments : ℕ) (roots : List ℕ) : Type 0 where
   pub ascend : IsStrictlyIncreasing roots
   pub fit : All (λ root. root < 2 ^ segments) roots
@@ -34,7 +34,7 @@ abbrev pub AllStand : ℕ → List ℕ → List Node → Type 0
 AllStand segments roots nodes = (i : ℕ) (node : Node) → slice_get nodes i ≡ Some node
     → CanStand (one_bit_word (slice_index roots i) segments) (outline node)
 
--- root numbers, their nodes and so many leaves make an index: the root numbers strictly ascend and fit, each has one node,
+-- root numbers, their nodes and `leaves` leaves make an index: the root numbers strictly ascend and fit, each has one node,
 -- each split is in a segment that has a bit left and has a child, and the leaves are numbered in order
 pub record MakeIndex (segments : ℕ) (roots : List ℕ) (nodes : List Node) (leaves : ℕ) : Type 0 where
   pub are_roots : AreRoots segments roots

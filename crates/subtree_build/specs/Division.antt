@@ -21,7 +21,7 @@ bits_left (p ∷ word) = (8 - p.bits) + bits_left word
 abbrev pub leaf_with : List Part → List Member → TreeLeaf
 leaf_with word members = record { word = word; members = members }
 
--- the node of a word that lacks so many bits, and of these members: absent without members, a leaf where the
+-- the node of a word that lacks `lacking` bits, and of these members: absent without members, a leaf where the
 -- word lacks no bit or there are no more than `leaf_size` members, and else split into the members whose next
 -- bit is 0 and those whose next bit is 1
 unfoldable pub divide : ℕ → ℕ → List Part → List Member → Tree TreeLeaf

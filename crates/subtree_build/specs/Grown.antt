@@ -8,7 +8,7 @@ use Rattle.subtree_build.specs.declared.leaf.TreeLeaf.{TreeLeaf}
 use Rattle.subtree_build.specs.Division.{leaf_with}
 use Rattle.subtree_build.specs.Tree.{Tree, leaf, leaves_of, numbered}
 
--- the leaf of a word and so many members
+-- the leaf of a word and of `count` members
 abbrev pub grown_leaf : List Part → ℕ → GrownLeaf
 grown_leaf word count = record { word = word; count = count }
 

@@ -27,6 +27,6 @@ by_number (m ∷ members) = insert_by_number m (by_number members)
 abbrev pub NumbersDiffer : List Member → Type 0
 NumbersDiffer members = (i : ℕ) → times i (numbers_of members) ≤ 1
 
--- each member's full word has so many symbols
+-- each member's full word has w symbols
 abbrev pub HaveSegments : ℕ → List Member → Type 0
 HaveSegments w members = All (λ m. length m.full ≡ w) members

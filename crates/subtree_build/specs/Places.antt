@@ -38,12 +38,12 @@ means_seen means places = map (λ p. take (p.end - p.first) (drop p.first means)
 abbrev pub boxes_seen : List (List ℕ) → List LeafPlace → List Box
 boxes_seen means places = map (λ p. box_of (take (p.end - p.first) (drop p.first means))) places
 
--- the finer means of the members at places, with so many parts a member
+-- the finer means of the members at places, with `parts` parts a member
 abbrev pub finer_seen : ℕ → List (List ℕ) → List LeafPlace → List (List (List ℕ))
 finer_seen parts finer places =
     map (λ p. take ((p.end - p.first) * parts) (drop (p.first * parts) finer)) places
 
--- a place lies among so many members
+-- a place lies among `count` members
 pub record IsPlace (count : ℕ) (p : LeafPlace) : Type 0 where
   pub order : p.first ≤ p.end
   pub inside : p.end ≤ count
@@ -56,7 +56,7 @@ ArePlaces members places = All (IsPlace (length members)) places
 abbrev pub AreAllSeen : List Member → List LeafPlace → Type 0
 AreAllSeen members places = (flat_map (λ x. x.members) (leaves_seen members places) ≡ members) × (length members < 2 ^ 32)
 
--- the tables beside the members: the means of each, so many finer ones, and the box of each place's means
+-- the tables beside the members: the means of each, the finer means of its parts, and the box of each place's means
 pub record AreTables (members : List Member) (places : List LeafPlace) (t : Tables) : Type 0 where
   pub means_each : length t.means.items ≡ length members
   pub few_parts : t.parts ≤ 4

@@ -29,7 +29,7 @@ impl From<NoMemory> for Assembly {
     }
 }
 
-/// Whether root numbers of so many segments strictly ascend and fit.
+/// Whether root numbers of `segments` segments strictly ascend and fit.
 fn are_roots(segments: u32, roots: &[u32]) -> bool
     requires { segments ≤ 16 }
     ensures { IsTrue result ↔ AreRoots segments roots.now }
@@ -111,7 +111,7 @@ fn number_behind(node: &Node, first: u32, end: u32) -> Option<u32>
     }
 }
 
-/// Whether the leaves below the nodes are numbered in order, and are so many.
+/// Whether the leaves below the nodes are numbered from 0 in order, and there are `leaves` of them.
 fn are_in_order(nodes: &[Node], leaves: u32) -> bool
     ensures { IsTrue result ↔ (flat_map leaf_numbers nodes.now ≡ range_with_len 0 leaves) }
 {
@@ -125,7 +125,7 @@ fn are_in_order(nodes: &[Node], leaves: u32) -> bool
     next == leaves
 }
 
-/// Whether root numbers, their nodes and so many leaves make an index.
+/// Whether root numbers, their nodes and `leaves` leaves make an index.
 pub(crate) fn make_index(segments: u32, roots: &[u32], nodes: &[Node], leaves: u32) -> bool
     requires some_segments { 1 ≤ segments }
     requires few_segments { segments ≤ 16 }

@@ -90,7 +90,7 @@ fn pair(alloc: Global, low: u32, high: u32) -> Result<Node, Fail> {
     })
 }
 
-/// Whether root numbers of two segments, nodes and so many empty leaves are refused.
+/// Whether root numbers of two segments, nodes and `count` empty leaves are refused.
 fn are_refused(alloc: Global, roots: &[u32], nodes: Vec<Node>, count: u32) -> Result<bool, Fail> {
     let mut leaves = Vec::new(alloc);
     for _ in 0..count {

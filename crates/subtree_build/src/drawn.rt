@@ -18,7 +18,7 @@ use std::thread::Threads;
 /// The length of the drawn series.
 const LENGTH: u32 = 18;
 
-/// The symbol of a sum of so many values, counted breakpoint by breakpoint.
+/// The symbol of `length` values whose sum is `sum`, counted breakpoint by breakpoint.
 fn plain_symbol(table: Table, length: i64, sum: i64) -> u8 {
     let mut count = 0u8;
     for i in 1..256i64 {
@@ -206,7 +206,7 @@ fn compare_below(
     Err(Fail::new("the plain division has no end"))
 }
 
-/// So many series of values from -`spread` to `spread`.
+/// `count` series of values from -`spread` to `spread`.
 fn draw(alloc: Global, seed: u64, count: u32, spread: u64) -> Result<Flat, Fail>
     ensures { IfOk result (λ rows. rows.points ≡ 18) }
 {

@@ -70,7 +70,7 @@ fn means_at<R: Rows>(rows: &R, layout: &Layout, members: &[Member], i: usize) ->
     Means::of(&layout.cuts, rows.row(members[i].number))
 }
 
-/// The length by which the finer means of rows are cut: their own, or 1, so that there are none, where they have more values than a file
+/// The length by which the finer means of rows are cut: their own, or 1, so that none are cut, where they have more values than a file
 /// may hold. Such rows are windows that overlap, and finer means would take more than what they lie in.
 pub fn finer_length<R: Rows>(rows: &R) -> u32
     ensures value { result ≡ finer_points (R.collection rows.now) }

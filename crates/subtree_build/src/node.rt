@@ -9,9 +9,9 @@ pub enum Node {
     Split {
         /// The segment in which the children's words have one bit more.
         segment: u32,
-        /// The members whose next bit is 0; None where there are none.
+        /// The members whose next bit is 0; None where no member's next bit is 0.
         low: Option<Box<Node>>,
-        /// The members whose next bit is 1; None where there are none.
+        /// The members whose next bit is 1; None where no member's next bit is 1.
         high: Option<Box<Node>>,
     },
 }

@@ -99,7 +99,7 @@ fn best_triple(word: &Word, members: &[Member], counts: &[u32; 16]) -> Option<Tr
     best
 }
 
-/// The triple of a segment of so many members whose next bit is 1.
+/// The triple of segment `j`, in which `high` of the members have 1 as their next bit.
 fn triple_of(word: &Word, members: &[Member], high: u32, j: u32) -> Triple
     requires used { j < length word.now }
     requires count { high ≡ count_by (goes_high word.now j) members.now }

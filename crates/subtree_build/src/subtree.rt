@@ -43,7 +43,7 @@ fn divide(word: &Word, segment: u32, members: &mut [Member], scratch: &mut Vec<M
     low
 }
 
-/// The leaf of a word and so many members, put behind the others.
+/// The leaf of a word and of `count` members, put behind the others.
 fn leaf_node(word: &Word, count: u32, leaves: &mut Vec<GrownLeaf>) -> Result<Node, NoMemory>
     requires room { vec_len leaves.old < 2 ^ 32 }
     ensures { let put = grown_leaf word.now count in

@@ -4,7 +4,7 @@ use Rattle.std.specs.List.{flat_map}
 use Rattle.summary_phase.specs.declared.chunk.TheConstants.{CHUNK}
 use Rattle.isax_word.specs.declared.member.Member.{Member}
 
--- the number of chunks of so many series
+-- the number of chunks of `count` series
 abbrev pub chunk_count : ℕ → ℕ
 chunk_count count = (count + (CHUNK - 1)) / CHUNK
 

@@ -7,7 +7,7 @@ use std::ops::Range;
 /// The number of series in a chunk; the last chunk of a collection may have fewer.
 pub const CHUNK: u32 = 256;
 
-/// The number of chunks of so many series. It takes no memory.
+/// The number of chunks of `count` series. It takes no memory.
 pub fn chunks(count: u32) -> u64
     ensures value { result ≡ chunk_count count }
     ensures few { result ≤ 2 ^ 24 }
@@ -15,7 +15,7 @@ pub fn chunks(count: u32) -> u64
     (u64::from(count) + u64::from(CHUNK - 1)) / u64::from(CHUNK)
 }
 
-/// The numbers of the series in a chunk of a collection of so many series.
+/// The numbers of the series in a chunk of a collection of `count` series.
 pub(crate) fn numbers(chunk: u64, count: u32) -> Range<u32>
     requires chunk { chunk < chunk_count count }
     requires limit { count ≤ 2 ^ 24 }

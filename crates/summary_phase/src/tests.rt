@@ -30,7 +30,7 @@ fn row(number: u32) -> [i16; 4] {
     ]
 }
 
-/// The values of so many series in a row.
+/// The values of `count` series in a row.
 fn values(alloc: Global, count: u32) -> Result<Vec<i16>, NoMemory>
     requires { count ≤ 1000 }
     ensures { IfOk result (λ values. vec_len values ≡ count * 4) }
@@ -110,7 +110,7 @@ impl Gate for Turns {
     }
 }
 
-/// Draws so many chunks, or as many as there are.
+/// Draws `chunks` chunks, or as many as there are.
 fn skip(claims: &Claims, pass: &mut ClaimPass, chunks: u32)
     requires own { pass.old.claims ≡ claims.now }
     requires goes_on { pass.old.ended ≡ false }
@@ -122,8 +122,8 @@ fn skip(claims: &Claims, pass: &mut ClaimPass, chunks: u32)
     }
 }
 
-/// The buffers of worker 7 over so many series, at most 1000, where another pass drew the first chunks before, and the number of
-/// turns that were told.
+/// The buffers of worker 7 over `count` series, at most 1000, where another pass drew the first chunks before, and the number of
+/// turns that were reported.
 fn summarised<G: Gate>(
     alloc: Global,
     count: u32,

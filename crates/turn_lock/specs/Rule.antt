@@ -105,7 +105,7 @@ module _ {C R : Type 0} (callers word : ℕ) (seat_of : ℕ → ℕ) (log : List
   abbrev pub HasTurn : ℕ → List (Entry C R) → List (Entry C R) → Type 0
   HasTurn n seen mine = (seat_of n ≡ j) × (word ≡ suc n) × (seen ≡ log) × (calls_by n log ≡ mine)
 
-  -- the seat j has the number of a pass that is told of here
+  -- the seat j has the number that k names: that of a pass, which does not have the turn
   abbrev pub HasPass : Knowing C R → Type 0
   HasPass k = (k.number < callers) × HasNoTurn k.number k.seen k.mine
 
@@ -178,7 +178,7 @@ module _ {O C R : Type 0} (next : O → ℕ → C → O × R) where
   abbrev pub took : Step (Held O C R) → Sat O C R → ℕ → Sat O C R → Type 0
   took st m r m' = (r ≡ 0 → Took m m') × (r ≢ 0 → m' ≡ m)
 
-  -- what the load of a pass that was told something tells
+  -- what a pass learns by a load, where another pass told it something
   abbrev pub learnt : Step (Held O C R) → Sat O C R → ℕ → Sat O C R → Type 0
   learnt st m r m' = Learnt m m'
 

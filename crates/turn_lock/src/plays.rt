@@ -48,7 +48,7 @@ pub struct View<O, C, R> {
     pub handed: LinkedList<Knowing<C, R>>,
 }
 
-/// What the table is told once.
+/// What the table is given once.
 pub struct Opening<O> {
     /// The object that the lock was begun with.
     pub object: Snapshot<O>,

@@ -15,7 +15,7 @@ use Rattle.window_rows.proofs.Ranking.{found_or_not, chosen_some, chosen_size}
 use Rattle.window_rows.proofs.Shutting.{few_left}
 use Rattle.window_rows.proofs.Numbers.{numbers, distinct_take, distinct_ascending, distinct_pairs}
 
--- what is enough for one more rank: so many for each rank before
+-- what is enough for one more rank: 2 * far - 1 for each rank before, and one
 enough_next : (far k : ℕ) → enough far (suc k) ≡ k * (2 * far - 1) + 1
 enough_next far k = let e : suc k - 1 ≡ k = omega arith in ap (λ m. m * (2 * far - 1) + 1) e
 

@@ -143,7 +143,7 @@ module _ (far : ℕ) where
       omega (arith, one, rest))
       (cases_Bool (is_apart_from far chosen p))
 
-  -- then there are only so many pairs
+  -- then there are at most 2 * far - 1 pairs for each chosen one
   pub few_left : (chosen pairs : List Pair) → 0 < far
       → IsDistinct nat_eq (map (λ p. p.number) pairs)
       → find (is_apart_from far chosen) pairs ≡ None → length pairs ≤ length chosen * (2 * far - 1)

@@ -29,7 +29,7 @@ abbrev pub added : ℕ → ℕ → List Pair → Pair → List Pair
 added far k chosen p =
     if nat_lt (length chosen) k && is_apart_from far chosen p then chosen ++ p ∷ [] else chosen
 
--- So many pairs are enough for k ranks: each pair that was chosen before the last shuts out its own
+-- How many pairs are enough for k ranks: each pair that was chosen before the last shuts out its own
 -- number and those on both sides that are nearer than apart.
 abbrev pub enough : ℕ → ℕ → ℕ
 enough far k = (k - 1) * (2 * far - 1) + 1

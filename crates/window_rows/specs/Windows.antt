@@ -1,4 +1,4 @@
--- Windows of one long series: so many values each, from every place that is a whole number of
+-- Windows of one long series: n values each, from every place that is a whole number of
 -- steps.
 use Rattle.std.specs.Prelude.{◌≡◌, ℕ, ◌+◌, ◌-◌, ◌*◌, ◌/◌, ◌<◌, ◌≤◌, ℤ, List, map, take, drop, length, None, Some, slice_get, nat_le, if◌then◌else◌, FitsSigned}
 use Rattle.std.specs.List.{All, range_with_len}
@@ -6,7 +6,7 @@ use mir.Syntax.{w16}
 use Rattle.series_core.specs.Collection.{Collection}
 use Rattle.series_core.specs.declared.rows.TheConstants.{MAX_LENGTH, MAX_COUNT}
 
--- how many windows of n values a series of so many values has
+-- how many windows of n values a series of `size` values has
 abbrev pub windows_count : ℕ → ℕ → ℕ → ℕ
 windows_count size n step = if nat_le n size then (size - n) / step + 1 else 0
 

@@ -1,5 +1,5 @@
 //! A team: a worker for each pass over a counter, with what it has made. It starts no thread: whoever has a team lets its
-//! workers work, side by side or one after another, and whether memory sufficed is told by each worker alike.
+//! workers work, side by side or one after another, and whether memory sufficed is reported by each worker alike.
 #![tactic(auto)]
 
 mod team;

@@ -1,4 +1,4 @@
-//! Teams in one thread: their workers are dismissed with what they made, and want of memory is told where one made nothing.
+//! Teams in one thread: their workers are dismissed with what they made, and want of memory is reported where one made nothing.
 use super::*;
 use claim_word::Claims;
 use std::test::*;

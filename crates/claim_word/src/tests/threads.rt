@@ -64,7 +64,7 @@ fn dismiss(
     Ok(passes)
 }
 
-// What so many threads find of the numbers below n, ascending.
+// What `callers` threads find of the numbers below n, ascending.
 fn draw_in_threads<R: Threads + Sync>(
     rt: &R,
     alloc: Global,

@@ -85,7 +85,7 @@ impl Source {
     }
 }
 
-/// So many series of three values, at most 1000 of them.
+/// `count` series of three values, at most 1000 of them.
 fn values(alloc: Global, source: &mut Source, count: u32) -> Result<Vec<i16>, NoMemory>
     requires { count ≤ 1000 }
     ensures { IfOk result (λ values. vec_len values ≡ count * 3) }

@@ -47,7 +47,7 @@ fn drawn_value(rng: &mut SplitMix64) -> i16 {
     }
 }
 
-/// So many series of four values, at most 100 of them.
+/// `count` series of four values, at most 100 of them.
 fn drawn_collection(alloc: Global, rng: &mut SplitMix64, count: u32) -> Result<Flat, NoMemory> {
     let values = drawn_values(alloc, rng, count.min(100))?;
     Ok(Flat::from_values(4, values))

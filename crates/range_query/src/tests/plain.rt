@@ -33,7 +33,7 @@ impl Source {
     }
 }
 
-/// So many series of six values, at most 1000 of them.
+/// `count` series of six values, at most 1000 of them.
 fn collection(alloc: Global, source: &mut Source, count: u32) -> Result<Flat, NoMemory> {
     let values = values(alloc, source, count.min(1000))?;
     Ok(Flat::from_values(6, values))

@@ -5,7 +5,7 @@ use Rattle.certificate.proofs.Many.{with_none, entries_more, entries_bad, entrie
 use Rattle.certificate.proofs.words.entries.Goals as goal
 use Rattle.certificate.proofs.words.entries.Goals.{else-loop-test, then-loop-test+in_default}
 
--- so many entries are left
+-- where n is m, n further entries are m further entries
 left : (front : List Entry) (rest : List ℕ) (n m : ℕ) → n ≡ m
     → with_front front (entries_at n rest) ≡ with_front front (entries_at m rest)
 left front rest n m same = ap (λ k. with_front front (entries_at k rest)) same

@@ -5,7 +5,7 @@ use Rattle.certificate.proofs.Seen.{none_seen}
 use Rattle.certificate.proofs.Many.{parts_more, parts_stop, parts_bad, parts_none}
 use Rattle.certificate.proofs.words.parts.Goals as goal
 
--- so many parts are left
+-- where n is m, n further parts are m further parts
 left : (front : List Part) (rest : List ℕ) (n m : ℕ) → n ≡ m
     → with_front front (parts_at n rest) ≡ with_front front (parts_at m rest)
 left front rest n m same = ap (λ k. with_front front (parts_at k rest)) same

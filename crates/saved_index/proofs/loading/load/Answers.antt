@@ -1,4 +1,4 @@
--- The bytes that were read, where told, are those that were left.
+-- The bytes that were read, where known, are those that were left.
 use Rattle.std.proofs.Common.{◌≡◌, ◌≤◌, List, ℕ, length, ap, ◌∙◌, arith}
 use Rattle.std.specs.Prelude.{IfSome}
 use Rattle.std.proofs.lemmas.Option.{IfSome_then}
