@@ -1,7 +1,7 @@
 -- One more mean stands behind those so far, in place of a zero.
 use Rattle.std.proofs.Common.{rules, ◌≡◌, ◌∙◌, ◌-◌, ◌*◌, ◌/◌, ◌<◌, ◌≤◌, pos, arith, ap, sym, get_or}
 use Rattle.std.specs.Prelude.{◌+ℤ◌, FitsSigned, unsigned_abs}
-use Rattle.std.specs.Int.{w16, w32}
+use Rattle.std.specs.Int.{w32}
 use Rattle.std.proofs.lemmas.Int.{ints, to_z-of_z}
 use Rattle.std.proofs.Math.Nat.{div-le_of_le-mul}
 use Rattle.segment_sums.specs.Division.{segment_length}
@@ -9,7 +9,7 @@ use Rattle.segment_sums.specs.Sum.{segment_sum}
 use Rattle.segment_sums.proofs.Filled.{fill_next, filled}
 use Rattle.segment_sums.proofs.Places.{equal_lengths}
 use Rattle.segment_sums.proofs.Sums.{segment_sums_at}
-use Rattle.mean_bound.specs.Means.{raised_sum, segment_mean}
+use Rattle.mean_bound.specs.Means.{segment_mean}
 use Rattle.mean_bound.proofs.means.Means.of_equal.Goals as goal
 
 pub raised_by-requires-clause-not_low : goal.raised_by-requires-clause-not_low
