@@ -20,3 +20,4 @@ pub mod LeavesTold
 pub mod OfSaved
 pub mod NoFault
 pub mod TextTold
+pub mod LoadsBack

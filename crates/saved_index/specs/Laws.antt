@@ -1,5 +1,5 @@
 -- Laws of the texts of indexes.
-use Rattle.std.specs.Prelude.{◌≡◌, ℕ, ◌<◌, ◌≤◌, ◌↔◌, List, length, map, Some, None}
+use Rattle.std.specs.Prelude.{◌≡◌, ℕ, ◌<◌, ◌≤◌, ◌↔◌, ◌⊎◌, List, length, map, Some, None}
 use Rattle.std.specs.List.{All}
 use Rattle.series_core.specs.Collection.{Collection, IsCollection}
 use Rattle.segment_sums.specs.Division.{IsDivision}
@@ -7,8 +7,12 @@ use Rattle.subtree_build.specs.declared.settings.Settings.{Settings}
 use Rattle.subtree_build.specs.Fits.{Fits, IsTreeOf}
 use Rattle.subtree_build.specs.Index.{IndexParts, IsIndex}
 use Rattle.subtree_build.specs.Outline.{outline}
+use Rattle.saved_index.specs.declared.error.IndexFault.{IndexFault}
+use Rattle.saved_index.specs.declared.error.IndexFault.TheVariants.{ReadFault, NoMemory}
+use Rattle.saved_index.specs.declared.loading.LoadedIndex.{LoadedIndex}
 use Rattle.saved_index.specs.Faults.{index_fault}
 use Rattle.saved_index.specs.IndexText.{CanSave, IndexText}
+use Rattle.saved_index.specs.Loading.{Explains, IsIndexFor, IsTextFor}
 use Rattle.saved_index.specs.Reading.{saved_in}
 use Rattle.saved_index.specs.Saved.{Saved, IsTextOf}
 
@@ -45,6 +49,18 @@ abbrev pub TextHasNoFault : Type 0
 TextHasNoFault = (c : Collection) (bytes : List ℕ) (settings : Settings) (ix : IndexParts) → IsIndexOf c settings ix
     → settings.layout.cuts.row_length ≡ c.points → IndexText bytes settings (length c.series) ix → length bytes ≤ 1073741824
     → index_fault bytes c ≡ None
+
+-- Loading bytes over a collection ends with this index under these settings: whatever may be handed out is the same, and only a read that
+-- fails, or want of memory, keeps it from being handed out.
+pub record LoadsBack (c : Collection) (bytes : List ℕ) (settings : Settings) (ix : IndexParts) : Type 0 where
+  pub same : (back : LoadedIndex) → IsIndexFor c back → IsTextFor c back bytes → (settings ≡ back.settings) × AreSame ix back.index
+  pub refused : (e : IndexFault) → Explains c (Some bytes) e → (e ≡ ReadFault) ⊎ (e ≡ NoMemory)
+
+-- the text of an index that fits a collection is loaded back, where it is no longer than a saved index may be
+abbrev pub TextsLoadBack : Type 0
+TextsLoadBack = (c : Collection) (bytes : List ℕ) (settings : Settings) (ix : IndexParts) → IsIndexOf c settings ix
+    → settings.layout.cuts.row_length ≡ c.points → IndexText bytes settings (length c.series) ix → length bytes ≤ 1073741824
+    → LoadsBack c bytes settings ix
 
 -- an index that is the tree of a collection can be saved
 abbrev pub TreesCanBeSaved : Type 0

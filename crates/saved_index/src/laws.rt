@@ -1,5 +1,5 @@
 //! Laws of the texts of indexes. Each is a function that does nothing: its clause is the law.
-ghost use Rattle.saved_index.specs.Laws.{ReadsTexts, TextHasNoFault, TextTellsIndex, TextsAreOne, TreesCanBeSaved};
+ghost use Rattle.saved_index.specs.Laws.{ReadsTexts, TextHasNoFault, TextTellsIndex, TextsAreOne, TextsLoadBack, TreesCanBeSaved};
 
 /// A text is that of one header and one tree alone.
 pub fn one_text_law()
@@ -19,6 +19,12 @@ pub fn text_tells_index_law()
 /// The text of an index that fits a collection is not refused over it.
 pub fn no_fault_law()
     ensures { TextHasNoFault }
+{}
+
+/// What is saved of an index over a collection is loaded over it as the same index under the same settings, unless a read fails or
+/// memory runs out.
+pub fn loads_back_law()
+    ensures { TextsLoadBack }
 {}
 
 /// The tree of a collection can be saved.

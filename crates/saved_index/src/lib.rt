@@ -15,7 +15,9 @@ mod savable;
 mod saving;
 
 pub use error::IndexFault;
-pub use laws::{no_fault_law, one_text_law, reading_law, text_tells_index_law, tree_law};
+pub use laws::{
+    loads_back_law, no_fault_law, one_text_law, reading_law, text_tells_index_law, tree_law,
+};
 pub use loading::{LoadedIndex, load};
 pub use savable::can_save;
 pub use saving::save;

@@ -7,8 +7,9 @@ use crate::loading::{LoadedIndex, load, load_bytes};
 use crate::plain_fault::plain_fault;
 use crate::savable::can_save;
 use crate::saving::save;
-use crate::tests::{TEXT, text_of, worked};
+use crate::tests::{TEXT, text_by, text_of, worked};
 use outside::{Files, MemFiles};
+use segment_sums::Cuts;
 use series_core::Flat;
 use std::alloc::Global;
 use std::test::Fail;
@@ -186,6 +187,33 @@ fn texts_are_loaded_and_saved_again(rt: HostRuntime) -> Result<(), Fail> {
         let again = back(&rt, alloc, &drawn, 100, bytes.as_slice())?;
         assert_eq!(rt; again.as_slice(), bytes.as_slice(), "leaves of {leaf_size}");
     }
+    Ok(())
+}
+
+/// The text of the tree of (0,0), (0,20000) and (300,0) by two segments, in leaves of one: below the one split that takes (0,20000) off,
+/// eleven more part the other two.
+const THREE_POINTS: [u8; 79] = [
+    0x49, 0x53, 0x45, 0x58, 1, 0, 2, 0, 2, 0, 0, 0, 3, 0, 0, 0, 1, 0, 0, 0, 1, 0, 0, 0, // header
+    3, 0, 0, 0, 3, 1, // root 3, split in segment 1
+    1, 0, 1, 0, 1, 1, 1, 0, 1, 1, 1, 0, 1, 1, 1, 0, 1, 1, 1, 0, 3, 0, // eleven splits
+    0, 1, 0, 0, 0, 0, 0, 0, 0, // (0,0)
+    0, 1, 0, 0, 0, 2, 0, 0, 0, // (300,0)
+    0, 1, 0, 0, 0, 1, 0, 0, 0, // (0,20000)
+];
+
+#[test]
+fn the_tree_of_three_points(rt: HostRuntime) -> Result<(), Fail> {
+    let alloc = rt.alloc();
+    let values = [0, 0, 0, 20000, 300, 0];
+    let rows = Flat::from_values(2, values.to_vec(alloc)?);
+    let bytes = text_by(&rt, alloc, &rows, Cuts::new(2, 2), 3, 1)?;
+    assert_eq!(rt; bytes.as_slice(), THREE_POINTS.as_slice(), "saved");
+    let again = back(&rt, alloc, &rows, 3, bytes.as_slice())?;
+    assert_eq!(rt;
+        again.as_slice(),
+        THREE_POINTS.as_slice(),
+        "loaded and saved again"
+    );
     Ok(())
 }
 

@@ -41,8 +41,22 @@ pub(crate) fn text_of<H: std::thread::Threads + Sync>(
 ) -> Result<Vec<u8>, Fail>
     requires { rows.now.points ≡ 4 }
 {
+    text_by(rt, alloc, rows, Cuts::new(4, 2), count, leaf_size)
+}
+
+/// The text of the tree of rows cut in this way.
+pub(crate) fn text_by<H: std::thread::Threads + Sync>(
+    rt: &H,
+    alloc: Global,
+    rows: &Flat,
+    cuts: Cuts,
+    count: u32,
+    leaf_size: u32,
+) -> Result<Vec<u8>, Fail>
+    requires { rows.now.points ≡ cuts.row_length }
+{
     let layout = Layout {
-        cuts: Cuts::new(4, 2),
+        cuts,
         table: Table::Flat,
     };
     let settings = Settings { layout, leaf_size };
