@@ -5,3 +5,4 @@ pub mod Scaled
 pub mod Symbols
 pub mod Roots
 pub mod Words
+pub mod SideBySide

@@ -1,9 +1,12 @@
 //! Full words: the symbol of each segment in eight bits, and the root number that their first bits make.
 ghost use Rattle.std.specs.Prelude.{◌≡◌, ◌<◌, ◌^◌, length, slice_get, Some};
+ghost use Rattle.breakpoints.specs.declared.table.Table.TheVariants.{Bent};
 ghost use Rattle.isax_word.specs.FullWord.{IsFullWord, full_word, root_number};
 
 use crate::layout::Layout;
+use crate::sixteen::{bent_symbols, lengths_of};
 use crate::symbol::symbol_of_sum;
+use breakpoints::Table;
 use std::marker::Model;
 
 /// The full word of a series, seen as the list of its symbols.
@@ -38,6 +41,17 @@ impl Full {
         requires { length row.now ≡ layout.now.cuts.row_length }
         ensures { result ≡ full_word layout.now row.now }
     {
+        match layout.table {
+            Table::Flat => Full::one_by_one(layout, row),
+            Table::Bent => Full::side_by_side(layout, row),
+        }
+    }
+
+    // The full word, segment by segment.
+    fn one_by_one(layout: &Layout, row: &[i16]) -> Self
+        requires { length row.now ≡ layout.now.cuts.row_length }
+        ensures { result ≡ full_word layout.now row.now }
+    {
         let mut sums = [0; 16];
         layout.cuts.sums(row, &mut sums);
         let count = layout.cuts.segments();
@@ -45,6 +59,23 @@ impl Full {
         for j in 0..count {
             let (from, to) = layout.cuts.cut(j);
             symbols[j as usize] = symbol_of_sum(layout.table, to - from, sums[j as usize]);
+        }
+        Full { count, symbols }
+    }
+
+    // The full word by the bent table, all segments at once.
+    fn side_by_side(layout: &Layout, row: &[i16]) -> Self
+        requires length { length row.now ≡ layout.now.cuts.row_length }
+        requires bent { layout.now.table ≡ Bent }
+        ensures { result ≡ full_word layout.now row.now }
+    {
+        let mut sums = [0; 16];
+        layout.cuts.sums(row, &mut sums);
+        let found = bent_symbols(&lengths_of(&layout.cuts), &sums);
+        let count = layout.cuts.segments();
+        let mut symbols = [0; 16];
+        for j in 0..count {
+            symbols[j as usize] = found[j as usize] as u8;
         }
         Full { count, symbols }
     }

@@ -6,6 +6,7 @@ mod full;
 mod laws;
 mod layout;
 mod member;
+mod sixteen;
 mod symbol;
 #[cfg(test)]
 mod tests;

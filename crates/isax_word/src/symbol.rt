@@ -44,7 +44,8 @@ fn flat_symbol(length: u32, sum: i32) -> u8
 }
 
 /// 1 where the bent breakpoint at place `i`, times the length, is at or below the sum, and else 0.
-fn bent_reached(length: u32, sum: i32, i: u32) -> u32
+#[inline(always)]
+pub(crate) fn bent_reached(length: u32, sum: i32, i: u32) -> u32
     requires few_values { length ≤ 65536 }
     requires first { 1 ≤ i }
     requires last { i ≤ 255 }

@@ -60,6 +60,55 @@ fn compare_near(rt: &impl Abort, table: Table, length: u32, place: u32) {
     }
 }
 
+/// A row of values over the whole range, smaller ones towards its end.
+fn scattered() -> [i16; 260] {
+    let mut row = [0; 260];
+    for i in 0..260u32 {
+        let value = i32::from((i.wrapping_mul(2654435761) >> 16) as u16) - 32768;
+        row[i as usize] = (value / (1 + i as i32 / 20)) as i16;
+    }
+    row
+}
+
+#[test]
+fn full_words_are_counts_in_each_segment(rt: HostRuntime) -> Result<(), Fail> {
+    let values = scattered();
+    for table in [Table::Flat, Table::Bent] {
+        for (n, w) in [
+            (1, 1),
+            (8, 8),
+            (64, 16),
+            (100, 7),
+            (256, 16),
+            (259, 16),
+            (260, 1),
+        ] {
+            assert!(rt;
+                1 <= w && w <= 16 && w <= n && n <= 260,
+                "{n} {w} is no division"
+            );
+            let layout = Layout {
+                cuts: Cuts::new(n, w),
+                table,
+            };
+            let full = Full::of(&layout, &values[..n as usize]);
+            assert_eq!(rt; full.segments(), w, "the segments of {n} by {w}");
+            let mut sums = [0; 16];
+            layout.cuts.sums(&values[..n as usize], &mut sums);
+            for j in 0..w {
+                let (from, to) = layout.cuts.cut(j);
+                let counted = plain_count(table, to - from, sums[j as usize]);
+                assert_eq!(rt;
+                    full.symbol(j),
+                    counted,
+                    "segment {j} of {n} by {w} in {table:?}"
+                );
+            }
+        }
+    }
+    Ok(())
+}
+
 #[test]
 fn symbols_are_counts_at_every_breakpoint(rt: HostRuntime) -> Result<(), Fail> {
     for table in [Table::Flat, Table::Bent] {

@@ -12,7 +12,7 @@ use Rattle.isax_word.specs.Symbol.{symbol_of}
 use Rattle.isax_word.specs.FullWord.{IsFullWord, full_word, segment_symbol}
 use Rattle.isax_word.proofs.PaddedLists.{IsKept, padded_next}
 use Rattle.isax_word.proofs.Symbols.{IsFullWord-full_word}
-use Rattle.isax_word.proofs.full.Full.of.Goals as goal
+use Rattle.isax_word.proofs.full.Full.one_by_one.Goals as goal
 
 pub symbol_of_sum-requires-clause-not_low : goal.symbol_of_sum-requires-clause-not_low
 symbol_of_sum-requires-clause-not_low c =
