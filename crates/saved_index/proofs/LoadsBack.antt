@@ -1,5 +1,5 @@
 -- What is saved of an index that fits a collection is loaded back over it (`loads_back`).
-use Rattle.std.proofs.Common.{◌≡◌, ℕ, ◌≤◌, List, length, Option, Some, None, refl, sym, ◌∙◌, ⊎_elim, inl, inr}
+use Rattle.std.proofs.Common.{◌≡◌, ℕ, ◌≤◌, arith, List, length, Some, None, refl, inl, inr}
 use Rattle.std.specs.Prelude.{◌⊎◌}
 use Rattle.series_core.specs.Collection.{Collection}
 use Rattle.subtree_build.specs.declared.settings.Settings.{Settings}
@@ -17,7 +17,7 @@ use Rattle.saved_index.proofs.OfSaved.{same_index}
 -- what has no fault has none of these
 no_such : (bytes : List ℕ) (c : Collection) (e : IndexFault) → index_fault bytes c ≡ None → index_fault bytes c ≡ Some e
     → (e ≡ ReadFault) ⊎ (e ≡ NoMemory)
-no_such bytes c e none some = grind (none, some)
+no_such bytes c e none some = grind (arith, none, some)
 
 -- where bytes have no fault, a refusal is a failed read or want of memory
 left_to_refuse : (bytes : List ℕ) (c : Collection) (e : IndexFault) → index_fault bytes c ≡ None → Explains c (Some bytes) e
