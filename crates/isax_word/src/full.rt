@@ -2,6 +2,7 @@
 ghost use Rattle.std.specs.Prelude.{◌≡◌, ◌<◌, ◌^◌, length, slice_get, Some};
 ghost use Rattle.breakpoints.specs.declared.table.Table.TheVariants.{Bent};
 ghost use Rattle.isax_word.specs.FullWord.{IsFullWord, full_word, root_number};
+ghost use Rattle.isax_word.specs.Padded.{padded};
 
 use crate::layout::Layout;
 use crate::sixteen::{bent_symbols, lengths_of};
@@ -86,6 +87,13 @@ impl Full {
         ensures { slice_get self.now j ≡ Some result }
     {
         self.symbols[j as usize]
+    }
+
+    /// The symbols of all segments, and 0 in the places behind them.
+    pub fn symbols(&self) -> &[u8; 16]
+        ensures { result.now ≡ padded 0 self.now }
+    {
+        &self.symbols
     }
 
     /// The number of segments, from 1 to 16.

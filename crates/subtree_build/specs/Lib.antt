@@ -3,6 +3,7 @@ pub mod Tree
 pub mod Grown
 pub mod Members
 pub mod Splitting
+pub mod NextBits
 pub mod Division
 pub mod Outline
 pub mod Index

@@ -2,6 +2,7 @@
 ghost use Rattle.std.specs.Prelude.{◌≡◌, ℕ, ◌+◌, ◌*◌, ◌^◌, ◌<◌, ◌≤◌, All, length, slice_index, count_by, IfSome, IfNone};
 ghost use Rattle.isax_word.specs.Word.{IsWord, part_at, next_bit_at};
 ghost use Rattle.subtree_build.specs.Division.{bits_left};
+ghost use Rattle.subtree_build.specs.NextBits.{has_bit, AreNextPlaces};
 ghost use Rattle.subtree_build.specs.Splitting.{goes_high, split_segment, is_less, triple_of, lesser_of, IsBestOf, NoneDivisible};
 
 use isax_word::{Full, Word};
@@ -39,15 +40,26 @@ pub(crate) fn next_bit(word: &Word, full: &Full, j: u32) -> u8
     (full.symbol(j) >> 7u8.saturating_sub(word.bits(j))) % 2
 }
 
-/// Adds each next bit of a full word to the count of its segment.
-fn add_next_bits(word: &Word, full: &Full, counts: &mut [u32; 16])
-    requires segments { length full.now ≡ length word.now }
-    requires room { (j : ℕ) → j < length word.now → slice_index counts.old j + 1 < 2 ^ 32 }
-    ensures { (j : ℕ) → j < length word.now
-        → slice_index counts.new j ≡ slice_index counts.old j + next_bit_at word.now full.now j }
+/// In each segment the place value of the bit behind those that the word has; 0 past the segments.
+fn next_places(word: &Word) -> [u8; 16]
+    ensures places { AreNextPlaces word.now result }
+    ensures few { length word.now ≤ 16 }
 {
+    let mut places = [0; 16];
     for j in 0..word.segments() {
-        counts[j as usize] += u32::from(next_bit(word, full, j));
+        places[j as usize] = 1 << 7u8.saturating_sub(word.bits(j));
+    }
+    places
+}
+
+/// Adds to the count of each segment the bit of its symbol that has this place value, all of them side by side.
+fn add_bits(places: &[u8; 16], symbols: &[u8; 16], counts: &mut [u32; 16])
+    requires room { (j : ℕ) → j < 16 → slice_index counts.old j + 1 < 2 ^ 32 }
+    ensures { (j : ℕ) → j < 16 → slice_index counts.new j
+        ≡ slice_index counts.old j + has_bit (slice_index symbols.now j) (slice_index places.now j) }
+{
+    for j in 0..16 {
+        counts[j] += u32::from(symbols[j] & places[j] != 0);
     }
 }
 
@@ -58,9 +70,10 @@ fn high_counts(word: &Word, members: &[Member]) -> [u32; 16]
     ensures { (j : ℕ) → j < length word.now
         → slice_index result j ≡ count_by (goes_high word.now j) members.now }
 {
+    let places = next_places(word);
     let mut counts = [0; 16];
     for member in members {
-        add_next_bits(word, &member.full, &mut counts);
+        add_bits(&places, member.full.symbols(), &mut counts);
     }
     counts
 }
