@@ -6,7 +6,7 @@ pub mod Descents
 pub mod Starts
 pub mod Bounds
 pub mod Splits
-pub mod NextBits
+pub mod BitLanes
 pub mod Ascending
 pub mod ByNumber
 pub mod Divisions

@@ -8,6 +8,7 @@ mod laws;
 mod leaf;
 mod leaf_row;
 mod means;
+mod next_bits;
 mod node;
 mod part;
 mod phases;

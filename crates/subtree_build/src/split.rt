@@ -2,10 +2,11 @@
 ghost use Rattle.std.specs.Prelude.{◌≡◌, ℕ, ◌+◌, ◌*◌, ◌^◌, ◌<◌, ◌≤◌, All, length, slice_index, count_by, IfSome, IfNone};
 ghost use Rattle.isax_word.specs.Word.{IsWord, part_at, next_bit_at};
 ghost use Rattle.subtree_build.specs.Division.{bits_left};
-ghost use Rattle.subtree_build.specs.NextBits.{has_bit, AreNextPlaces};
 ghost use Rattle.subtree_build.specs.Splitting.{goes_high, split_segment, is_less, triple_of, lesser_of, IsBestOf, NoneDivisible};
 
+use crate::next_bits::{bits_added, next_places};
 use isax_word::{Full, Word};
+use std::simd::prelude::*;
 use summary_phase::Member;
 
 /// What a split in a segment is judged by; the least triple is the best.
@@ -40,29 +41,6 @@ pub(crate) fn next_bit(word: &Word, full: &Full, j: u32) -> u8
     (full.symbol(j) >> 7u8.saturating_sub(word.bits(j))) % 2
 }
 
-/// In each segment the place value of the bit behind those that the word has; 0 past the segments.
-fn next_places(word: &Word) -> [u8; 16]
-    ensures places { AreNextPlaces word.now result }
-    ensures few { length word.now ≤ 16 }
-{
-    let mut places = [0; 16];
-    for j in 0..word.segments() {
-        places[j as usize] = 1 << 7u8.saturating_sub(word.bits(j));
-    }
-    places
-}
-
-/// Adds to the count of each segment the bit of its symbol that has this place value, all of them side by side.
-fn add_bits(places: &[u8; 16], symbols: &[u8; 16], counts: &mut [u32; 16])
-    requires room { (j : ℕ) → j < 16 → slice_index counts.old j + 1 < 2 ^ 32 }
-    ensures { (j : ℕ) → j < 16 → slice_index counts.new j
-        ≡ slice_index counts.old j + has_bit (slice_index symbols.now j) (slice_index places.now j) }
-{
-    for j in 0..16 {
-        counts[j] += u32::from(symbols[j] & places[j] != 0);
-    }
-}
-
 /// How many members have 1 for their next bit in each segment; the entries past the segments say nothing.
 fn high_counts(word: &Word, members: &[Member]) -> [u32; 16]
     requires segments { All (λ m. length m.full ≡ length word.now) members.now }
@@ -71,11 +49,11 @@ fn high_counts(word: &Word, members: &[Member]) -> [u32; 16]
         → slice_index result j ≡ count_by (goes_high word.now j) members.now }
 {
     let places = next_places(word);
-    let mut counts = [0; 16];
+    let mut counts = u32x16::splat(0);
     for member in members {
-        add_bits(&places, member.full.symbols(), &mut counts);
+        counts = bits_added(counts, member.full.symbols(), &places);
     }
-    counts
+    counts.to_array()
 }
 
 /// The segment in which a node of this word and these members is split; None where the word has eight bits in

@@ -4,7 +4,7 @@ use Rattle.std.proofs.lemmas.List.{length-set, get_or-set_same, get_or-set_other
 use Rattle.std.proofs.lemmas.Nat.{pow_below}
 use Rattle.std.proofs.Math.Nat.{mod-eq_of_lt}
 use Rattle.isax_word.specs.Word.{part_at}
-use Rattle.subtree_build.proofs.split.next_places.Goals as goal
+use Rattle.subtree_build.proofs.next_bits.next_places.Goals as goal
 
 pub loop-j-preserved : goal.loop-j-preserved
 loop-j-preserved c =

@@ -1,7 +1,7 @@
 -- The place values of the segments so far.
 use Rattle.std.proofs.Common.{◌≡◌, ℕ, ◌-◌, ◌^◌, ◌<◌, length, get_or}
 use Rattle.isax_word.specs.Word.{part_at}
-use Rattle.subtree_build.proofs.split.next_places.Given as goal
+use Rattle.subtree_build.proofs.next_bits.next_places.Given as goal
 
 abbrev pub invariant-loop-j : goal.invariant-loop-j
 invariant-loop-j l = record {
