@@ -131,6 +131,7 @@ pub fn take_in(entries: &mut [Entry], run: usize) -> usize
     requires inside { run < length entries.old }
     requires run { IsRun run (take (length entries.old - 1) entries.old) }
     ensures permutation { IsPermutation entries.old entries.new }
+    ensures stays { run ≤ result }
     ensures inside { result ≤ length entries.new }
     ensures run { IsRun result entries.new }
 {
