@@ -1,4 +1,5 @@
 //! The series that were near others last, which are tried first. Nobody believes them: each is measured again.
+use mean_bound::Means;
 
 /// How many are remembered.
 pub(crate) const RECENT: usize = 4;
@@ -6,32 +7,49 @@ pub(crate) const RECENT: usize = 4;
 /// A number that no series has.
 const NOBODY: u32 = u32::MAX;
 
-/// The numbers of the series that were near others last, the latest first.
+/// A series that was near another, with its means, so that one that is far is seen by a bound.
+#[derive(Clone, Copy)]
+pub(crate) struct Known {
+    pub number: u32,
+    pub means: Means,
+}
+
+impl Known {
+    /// No series.
+    pub fn nobody() -> Known {
+        Known {
+            number: NOBODY,
+            means: Means::zeros(),
+        }
+    }
+}
+
+/// The series that were near others last, the latest first.
 #[derive(Drop)]
 pub(crate) struct Recent {
-    numbers: [u32; RECENT],
+    series: [Known; RECENT],
 }
 
 impl Recent {
     /// Nothing is remembered yet.
     pub fn new() -> Recent {
         Recent {
-            numbers: [NOBODY; RECENT],
+            series: [Known::nobody(); RECENT],
         }
     }
 
-    /// The number at a place, below `RECENT`; one that no series has where there is none.
-    pub fn at(&self, place: usize) -> u32 {
-        self.numbers.get(place).copied().unwrap_or(NOBODY)
+    /// The series at a place, below `RECENT`; none where nothing is remembered there.
+    pub fn at(&self, place: usize) -> Known {
+        self.series.get(place).copied().unwrap_or(Known::nobody())
     }
 
-    /// Puts a number first; those before this place, below `RECENT`, move back by one.
-    pub fn put_first(&mut self, place: usize, number: u32) {
+    /// Puts a series first; those before this place, below `RECENT`, move back by one.
+    pub fn put_first(&mut self, place: usize, known: Known) {
         for to in (1..RECENT).rev() {
             if to <= place {
-                self.numbers[to] = self.numbers[to - 1];
+                self.series[to] = self.series[to - 1];
             }
         }
-        self.numbers[0] = number;
+        self.series[0] = known;
     }
 }

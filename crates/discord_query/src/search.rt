@@ -5,7 +5,7 @@ ghost use Rattle.std.specs.Option.{option_to_list};
 ghost use Rattle.discord_query.specs.Discords.{farness_of, is_other, other, least_farness};
 ghost use Rattle.discord_query.specs.Searches.{IsNear, IsReady};
 
-use crate::recent::{RECENT, Recent};
+use crate::recent::{Known, RECENT, Recent};
 use best_word::Floor;
 use isax_word::Layout;
 use mean_bound::{MeanView, Means};
@@ -78,33 +78,48 @@ impl<'a, R: Rows> Search<'a, R> {
             _ => return false,
         };
         let nearer = NONE - limit - 1;
+        let view = self.view(number);
         for place in 0..RECENT {
-            let other = recent.at(place);
-            if self.is_near(number, other, nearer) {
-                recent.put_first(place, other);
+            let known = recent.at(place);
+            if view.bound(&known.means) <= nearer && self.is_near(number, known.number, nearer) {
+                recent.put_first(place, known);
                 return true;
             }
         }
-        let Some(other) = self.near_other(number, home, nearer) else {
+        let Some(other) = self.near_other(number, &view, home, nearer) else {
             return false;
         };
-        recent.put_first(RECENT - 1, other);
+        recent.put_first(RECENT - 1, self.known(other));
         true
+    }
+
+    /// A series with its means, looked up in its leaf.
+    fn known(&self, number: u32) -> Known {
+        let leaf = self.homes.get(number as usize).copied().unwrap_or(0);
+        if leaf < self.index.leaf_count() {
+            let means = self.index.leaf_means(leaf);
+            for (i, member) in self.index.leaf_members(leaf).iter().enumerate() {
+                if member.number == number {
+                    let means = means.get(i).copied().unwrap_or(Means::zeros());
+                    return Known { number, means };
+                }
+            }
+        }
+        Known::nobody()
     }
 
     /// Another series within a radius of this one, if one is found. It is sought from the series' own leaf outwards, since leaves that
     /// stand near one another have words that are alike.
-    fn near_other(&self, number: u32, home: u32, radius: u64) -> Option<u32>
+    fn near_other(&self, number: u32, view: &MeanView, home: u32, radius: u64) -> Option<u32>
         requires ready { IsReady R.collection self.now }
         requires number { number < length (R.collection self.now.rows.now).series }
         ensures { IfSome result (λ t. IsNear (R.collection self.now.rows.now) number t radius) }
     {
-        let view = self.view(number);
         for step in 0..REACH.min(self.index.leaf_count()) {
-            if let Some(other) = self.near_in(number, &view, home.wrapping_add(step), radius) {
+            if let Some(other) = self.near_in(number, view, home.wrapping_add(step), radius) {
                 return Some(other);
             }
-            if let Some(other) = self.near_in(number, &view, home.wrapping_sub(step + 1), radius) {
+            if let Some(other) = self.near_in(number, view, home.wrapping_sub(step + 1), radius) {
                 return Some(other);
             }
         }
