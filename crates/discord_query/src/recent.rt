@@ -2,7 +2,7 @@
 use mean_bound::Means;
 
 /// How many are remembered.
-pub(crate) const RECENT: usize = 4;
+pub(crate) const RECENT: usize = 12;
 
 /// A number that no series has.
 const NOBODY: u32 = u32::MAX;
