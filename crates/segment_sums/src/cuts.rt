@@ -212,15 +212,24 @@ mod tests {
     }
 
     // Value i of a row of the next test: all bits change.
-    fn value_at(i: usize) -> i16 {
-        (((i as u32).wrapping_mul(2654435761) >> 16) as i32 - 32768) as i16
+    fn value_at(i: u32) -> i16 {
+        (i32::from((i.wrapping_mul(2654435761) >> 16) as u16) - 32768) as i16
+    }
+
+    // The values from one place up to another, added one by one.
+    fn plain_sum(from: u32, to: u32) -> i64 {
+        let mut sum = 0i64;
+        for i in from..to {
+            sum = sum.wrapping_add(i64::from(value_at(i)));
+        }
+        sum
     }
 
     #[test]
     fn sums_of_equal_segments(rt: HostRuntime) -> Result<(), Fail> {
-        let mut row = [0i16; 1040];
-        for i in 0..1040 {
-            row[i] = value_at(i);
+        let mut row = [0; 1040];
+        for i in 0..1040u32 {
+            row[i as usize] = value_at(i);
         }
         let divisions: [(u32, u32); 9] = [
             (8, 8),
@@ -243,15 +252,8 @@ mod tests {
             cuts.sums(&row[..n as usize], &mut into);
             for j in 0..w {
                 let (from, to) = cuts.cut(j);
-                let mut sum = 0i64;
-                for i in from..to {
-                    sum += i64::from(value_at(i as usize));
-                }
-                assert_eq!(rt;
-                    i64::from(into[j as usize]),
-                    sum,
-                    "segment {j} of {w} over {n}"
-                );
+                let sum = i64::from(into[j as usize]);
+                assert_eq!(rt; sum, plain_sum(from, to), "segment {j} of {w} over {n}");
             }
         }
         Ok(())
