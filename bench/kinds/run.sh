@@ -28,13 +28,14 @@ kind() {
             printf "    the best scan takes %.2f times as long\n", best / own }' "$work/times" | sort -r
 }
 
-[ $# -gt 0 ] || set -- walks long members resonances noise short ${SOUND:+sound}
+[ $# -gt 0 ] || set -- walks long members resonances shrill noise short ${SOUND:+sound}
 for wanted in "$@"; do
     case "$wanted" in
         walks) kind walks 500000 256 20 10 ;;
         long) kind walks 100000 1024 20 10 ;;
         members) kind members 500000 256 100 1 ;;
         resonances) kind resonances 100000 256 20 10 ;;
+        shrill) kind shrill 100000 256 20 10 ;;
         sound) kind sound 400000 256 20 10 ;;
         noise) kind noise 200000 256 10 10 ;;
         short) kind walks 16777216 8 20 10 ;;

@@ -134,13 +134,14 @@ impl<'a, R: Rows> Search<'a, R> {
         MeanView::new(&self.layout.cuts, self.rows.row(number))
     }
 
-    /// Another series within a radius of this one among the members of a leaf, if there is a leaf of this number.
+    /// Another series within a radius of this one among the members of a leaf, if there is a leaf of this number. A leaf whose box is
+    /// too far has none.
     fn near_in(&self, number: u32, view: &MeanView, leaf: u32, radius: u64) -> Option<u32>
         requires ready { IsReady R.collection self.now }
         requires number { number < length (R.collection self.now.rows.now).series }
         ensures { IfSome result (λ t. IsNear (R.collection self.now.rows.now) number t radius) }
     {
-        if leaf >= self.index.leaf_count() {
+        if leaf >= self.index.leaf_count() || view.bound_box(self.index.leaf_box(leaf)) > radius {
             return None;
         }
         let means = self.index.leaf_means(leaf);

@@ -1,10 +1,11 @@
--- A box of means holds each of them (`box_holds`), so its bound is at most the bound of each (`box_below`).
+-- A box of means holds each of them (`box_holds`), so its bound is at most the bound of each (`box_below`); and so it is with a box
+-- of boxes (`wider_below`).
 use Rattle.std.proofs.Common.{ℕ, zero, suc, ◌-◌, ◌<◌, ◌≤◌, arith, List, [], ◌∷◌, length, map, slice_index_or}
 use Rattle.std.specs.Prelude.{min, max}
 use Rattle.std.specs.Simd.Lanes.{zip2, sum_l}
 use Rattle.std.proofs.lemmas.Nat.{mul-le}
 use Rattle.mean_bound.specs.MeanBound.{View, square, gaps_between, mean_bound}
-use Rattle.mean_bound.specs.Boxes.{box_of, box_bound}
+use Rattle.mean_bound.specs.Boxes.{Box, box_of, box_of_boxes, box_bound}
 
 -- the first list is no longer than the second, and each of its numbers is at most the one of the second
 abbrev pub Under : List ℕ → List ℕ → Type 0
@@ -18,26 +19,27 @@ Over [] ys = Unit {0}
 Over (x ∷ xs) [] = ⊥
 Over (x ∷ xs) (y ∷ ys) = (y ≤ x) × Over xs ys
 
--- what lies between has no smaller gap
-gap_grows : (l h least m greatest : ℕ) → least ≤ m → m ≤ greatest
-    → square (min (max (l - greatest) (least - h)) 16383) ≤ square (min (max (l - m) (m - h)) 16383)
-gap_grows l h least m greatest low high =
-    let less : min (max (l - greatest) (least - h)) 16383 ≤ min (max (l - m) (m - h)) 16383 = omega (arith, low, high) in
+-- what reaches less far has no smaller gap
+gap_grows : (l h least a b greatest : ℕ) → least ≤ a → b ≤ greatest
+    → square (min (max (l - greatest) (least - h)) 16383) ≤ square (min (max (l - b) (a - h)) 16383)
+gap_grows l h least a b greatest low high =
+    let less : min (max (l - greatest) (least - h)) 16383 ≤ min (max (l - b) (a - h)) 16383 = omega (arith, low, high) in
     mul-le (min (max (l - greatest) (least - h)) 16383) (min (max (l - greatest) (least - h)) 16383)
-    (min (max (l - m) (m - h)) 16383) (min (max (l - m) (m - h)) 16383) less less
+    (min (max (l - b) (a - h)) 16383) (min (max (l - b) (a - h)) 16383) less less
 
 -- and so for all of them
-squares_grow : (lows highs leasts ms greatests : List ℕ) → Under leasts ms → Over greatests ms
+squares_grow : (lows highs leasts cs bs greatests : List ℕ) → Under leasts cs → Over greatests bs
     → sum_l (map square (gaps_between lows highs leasts greatests))
-    ≤ sum_l (map square (gaps_between lows highs ms ms))
-squares_grow [] highs leasts ms greatests low high = omega arith
-squares_grow (l ∷ lows) highs leasts ms [] low high = omega arith
-squares_grow (l ∷ lows) highs [] ms (b ∷ greatests) low high = omega arith
-squares_grow (l ∷ lows) [] (a ∷ leasts) ms (b ∷ greatests) low high = omega arith
-squares_grow (l ∷ lows) (h ∷ highs) (a ∷ leasts) [] (b ∷ greatests) low high = absurd low
-squares_grow (l ∷ lows) (h ∷ highs) (a ∷ leasts) (m ∷ ms) (b ∷ greatests) low high =
-    let here = gap_grows l h a m b low.0 high.0 in
-    let behind = squares_grow lows highs leasts ms greatests low.1 high.1 in
+    ≤ sum_l (map square (gaps_between lows highs cs bs))
+squares_grow [] highs leasts cs bs greatests low high = omega arith
+squares_grow (l ∷ lows) highs leasts cs bs [] low high = omega arith
+squares_grow (l ∷ lows) highs [] cs bs (g ∷ greatests) low high = omega arith
+squares_grow (l ∷ lows) [] (e ∷ leasts) cs bs (g ∷ greatests) low high = omega arith
+squares_grow (l ∷ lows) (h ∷ highs) (e ∷ leasts) [] bs (g ∷ greatests) low high = absurd low
+squares_grow (l ∷ lows) (h ∷ highs) (e ∷ leasts) (c ∷ cs) [] (g ∷ greatests) low high = absurd high
+squares_grow (l ∷ lows) (h ∷ highs) (e ∷ leasts) (c ∷ cs) (b ∷ bs) (g ∷ greatests) low high =
+    let here = gap_grows l h e c b g low.0 high.0 in
+    let behind = squares_grow lows highs leasts cs bs greatests low.1 high.1 in
     omega (arith, here, behind)
 
 -- the lesser of each two numbers lie under both
@@ -86,4 +88,32 @@ box_below v all i inside =
     let held = box_holds all i inside in
     mul-le v.least_length (sum_l (map square (gaps_between v.lows v.highs (box_of all).lows (box_of all).highs)))
     v.least_length (sum_l (map square (gaps_between v.lows v.highs ms ms)))
-    (omega arith) (squares_grow v.lows v.highs (box_of all).lows ms (box_of all).highs held.0 held.1)
+    (omega arith) (squares_grow v.lows v.highs (box_of all).lows ms ms (box_of all).highs held.0 held.1)
+
+-- the box that holds nothing
+abbrev none : Box
+none = box_of []
+
+-- the box of some boxes holds each of them
+boxes_hold : (all : List Box) (i : ℕ) → i < length all
+    → Under (box_of_boxes all).lows (slice_index_or all i none).lows
+    × Over (box_of_boxes all).highs (slice_index_or all i none).highs
+boxes_hold [] i inside = absurd (omega (arith, inside))
+boxes_hold (b ∷ rest) zero inside =
+    (lesser_under (box_of_boxes rest).lows b.lows, greater_over (box_of_boxes rest).highs b.highs)
+boxes_hold (b ∷ rest) (suc i) inside =
+    let held = boxes_hold rest i (omega (arith, inside)) in (
+      stays_under (box_of_boxes rest).lows b.lows (slice_index_or rest i none).lows held.0,
+      stays_over (box_of_boxes rest).highs b.highs (slice_index_or rest i none).highs held.1,
+    )
+
+-- the bound of a box of boxes is at most that of each of them
+pub wider_below : (v : View) (all : List Box) (i : ℕ) → i < length all
+    → box_bound v (box_of_boxes all) ≤ box_bound v (slice_index_or all i (box_of []))
+wider_below v all i inside =
+    let wide = box_of_boxes all in
+    let b = slice_index_or all i none in
+    let held = boxes_hold all i inside in
+    mul-le v.least_length (sum_l (map square (gaps_between v.lows v.highs wide.lows wide.highs)))
+    v.least_length (sum_l (map square (gaps_between v.lows v.highs b.lows b.highs)))
+    (omega arith) (squares_grow v.lows v.highs wide.lows b.lows b.highs wide.highs held.0 held.1)

@@ -17,6 +17,14 @@ box_of (means ∷ rest) = record {
   highs = zip2 max (box_of rest).highs means;
 }
 
+-- the box of some boxes, which holds what one of them holds; that of none holds nothing
+abbrev pub box_of_boxes : List Box → Box
+box_of_boxes [] = record { lows = replicate 16 65535; highs = replicate 16 0 }
+box_of_boxes (b ∷ rest) = record {
+  lows = zip2 min (box_of_boxes rest).lows b.lows;
+  highs = zip2 max (box_of_boxes rest).highs b.highs;
+}
+
 -- the lower bound of all series whose means lie in a box
 abbrev pub box_bound : View → Box → ℕ
 box_bound v b = v.least_length * sum_l (map square (gaps_between v.lows v.highs b.lows b.highs))

@@ -2,11 +2,12 @@
 ghost use Rattle.std.specs.Prelude.{◌≡◌, ◌≤◌, ◌<◌, [], length, slice_index_or};
 ghost use Rattle.series_core.specs.Distance.{squared_distance};
 ghost use Rattle.mean_bound.specs.MeanBound.{mean_bound, mean_view_of};
-ghost use Rattle.mean_bound.specs.Boxes.{box_bound, box_of};
+ghost use Rattle.mean_bound.specs.Boxes.{box_bound, box_of, box_of_boxes};
 ghost use Rattle.mean_bound.specs.Finer.{finer_bound, finer_means, finer_view};
 ghost use Rattle.mean_bound.specs.Means.{row_means};
 
 use crate::finer::FinerCuts;
+use crate::mean_box::MeanBox;
 use crate::means::Means;
 use crate::view::MeanView;
 use segment_sums::Cuts;
@@ -28,6 +29,12 @@ pub fn mean_bound_is_below_distance(cuts: &Cuts, query: &[i16], series: &[i16])
 pub fn box_bound_is_no_greater(view: &MeanView, means: &[Means], i: usize)
     requires { i < length means.now }
     ensures { box_bound view.now (box_of means.now) ≤ mean_bound view.now (slice_index_or means.now i []) }
+{}
+
+/// The law that the bound of a box of boxes is at most that of each of them.
+pub fn wider_box_bound_is_no_greater(view: &MeanView, boxes: &[MeanBox], i: usize)
+    requires { i < length boxes.now }
+    ensures { box_bound view.now (box_of_boxes boxes.now) ≤ box_bound view.now (slice_index_or boxes.now i (box_of [])) }
 {}
 
 /// The law that the bound of a series by its finer means is at most its distance.

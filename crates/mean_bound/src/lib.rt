@@ -12,6 +12,7 @@ mod view;
 pub use finer::{FinerCuts, FinerView};
 pub use laws::{
     box_bound_is_no_greater, finer_bound_is_below_distance, mean_bound_is_below_distance,
+    wider_box_bound_is_no_greater,
 };
 pub use mean_box::MeanBox;
 pub use means::Means;

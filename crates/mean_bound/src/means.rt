@@ -52,13 +52,10 @@ impl Means {
         requires equal { cuts.now.row_length ≡ 16 * L }
         ensures { result ≡ row_means cuts.now row.now }
     {
-        // for the fact that the cuts divide
-        let _segments = cuts.segments();
-        let mut sums = [0; 16];
-        cuts.sums(row, &mut sums);
+        let sums = equal_raised_sums::<L>(cuts, row);
         let mut raised = [0; 16];
         for j in 0..16 {
-            raised[j] = (raised_by(L as u32, sums[j]) / L as u32) as u16;
+            raised[j] = mean_of(sums[j], L as u32);
         }
         Means { raised }
     }
@@ -99,6 +96,27 @@ pub(crate) fn raised_sums(cuts: &Cuts, row: &[i16]) -> [u32; 16]
     for j in 0..cuts.segments() {
         let (from, to) = cuts.cut(j);
         raised[j as usize] = raised_by(to - from, sums[j as usize]);
+    }
+    raised
+}
+
+/// The same over sixteen segments of L values each, which the compiler knows.
+#[inline(always)]
+pub(crate) fn equal_raised_sums<const L: usize>(cuts: &Cuts, row: &[i16]) -> [u32; 16]
+    requires length { length row.now ≡ cuts.now.row_length }
+    requires sixteen { cuts.now.segments ≡ 16 }
+    requires equal { cuts.now.row_length ≡ 16 * L }
+    ensures sums { result ≡ of_segments cuts.now (raised_sum cuts.now row.now) }
+    ensures limit { NoRaisedSumAbove cuts.now row.now cuts.now.segments }
+    ensures known { (1 ≤ L) × (L ≤ 65536) }
+{
+    // for the fact that the cuts divide
+    let _segments = cuts.segments();
+    let mut sums = [0; 16];
+    cuts.sums(row, &mut sums);
+    let mut raised = [0; 16];
+    for j in 0..16 {
+        raised[j] = raised_by(L as u32, sums[j]);
     }
     raised
 }

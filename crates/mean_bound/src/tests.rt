@@ -87,9 +87,9 @@ fn plain_bound(series: &[i16], query: &[i16], w: usize) -> u64 {
 }
 
 /// Values scattered over `bits` bits.
-fn scattered(seed: u64, bits: u32) -> [i16; 300] {
+fn scattered(seed: u64, bits: u32) -> [i16; 1024] {
     let mut state = seed;
-    let mut values = [0; 300];
+    let mut values = [0; 1024];
     for value in &mut values {
         state = state
             .wrapping_mul(6364136223846793005)
@@ -145,6 +145,49 @@ fn a_box_bounds_what_lies_in_it(rt: HostRuntime) -> Result<(), Fail> {
     Ok(())
 }
 
+#[test]
+fn bounds_of_the_usual_lengths_are_those_of_the_sums(rt: HostRuntime) -> Result<(), Fail> {
+    for n in [64usize, 128, 256, 512, 1024] {
+        for seed in 1..=12u64 {
+            let series = scattered(seed, 2 + (seed % 15) as u32);
+            let query = scattered(seed + 100, 16);
+            assert_eq!(rt;
+                bound(&rt, &series[..n], &query[..n], 16),
+                plain_bound(&series[..n], &query[..n], 16),
+                "16 segments of {n} values from {seed}"
+            );
+        }
+    }
+    Ok(())
+}
+
+#[test]
+fn a_box_of_boxes_bounds_what_lies_in_each(rt: HostRuntime) -> Result<(), Fail> {
+    let rows: [(&[&[i16]], &[i16], u64); 5] = [
+        (&[&[5, 5]], &[9, 9], 32),
+        (&[&[5, 5], &[3, 8]], &[9, 9], 17),
+        (&[&[5, 5], &[3, 8]], &[4, 6], 0),
+        (&[&[5, 5], &[3, 8], &[-1, 20]], &[9, 30], 116),
+        (&[], &[9, 9], 4294443024),
+    ];
+    for (series, query, expected) in rows {
+        let cuts = Cuts::new(2, 2);
+        assert_eq!(rt; query.len(), 2, "two values a query");
+        let mut boxes = Vec::new(rt.alloc());
+        for values in series {
+            assert_eq!(rt; values.len(), 2, "two values a series");
+            boxes.push(MeanBox::around(&[Means::of(&cuts, values)]))?;
+        }
+        let wide = MeanBox::around_boxes(&boxes);
+        assert_eq!(rt;
+            MeanView::new(&cuts, query).bound_box(&wide),
+            expected,
+            "a box for each of {series:?} for {query:?}"
+        );
+    }
+    Ok(())
+}
+
 /// The bound by the finer means of two series of one length.
 fn finer_bound(rt: &impl Abort, alloc: Global, series: &[i16], query: &[i16]) -> Result<u64, Fail> {
     let n = series.len();
@@ -180,7 +223,7 @@ fn finer_bounds_are_those_of_the_parts(rt: HostRuntime) -> Result<(), Fail> {
             let mut expected = 0u64;
             let mut from = 0;
             for end in ends {
-                assert!(rt; from <= *end && *end <= 300, "a part up to {end}");
+                assert!(rt; from <= *end && *end <= 1024, "a part up to {end}");
                 let bound = plain_bound(&series[from..*end], &query[from..*end], 16);
                 expected = expected.wrapping_add(bound);
                 from = *end;

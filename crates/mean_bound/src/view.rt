@@ -6,7 +6,7 @@ ghost use Rattle.mean_bound.specs.MeanBound.{mean_view_of, mean_bound};
 
 use crate::gaps::squared_gaps;
 use crate::mean_box::MeanBox;
-use crate::means::{Means, raised_sums};
+use crate::means::{Means, equal_raised_sums, raised_sums};
 use segment_sums::Cuts;
 use std::marker::Model;
 use std::simd::prelude::*;
@@ -44,6 +44,42 @@ impl MeanView {
 
     /// The view of a query, whose length is that of the cuts.
     pub fn new(cuts: &Cuts, query: &[i16]) -> MeanView
+        requires { length query.now ≡ cuts.now.row_length }
+        ensures { result ≡ mean_view_of cuts.now query.now }
+    {
+        match (cuts.segments(), cuts.length()) {
+            (16, 64) => MeanView::of_equal::<4>(cuts, query),
+            (16, 128) => MeanView::of_equal::<8>(cuts, query),
+            (16, 256) => MeanView::of_equal::<16>(cuts, query),
+            (16, 512) => MeanView::of_equal::<32>(cuts, query),
+            (16, 1024) => MeanView::of_equal::<64>(cuts, query),
+            _ => MeanView::of_any(cuts, query),
+        }
+    }
+
+    // The view by sixteen segments of L values each. The compiler knows L, so that it divides without a division.
+    fn of_equal<const L: usize>(cuts: &Cuts, query: &[i16]) -> MeanView
+        requires length { length query.now ≡ cuts.now.row_length }
+        requires sixteen { cuts.now.segments ≡ 16 }
+        requires equal { cuts.now.row_length ≡ 16 * L }
+        ensures { result ≡ mean_view_of cuts.now query.now }
+    {
+        let sums = equal_raised_sums::<L>(cuts, query);
+        let mut lows = [0; 16];
+        let mut highs = [0; 16];
+        for j in 0..16 {
+            lows[j] = low_mean(sums[j], L as u32);
+            highs[j] = high_mean(sums[j], L as u32);
+        }
+        MeanView {
+            least_length: L as u32,
+            lows,
+            highs,
+        }
+    }
+
+    // The view by segments of any lengths.
+    fn of_any(cuts: &Cuts, query: &[i16]) -> MeanView
         requires { length query.now ≡ cuts.now.row_length }
         ensures { result ≡ mean_view_of cuts.now query.now }
     {

@@ -1,24 +1,25 @@
--- Bounds by means are at most the distances: that of the box of a leaf's means for each of its members (`box_is_below`), and that
--- of a member's finer means (`finer_is_below`).
-use Rattle.std.proofs.Common.{◌≡◌, ◌*◌, ◌<◌, ◌≤◌, ℕ, ℤ, Bool, true, false, cond, List, [], length, sym, subst, ◌∙◌, arith}
+-- Bounds by means are at most the distances: that of the box of a leaf's means for each of its members (`box_is_below`), that of
+-- the box of leaves in a row (`group_is_far`), and that of a member's finer means (`finer_is_below`).
+use Rattle.std.proofs.Common.{◌≡◌, ◌+◌, ◌-◌, ◌*◌, ◌<◌, ◌≤◌, ℕ, ℤ, Bool, true, false, cond, List, [], length, map, take, drop, ap, sym, subst, ◌∙◌, arith}
 use Rattle.std.specs.Prelude.{ltb, slice_index_or}
-use Rattle.std.proofs.lemmas.List.{get_or-map, length-map}
+use Rattle.std.proofs.lemmas.List.{get_or-drop, get_or-map, get_or-take, length-drop, length-map, length-take}
 use Rattle.list_totals.specs.Totals.{times}
 use Rattle.list_totals.proofs.Places.{times_contains}
 use Rattle.series_core.specs.Distance.{squared_distance}
 use Rattle.series_core.specs.declared.rows.TheConstants.{MAX_VALUES}
 use Rattle.mean_bound.proofs.BelowDistances.{mean_bound_below}
-use Rattle.mean_bound.proofs.Boxes.{box_below}
+use Rattle.mean_bound.proofs.Boxes.{box_below, wider_below}
 use Rattle.mean_bound.proofs.Parts.{finer_below}
-use Rattle.mean_bound.specs.Boxes.{box_bound, box_of}
+use Rattle.mean_bound.specs.Boxes.{box_bound, box_of, box_of_boxes}
 use Rattle.mean_bound.specs.Finer.{finer_bound, finer_means, finer_view}
 use Rattle.mean_bound.specs.MeanBound.{mean_bound, mean_view_of}
 use Rattle.isax_word.specs.declared.member.Member.{Member}
 use Rattle.subtree_build.specs.Index.{IndexParts, leaf_at}
-use Rattle.subtree_build.specs.Means.{all_means, finer_of, finer_points, means_at, means_of}
+use Rattle.subtree_build.specs.Means.{all_means, leaf_means, finer_of, finer_points, means_at, means_of}
 use Rattle.subtree_build.specs.Members.{numbers_of, series_at}
 use Rattle.subtree_build.proofs.Meaning.{means_of_leaf}
-use Rattle.query_core.specs.Questions.{CanBeSearched, IsQuestion, Question, leaf_series}
+use Rattle.query_core.specs.NearLeaves.{IsFar}
+use Rattle.query_core.specs.Questions.{CanBeSearched, IsQuestion, Question, leaf_series, search_over}
 use Rattle.query_core.proofs.Homes.{member_is_real}
 
 -- the bound of a series by its means
@@ -60,6 +61,31 @@ box_is_below a ix l s searched real some =
     (means_are_below a s searched.question (member_is_real c a.layout ix searched.fits l s real some) m number) in
     subst (λ ms. box_bound view (box_of ms) ≤ squared_distance (series_at c s) a.query) (sym own)
     (omega (arith, boxed, low))
+
+-- where the box of leaves in a row is above a limit, each of them is far
+pub group_is_far : (a : Question) (ix : IndexParts) (size g v : ℕ) → CanBeSearched a ix
+    → v < box_bound (mean_view_of a.layout.cuts a.query) (box_of_boxes (map box_of (take size (drop (g * size) ix.means))))
+    → (l : ℕ) → g * size ≤ l → l < g * size + size → l < length ix.leaves → IsFar (search_over a ix 1 1) v l
+group_is_far a ix size g v searched above l from to real s member =
+    let view = mean_view_of a.layout.cuts a.query in
+    let first = g * size in
+    let group = take size (drop first ix.means) in
+    let i = l - first in
+    let place : first + i ≡ l = omega arith in
+    let each : length ix.means ≡ length ix.leaves
+    = ap (λ (ms : List (List (List ℕ))). length ms) searched.fits.own_means
+    ∙ length-map ix.leaves (leaf_means a.collection a.layout) in
+    let inside : i < length group
+    = omega (arith, length-take size (drop first ix.means), length-drop first ix.means, each) in
+    let own : slice_index_or group i [] ≡ means_at ix.means l
+    = get_or-take size (drop first ix.means) i [] (omega arith) ∙ get_or-drop first ix.means i []
+    ∙ ap (means_at ix.means) place in
+    let box : slice_index_or (map box_of group) i (box_of []) ≡ box_of (means_at ix.means l)
+    = get_or-map box_of group i [] (box_of []) inside ∙ ap box_of own in
+    let wider = wider_below view (map box_of group) i (omega (arith, inside, length-map group box_of)) in
+    let same = ap (box_bound view) box in
+    let below = box_is_below a ix l s searched real member in
+    omega arith
 
 -- the bound by finer means, which may be none
 finer_or_none : (none : Bool) (n d : ℕ) (x q : List ℤ) → finer_bound (finer_view n q) (finer_means n x) ≤ d

@@ -1,5 +1,5 @@
 -- The room of each queue by arithmetic is the number of its leaves, and so the queues are those of the opening state.
-use Rattle.std.proofs.Common.{List, [], ap, arith, length, map, refl, get_or, suc, zero, sym, ℕ, ◌%◌, ◌/◌, ◌*◌, ◌+◌, ◌<◌, ◌∙◌, ◌∷◌, ◌≡◌, ◌≤◌}
+use Rattle.std.proofs.Common.{List, [], ap, arith, length, map, refl, get_or, suc, zero, ℕ, ◌%◌, ◌/◌, ◌*◌, ◌+◌, ◌<◌, ◌∙◌, ◌∷◌, ◌≡◌, ◌≤◌}
 use Rattle.std.proofs.lemmas.Bool.Decides.{nat_tests}
 use Rattle.std.proofs.Math.Nat.{add-mul-mod_self_right, div-add-mod', mod-eq_of_lt, mod-lt, suc-mul}
 use Rattle.list_totals.specs.Totals.{once_below, one_if_same}

@@ -1,7 +1,7 @@
--- Leaves that were looked at, as entries: one that is near is added (`one_near`), one that is far is not (`one_far`), all below
--- a root child that is far are not (`all_far`), and entries may be put into another order (`in_order`).
-use Rattle.std.proofs.Common.{◌≡◌, ℕ, ◌+◌, ◌<◌, ◌≤◌, List, [], ◌∷◌, ◌++◌, Bool, true, false, cond, length, map, take, drop, get_or, sum_by, refl, sym, ap, subst, ◌∙◌, ⊎_elim, ◌⊎◌, inl, inr, append-nil, arith}
-use Rattle.std.specs.Prelude.{nat_le}
+-- Leaves that were looked at, as entries: the next is added where it is near (`next_near`) and is not where it is far (`next_far`),
+-- leaves in a row that are far are not (`far_up_to`), and entries may be put into another order (`in_order`).
+use Rattle.std.proofs.Common.{◌≡◌, ℕ, ◌+◌, ◌<◌, ◌≤◌, List, [], ◌∷◌, ◌++◌, Bool, cond, length, take, drop, get_or, sum_by, refl, sym, ap, subst, ◌∙◌, ⊎_elim, ◌⊎◌, inl, inr, append-nil, arith}
+use Rattle.std.specs.Prelude.{min, nat_le}
 use Rattle.std.specs.List.{All}
 use Rattle.std.specs.List.Sorted.{IsPermutation}
 use Rattle.std.proofs.lemmas.Bool.{cases_lt, le-leb, lt-leb}
@@ -9,12 +9,12 @@ use Rattle.std.proofs.lemmas.List.{map-append, take-append-drop, take_more}
 use Rattle.std.proofs.lemmas.List.Elements.{All-append, All-cons, All-head, All-nil, All-tail, filter-append}
 use Rattle.std.proofs.lemmas.List.Sums.{sum_by-cons}
 use Rattle.std.proofs.lemmas.List.Sorted.{All-permutation, IsPermutation-map, sum_by-IsPermutation}
-use Rattle.list_totals.specs.Totals.{one_if_same, times}
-use Rattle.list_totals.proofs.Totals.{times_append, times_push}
+use Rattle.list_totals.specs.Totals.{once_below, one_if_same, times}
+use Rattle.list_totals.proofs.Totals.{once_below_low, once_below_more, once_below_most, once_below_yes, times_append, times_push}
 use Rattle.series_core.specs.declared.queue_words.Entry.{Entry}
 use Rattle.search_machine.specs.Ground.{Ground}
 use Rattle.search_machine.proofs.Counts.{counts_or_not, equal_counts, times_cons}
-use Rattle.query_core.specs.NearLeaves.{AreNear, IsBelowLeaf, IsFar, IsLeafEntry, leaves_in, within_bound}
+use Rattle.query_core.specs.NearLeaves.{AreNear, AreNearBelow, IsBelowLeaf, IsFar, IsLeafEntry, leaves_in, within_bound}
 
 -- the leaves of entries and of one more
 pub leaves_more : (es : List Entry) (e : Entry) → leaves_in (es ++ e ∷ []) ≡ leaves_in es ++ e.leaf ∷ []
@@ -136,11 +136,11 @@ module _ (g : Ground) (v : ℕ) where
       (cases_lt v e.bound)
 
   -- no leaf was looked at yet
-  pub none_near : AreNear g v (λ l. 0) []
-  none_near = record {
+  pub none_looked : AreNearBelow g v 0 []
+  none_looked = record {
     entries = All-nil (IsLeafEntry g);
     once = λ l. omega arith;
-    whole = λ l some. absurd (omega arith);
+    whole = λ l some. absurd (let low = once_below_low l (min 0 g.leaves) some in omega arith);
   }
 
   -- the same leaves were looked at
@@ -179,30 +179,57 @@ module _ (g : Ground) (v : ℕ) where
           (λ (c : one_if_same l e.leaf ≡ 0). inr (omega arith))
           (counts_or_not l e.leaf)
 
-  -- leaves that are all far are left out
-  pub all_far : (looked : ℕ → ℕ) (es : List Entry) (ls : List ℕ) → ((l : ℕ) → 0 < times l ls → IsFar g v l)
-      → AreNear g v looked es → AreNear g v (λ l. looked l + times l ls) es
-  all_far looked es ls far are = record {
+  -- the leaves before number b were looked at where those before a were, and the others are far
+  pub far_up_to : (a b : ℕ) (es : List Entry) → a ≤ b → ((l : ℕ) → a ≤ l → l < b → l < g.leaves → IsFar g v l)
+      → AreNearBelow g v a es → AreNearBelow g v b es
+  far_up_to a b es order far are = record {
     entries = are.entries;
-    once = λ l. let most = are.once l in omega arith;
-    whole = λ l some. ⊎_elim
-        (λ (h : 0 < looked l). are.whole l h)
-        (λ (h : looked l ≤ 0). inr (far l (omega arith)))
-        (cases_lt 0 (looked l));
+    once = λ l.
+        let most = are.once l in
+        let more = below_more l (min a g.leaves) (min b g.leaves) (omega arith) in
+        omega arith;
+    whole = λ l some.
+        let real = once_below_low l (min b g.leaves) some in
+        ⊎_elim
+        (λ (before : l < a). are.whole l (let one = once_below_yes l (min a g.leaves) (omega arith) in omega arith))
+        (λ (behind : a ≤ l). inr (far l behind (omega arith) (omega arith)))
+        (cases_lt l a);
   }
-
-  -- one more leaf is far
-  pub one_far : (looked : ℕ → ℕ) (es : List Entry) (l bound : ℕ) → IsBelowLeaf g l bound → v < bound
-      → AreNear g v looked es → AreNear g v (λ m. looked m + one_if_same m l) es
-  one_far looked es l bound low above are =
-      as_looked (λ m. looked m + times m (l ∷ [])) (λ m. looked m + one_if_same m l) es (λ m. omega arith)
-      (all_far looked es (l ∷ []) far are)
     where
-      far : (m : ℕ) → 0 < times m (l ∷ []) → IsFar g v m
-      far m some = ⊎_elim
-          (λ (e : m ≡ l). beyond_far l bound low above m e)
-          (λ (h : 0 < times m []). absurd (omega arith))
-          (times_cons m l [] some)
+      below_more : (l m n : ℕ) → m ≤ n → once_below l m ≤ once_below l n
+      below_more l m n low = ⊎_elim
+          (λ (some : 0 < once_below l m).
+          let before = once_below_low l m some in
+          let one = once_below_yes l n (omega arith) in
+          let most = once_below_most l m in
+          omega arith)
+          (λ (none : once_below l m ≤ 0). omega arith)
+          (cases_lt 0 (once_below l m))
+
+  -- the next leaf is far
+  pub next_far : (l bound : ℕ) (es : List Entry) → IsBelowLeaf g l bound → v < bound
+      → AreNearBelow g v l es → AreNearBelow g v (l + 1) es
+  next_far l bound es low above are =
+      far_up_to l (l + 1) es (omega arith)
+      (λ m from to real. beyond_far l bound low above m (omega arith)) are
+
+  -- the next leaf is near
+  pub next_near : (e : Entry) (es : List Entry) → IsLeafEntry g e → AreNearBelow g v e.leaf es
+      → AreNearBelow g v (e.leaf + 1) (es ++ e ∷ [])
+  next_near e es is are =
+      as_looked (λ m. once_below m (min e.leaf g.leaves) + one_if_same m e.leaf)
+      (λ m. once_below m (min (e.leaf + 1) g.leaves)) (es ++ e ∷ [])
+      (λ m. let real = is.leaf in
+      once_below_more m e.leaf (min e.leaf g.leaves) (omega arith)
+      ∙ ap (once_below m) {x = e.leaf + 1} {y = min (e.leaf + 1) g.leaves} (omega arith))
+      (one_near (λ m. once_below m (min e.leaf g.leaves)) es e is are)
+
+  -- all leaves were looked at
+  pub all_looked : (m : ℕ) (es : List Entry) → g.leaves ≤ m → AreNearBelow g v m es
+      → AreNear g v (λ l. once_below l g.leaves) es
+  all_looked m es whole are =
+      as_looked (λ l. once_below l (min m g.leaves)) (λ l. once_below l g.leaves) es
+      (λ l. ap (once_below l) {x = min m g.leaves} {y = g.leaves} (omega arith)) are
 
   -- entries in another order
   pub in_order : (looked : ℕ → ℕ) (es ds : List Entry) → IsPermutation es ds → AreNear g v looked es

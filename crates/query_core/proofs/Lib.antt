@@ -21,7 +21,6 @@ pub mod Advancing
 pub mod Ranges
 pub mod Nearest
 pub mod LeavesNear
-pub mod FarRoots
 pub mod BelowMeans
 pub mod Different
 pub mod Sends

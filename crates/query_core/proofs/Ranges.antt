@@ -1,8 +1,8 @@
--- Numbers in a row: one more at the end (`range_push`, `times_next`), and none behind it (`none_at_end`).
+-- Numbers in a row: one more at the end (`range_push`, `range_next`), and none behind it (`none_at_end`).
 use Rattle.std.proofs.Common.{◌≡◌, ℕ, zero, suc, ◌+◌, ◌-◌, ◌<◌, ◌≤◌, List, [], ◌∷◌, ◌++◌, ap, ◌∙◌, ⊎_elim, arith}
 use Rattle.std.specs.List.{range_with_len}
-use Rattle.list_totals.specs.Totals.{once_below, one_if_same, times}
-use Rattle.list_totals.proofs.Totals.{once_below_low, times_push}
+use Rattle.list_totals.specs.Totals.{once_below, times}
+use Rattle.list_totals.proofs.Totals.{once_below_low}
 use Rattle.query_core.proofs.BelowRoots.{times_range}
 use Rattle.std.proofs.lemmas.Bool.{cases_lt}
 
@@ -21,11 +21,6 @@ range_next a i low =
     let last : a + (i - a) ≡ i = omega arith in
     ap (range_with_len a) n ∙ range_push a (i - a)
     ∙ ap (λ (m : ℕ). range_with_len a (i - a) ++ m ∷ []) last
-
--- how often a number stands there
-pub times_next : (x a i : ℕ) → a ≤ i
-    → times x (range_with_len a (i + 1 - a)) ≡ times x (range_with_len a (i - a)) + one_if_same x i
-times_next x a i low = ap (times x) (range_next a i low) ∙ times_push x (range_with_len a (i - a)) i
 
 -- what stands there is below the end
 pub none_at_end : (a i : ℕ) → a ≤ i → times i (range_with_len a (i - a)) ≡ 0

@@ -1,7 +1,7 @@
 -- The leaves that may have a member within a limit, as entries.
-use Rattle.std.specs.Prelude.{ℕ, ◌<◌, ◌≤◌, ◌⊎◌, List, map, nat_le}
+use Rattle.std.specs.Prelude.{ℕ, ◌<◌, ◌≤◌, ◌⊎◌, List, map, min, nat_le}
 use Rattle.std.specs.List.{All, filter}
-use Rattle.list_totals.specs.Totals.{times}
+use Rattle.list_totals.specs.Totals.{once_below, times}
 use Rattle.series_core.specs.declared.queue_words.Entry.{Entry}
 use Rattle.search_machine.specs.Ground.{Ground}
 
@@ -31,3 +31,7 @@ pub record AreNear (g : Ground) (v : ℕ) (looked : ℕ → ℕ) (es : List Entr
   pub entries : All (IsLeafEntry g) es
   pub once : (l : ℕ) → times l (leaves_in es) ≤ looked l
   pub whole : (l : ℕ) → 0 < looked l → (0 < times l (leaves_in es)) ⊎ IsFar g v l
+
+-- the leaves below number m were looked at, each once
+abbrev pub AreNearBelow : Ground → ℕ → ℕ → List Entry → Type 0
+AreNearBelow g v m es = AreNear g v (λ l. once_below l (min m g.leaves)) es

@@ -1,13 +1,11 @@
 //! The leaves that may have a member within a limit, each with its bound, and how they are scanned.
 //! In which order they are scanned changes how many are passed over, and never what is found.
-ghost use Rattle.std.specs.Prelude.{◌≡◌, ℕ, ◌+◌, ◌<◌, ◌≤◌, ◌++◌, ◌∷◌, List, [], IfOk, length};
+ghost use Rattle.std.specs.Prelude.{◌≡◌, ℕ, ◌+◌, ◌*◌, ◌<◌, ◌≤◌, ◌++◌, ◌∷◌, List, [], IfOk, length};
 ghost use Rattle.std.specs.List.{All};
-ghost use Rattle.list_totals.specs.Totals.{once_below, one_if_same, times};
+ghost use Rattle.list_totals.specs.Totals.{once_below, times};
 ghost use Rattle.subtree_build.specs.Fits.{Fits as IndexFits};
-ghost use Rattle.subtree_build.specs.Outline.{leaf_numbers};
-ghost use Rattle.subtree_build.specs.Start.{node_at};
 ghost use Rattle.search_machine.specs.Sound.{ListSound};
-ghost use Rattle.query_core.specs.NearLeaves.{AreNear, IsBelowLeaf, IsLeafEntry, leaves_in};
+ghost use Rattle.query_core.specs.NearLeaves.{AreNear, AreNearBelow, IsBelowLeaf, IsLeafEntry, leaves_in};
 ghost use Rattle.query_core.specs.Questions.{last_of, search_over};
 
 use crate::index_laws::search_law;
@@ -16,7 +14,7 @@ use crate::task::Task;
 use outside::NoMemory;
 use series_core::{Entry, KBest, Rows};
 use std::alloc::Global;
-use subtree_build::Index;
+use subtree_build::{GROUP, Index, WIDE_GROUP};
 
 impl<'a, R: Rows> Task<'a, R> {
     /// Scans the leaves of these entries into a list. One whose bound is above the k-th pair so far is passed over: it has nothing
@@ -62,7 +60,7 @@ impl<'a, R: Rows> Task<'a, R> {
         self.scan_leaf(index, entry.leaf, limit, list);
     }
 
-    /// The leaves that may have a member within the limit, each once.
+    /// The leaves that may have a member within the limit, each once. A group of leaves whose box is too far is passed over.
     pub(crate) fn near_leaves(
         &self,
         alloc: Global,
@@ -75,38 +73,64 @@ impl<'a, R: Rows> Task<'a, R> {
     {
         search_law(self, index);
         let mut entries = Vec::new(alloc);
-        for i in 0..index.root_count() {
-            self.add_leaves(index, i, limit, &mut entries)?;
+        for wide in 0..index.leaf_count().div_ceil(WIDE_GROUP) {
+            self.add_wide_group(index, wide, limit, &mut entries)?;
         }
         Ok(entries)
     }
 
-    // Adds the leaves below root child number `i` whose bound is not above the limit.
-    fn add_leaves(
+    // Looks at the leaves of a wide group, where all before it were looked at.
+    fn add_wide_group(
         &self,
         index: &Index,
-        i: u32,
+        wide: u32,
         limit: u64,
         entries: &mut Vec<Entry>,
     ) -> Result<(), NoMemory>
         requires fits { IndexFits self.now.collection self.now.layout index.now }
-        requires root { i < length index.now.roots }
-        ensures { (looked : ℕ → ℕ) → AreNear (search_over self.now index.now 1 1) limit looked entries.old.items
-            → IfOk result (λ _. AreNear (search_over self.now index.now 1 1) limit
-            (λ l. looked l + times l (leaf_numbers (node_at index.now i))) entries.new.items) }
+        requires group { wide * 256 < length index.now.leaves }
+        ensures { let g = search_over self.now index.now 1 1 in AreNearBelow g limit (wide * 256) entries.old.items
+            → IfOk result (λ _. AreNearBelow g limit (wide * 256 + 256) entries.new.items) }
     {
         search_law(self, index);
-        if index.root_bound(self.view(), i) > limit {
+        if self.means().bound_box(index.wide_group_box(wide)) > limit {
             return Ok(());
         }
-        let (first, end) = index.root_leaves(i);
+        let groups = index.leaf_count().div_ceil(GROUP);
+        let first = wide * (WIDE_GROUP / GROUP);
+        let end = first + (WIDE_GROUP / GROUP).min(groups - first);
+        for group in first..end {
+            self.add_group(index, group, limit, entries)?;
+        }
+        Ok(())
+    }
+
+    // Looks at the leaves of a group, where all before it were looked at.
+    fn add_group(
+        &self,
+        index: &Index,
+        group: u32,
+        limit: u64,
+        entries: &mut Vec<Entry>,
+    ) -> Result<(), NoMemory>
+        requires fits { IndexFits self.now.collection self.now.layout index.now }
+        requires group { group * 16 < length index.now.leaves }
+        ensures { let g = search_over self.now index.now 1 1 in AreNearBelow g limit (group * 16) entries.old.items
+            → IfOk result (λ _. AreNearBelow g limit (group * 16 + 16) entries.new.items) }
+    {
+        search_law(self, index);
+        if self.means().bound_box(index.group_box(group)) > limit {
+            return Ok(());
+        }
+        let first = group * GROUP;
+        let end = first + GROUP.min(index.leaf_count() - first);
         for leaf in first..end {
             self.add_leaf(index, leaf, limit, entries)?;
         }
         Ok(())
     }
 
-    // Adds the leaf where its bound is not above the limit.
+    // Looks at a leaf, where all before it were looked at.
     fn add_leaf(
         &self,
         index: &Index,
@@ -116,10 +140,10 @@ impl<'a, R: Rows> Task<'a, R> {
     ) -> Result<(), NoMemory>
         requires fits { IndexFits self.now.collection self.now.layout index.now }
         requires leaf { leaf < length index.now.leaves }
-        ensures { (looked : ℕ → ℕ) → AreNear (search_over self.now index.now 1 1) limit looked entries.old.items
-            → IfOk result (λ _. AreNear (search_over self.now index.now 1 1) limit
-            (λ l. looked l + one_if_same l leaf) entries.new.items) }
+        ensures { let g = search_over self.now index.now 1 1 in AreNearBelow g limit leaf entries.old.items
+            → IfOk result (λ _. AreNearBelow g limit (leaf + 1) entries.new.items) }
     {
+        search_law(self, index);
         let bound = self.leaf_bound(index, leaf);
         if bound > limit {
             return Ok(());

@@ -12,6 +12,7 @@ pub mod ByNumber
 pub mod Divisions
 pub mod Children
 pub mod Dividing
+pub mod Grouping
 pub mod Growing
 pub mod LeafWords
 pub mod Standing

@@ -2,11 +2,12 @@
 use Rattle.std.specs.Prelude.{◌≡◌, ℕ, ◌+◌, ◌-◌, ◌*◌, ◌^◌, ◌<◌, ◌≤◌, List, [], ◌∷◌, Some, length, map, take, drop, slice_get, slice_index}
 use Rattle.std.specs.List.{All, range_with_len, flat_map}
 use Rattle.series_core.specs.Collection.{Collection}
-use Rattle.mean_bound.specs.Boxes.{Box, box_of}
+use Rattle.mean_bound.specs.Boxes.{Box, box_of, box_of_boxes}
 use Rattle.mean_bound.specs.Finer.{part_count}
 use Rattle.isax_word.specs.declared.layout.Layout.{Layout}
 use Rattle.subtree_build.specs.Means.{all_finer, all_means, finer_points}
 use Rattle.isax_word.specs.declared.member.Member.{Member}
+use Rattle.subtree_build.specs.declared.boxes.Boxes.{Boxes}
 use Rattle.subtree_build.specs.declared.leaf.GrownLeaf.{GrownLeaf}
 use Rattle.subtree_build.specs.declared.leaf.LeafPlace.{LeafPlace}
 use Rattle.subtree_build.specs.declared.leaf.TreeLeaf.{TreeLeaf}
@@ -38,6 +39,17 @@ means_seen means places = map (λ p. take (p.end - p.first) (drop p.first means)
 abbrev pub boxes_seen : List (List ℕ) → List LeafPlace → List Box
 boxes_seen means places = map (λ p. box_of (take (p.end - p.first) (drop p.first means))) places
 
+-- group number g of `size` boxes each has the box of them; the last may have fewer
+abbrev pub AreGroups : ℕ → List Box → List Box → Type 0
+AreGroups size boxes groups = (g : ℕ) → g * size < length boxes
+    → slice_get groups g ≡ Some (box_of_boxes (take size (drop (g * size) boxes)))
+
+-- the boxes of the means of the members at places, and those of groups of them
+pub record AreBoxes (means : List (List ℕ)) (places : List LeafPlace) (b : Boxes) : Type 0 where
+  pub leaves : b.leaves.items ≡ boxes_seen means places
+  pub groups : AreGroups 16 b.leaves.items b.groups.items
+  pub wide_groups : AreGroups 256 b.leaves.items b.wide_groups.items
+
 -- the finer means of the members at places, with `parts` parts a member
 abbrev pub finer_seen : ℕ → List (List ℕ) → List LeafPlace → List (List (List ℕ))
 finer_seen parts finer places =
@@ -56,12 +68,12 @@ ArePlaces members places = All (IsPlace (length members)) places
 abbrev pub AreAllSeen : List Member → List LeafPlace → Type 0
 AreAllSeen members places = (flat_map (λ x. x.members) (leaves_seen members places) ≡ members) × (length members < 2 ^ 32)
 
--- the tables beside the members: the means of each, the finer means of its parts, and the box of each place's means
+-- the tables beside the members: the means of each, the finer means of its parts, and the boxes of the means at places
 pub record AreTables (members : List Member) (places : List LeafPlace) (t : Tables) : Type 0 where
   pub means_each : length t.means.items ≡ length members
   pub few_parts : t.parts ≤ 4
   pub finer_each : length t.finer.items ≡ length members * t.parts
-  pub boxes_are : t.boxes.items ≡ boxes_seen t.means.items places
+  pub boxes_are : AreBoxes t.means.items places t.boxes
 
 -- the tables of members that are series of the collection, and of places among them
 pub record AreTablesOf (c : Collection) (layout : Layout) (members : List Member) (places : List LeafPlace) (t : Tables)
@@ -69,7 +81,7 @@ pub record AreTablesOf (c : Collection) (layout : Layout) (members : List Member
   pub means : t.means.items ≡ all_means c layout members
   pub parts : t.parts ≡ part_count (finer_points c)
   pub finer : t.finer.items ≡ all_finer c members
-  pub boxes : t.boxes.items ≡ boxes_seen t.means.items places
+  pub boxes : AreBoxes t.means.items places t.boxes
 
 -- the leaves below a node are those from the first up to but not including the end, which are some of these leaves
 pub record IsRange (count first end : ℕ) (node : Node) : Type 0 where

@@ -3,9 +3,10 @@
 ghost use Rattle.std.specs.Prelude.{◌≡◌, IfOk};
 
 use crate::tests::{collection, is_leaf};
-use crate::{Index, Settings, build};
+use crate::{GROUP, Index, Settings, WIDE_GROUP, build};
 use breakpoints::Table;
 use isax_word::Layout;
+use mean_bound::MeanView;
 use outside::NoGate;
 use rand_xoshiro::SplitMix64;
 use rand_xoshiro::rand_core::{Rng, SeedableRng};
@@ -278,5 +279,39 @@ fn drawn_collections_have_the_plain_tree(rt: HostRuntime) -> Result<(), Fail> {
             compare(&rt, alloc, &rows, Table::Bent, w, leaf_size, workers)?;
         }
     }
+    Ok(())
+}
+
+#[test]
+fn a_group_is_no_farther_than_its_leaves(rt: HostRuntime) -> Result<(), Fail> {
+    let rows = draw(rt.alloc(), 5, 700, 19000)?;
+    let layout = Layout {
+        cuts: Cuts::new(LENGTH, 16),
+        table: Table::Bent,
+    };
+    let settings = Settings {
+        layout,
+        leaf_size: 1,
+    };
+    let Ok(index) = build(&rt, rt.alloc(), &rows, &settings, 1, &NoGate) else {
+        return Err(Fail::new("no memory for the tree"));
+    };
+    let view = MeanView::new(&settings.layout.cuts, &[0; LENGTH as usize]);
+    let mut far = 0u32;
+    for l in 0..index.leaf_count() {
+        let own = view.bound_box(index.leaf_box(l));
+        let group = view.bound_box(index.group_box(l / GROUP));
+        let wide = view.bound_box(index.wide_group_box(l / WIDE_GROUP));
+        assert!(rt;
+            wide <= group && group <= own,
+            "leaf {l}: {wide}, {group}, {own}"
+        );
+        far = far.wrapping_add(u32::from(group > 0));
+    }
+    assert!(rt;
+        index.leaf_count() > WIDE_GROUP,
+        "leaves of two wide groups"
+    );
+    assert!(rt; far > 0, "some group is far");
     Ok(())
 }

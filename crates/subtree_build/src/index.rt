@@ -1,7 +1,7 @@
 //! The index: root children by root number, the nodes and the range of leaves below each, the leaves in order, and in that
-//! order the members of all leaves in one row, and beside it their means, the finer ones, and the box of each leaf's means.
-ghost use Rattle.std.specs.Prelude.{◌≡◌, ◌<◌, ◌≤◌, ◌^◌, All, IfOk, OnOk, IsErrOf, length, map, Some, slice_get, slice_index};
-ghost use Rattle.mean_bound.specs.Boxes.{box_of};
+//! order the members of all leaves in one row, and beside it their means, the finer ones, and the boxes of the leaves' means.
+ghost use Rattle.std.specs.Prelude.{◌≡◌, ◌*◌, ◌<◌, ◌≤◌, ◌^◌, All, IfOk, OnOk, IsErrOf, length, map, take, drop, Some, slice_get, slice_index};
+ghost use Rattle.mean_bound.specs.Boxes.{box_of, box_of_boxes};
 ghost use Rattle.subtree_build.specs.Assembly.{HasMeansOf, IsOfParts, MakeIndex};
 ghost use Rattle.subtree_build.specs.Division.{roots_of, tree, tree_leaves};
 ghost use Rattle.subtree_build.specs.Fits.{Fits, IsTreeOf};
@@ -327,7 +327,23 @@ impl Index {
         requires { l < length self.now.leaves }
         ensures { result.now ≡ box_of (means_at self.now.means l) }
     {
-        &self.tables.boxes[l as usize]
+        &self.tables.boxes.leaves[l as usize]
+    }
+
+    /// The box of the means of all members of group number `g`: of 16 leaves, from number `16 * g` on, or those that are left.
+    pub fn group_box(&self, g: u32) -> &MeanBox
+        requires { g * 16 < length self.now.leaves }
+        ensures { result.now ≡ box_of_boxes (map box_of (take 16 (drop (g * 16) self.now.means))) }
+    {
+        &self.tables.boxes.groups[g as usize]
+    }
+
+    /// The box of the means of all members of wide group number `g`: of 256 leaves, from number `256 * g` on, or those that are left.
+    pub fn wide_group_box(&self, g: u32) -> &MeanBox
+        requires { g * 256 < length self.now.leaves }
+        ensures { result.now ≡ box_of_boxes (map box_of (take 256 (drop (g * 256) self.now.means))) }
+    {
+        &self.tables.boxes.wide_groups[g as usize]
     }
 
     /// How many segments the words have, from 1 to 16.

@@ -2,6 +2,7 @@
 #![tactic(auto)]
 
 mod assembly;
+mod boxes;
 mod building;
 mod index;
 mod laws;
@@ -21,6 +22,7 @@ mod summaries;
 mod tables;
 
 pub use assembly::Assembly;
+pub use boxes::{GROUP, WIDE_GROUP};
 pub use index::Index;
 pub use laws::{leaf_bound_is_below_distances, leaf_bound_is_no_less};
 pub use leaf::{MemberList, TreeLeaf};

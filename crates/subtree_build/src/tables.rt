@@ -1,24 +1,25 @@
-//! The tables beside the members of an index: their means, their finer means, and the box of each leaf's means.
+//! The tables beside the members of an index: their means, their finer means, and the boxes of the leaves' means.
 ghost use Rattle.std.specs.Prelude.{◌≡◌, ◌<◌, ◌≤◌, ◌^◌, All, IfOk, length};
-ghost use Rattle.subtree_build.specs.Places.{boxes_seen, AreTables, AreTablesOf, IsPlace};
+ghost use Rattle.subtree_build.specs.Places.{AreTables, AreTablesOf, IsPlace};
 
+use crate::boxes::{Boxes, boxes_of};
 use crate::leaf::LeafPlace;
 use crate::means::{finer_length, finer_of_all, means_of_all};
 use isax_word::Layout;
-use mean_bound::{FinerCuts, MeanBox, Means};
+use mean_bound::{FinerCuts, Means};
 use outside::NoMemory;
 use series_core::Rows;
 use std::alloc::Global;
 use std::thread::Threads;
 use summary_phase::Member;
 
-/// The means of all members, in their order; as many finer means a member as a series has parts; and the box of each leaf.
+/// The means of all members, in their order; as many finer means a member as a series has parts; and the boxes of leaves.
 #[derive(Drop)]
 pub(crate) struct Tables {
     pub(crate) means: Vec<Means>,
     pub(crate) parts: u32,
     pub(crate) finer: Vec<Means>,
-    pub(crate) boxes: Vec<MeanBox>,
+    pub(crate) boxes: Boxes,
 }
 
 /// The tables of members, each of which is a series of the rows, and of the places of leaves among them.
@@ -67,17 +68,4 @@ pub(crate) fn blank_tables(
         finer: Vec::new(alloc),
         boxes,
     })
-}
-
-/// The boxes of the means at places.
-fn boxes_of(alloc: Global, means: &[Means], places: &[LeafPlace]) -> Result<Vec<MeanBox>, NoMemory>
-    requires { All (IsPlace (length means.now)) places.now }
-    ensures { IfOk result (λ boxes. boxes.items ≡ boxes_seen means.now places.now) }
-{
-    let mut boxes = Vec::with_capacity(alloc, places.len())?;
-    for place in places {
-        let of_leaf = &means[place.first as usize..place.end as usize];
-        boxes.push(MeanBox::around(of_leaf))?;
-    }
-    Ok(boxes)
 }

@@ -1,4 +1,4 @@
-use Rattle.std.proofs.Common.{ℕ, ◌≡◌, ◌<◌, ◌+◌, ◌/◌, ◌%◌, length, sym, ap, ◌∙◌, arith}
+use Rattle.std.proofs.Common.{ℕ, ◌<◌, ◌+◌, ◌/◌, ◌%◌, sym, ap, ◌∙◌, arith}
 use Rattle.list_totals.specs.Totals.{once_below}
 use Rattle.query_core.proofs.EmptyQueues.{room_of}
 use Rattle.query_core.proofs.opening.leaves_of_each.Goals as goal

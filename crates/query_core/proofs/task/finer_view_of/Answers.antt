@@ -1,5 +1,5 @@
 -- Of a query that is cut by its own length all values are seen, and of one that is cut by 1 none.
-use Rattle.std.proofs.Common.{◌≡◌, ◌∙◌, ◌*◌, ◌≤◌, ℕ, ℤ, Bool, true, false, cond, List, length, take, refl, ap, arith}
+use Rattle.std.proofs.Common.{◌≡◌, ◌∙◌, ◌*◌, ℕ, ℤ, Bool, true, false, cond, List, length, take, refl, ap, arith}
 use Rattle.std.specs.Prelude.{ltb}
 use Rattle.std.proofs.lemmas.List.{take_all}
 use Rattle.series_core.specs.declared.rows.TheConstants.{MAX_VALUES}

@@ -1,5 +1,5 @@
 -- A series is passed over where it is farther than may be, and else added.
-use Rattle.std.proofs.Common.{◌≡◌, ◌∙◌, refl, arith}
+use Rattle.std.proofs.Common.{◌∙◌, refl, arith}
 use Rattle.isax_word.specs.FullWord.{full_word}
 use Rattle.isax_word.specs.declared.member.Member.{Member}
 use Rattle.subtree_build.specs.Members.{series_at}

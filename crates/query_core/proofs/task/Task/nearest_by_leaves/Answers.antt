@@ -4,7 +4,7 @@ use Rattle.std.specs.List.{All}
 use Rattle.std.specs.List.Sorted.{IsPermutation}
 use Rattle.std.proofs.lemmas.List.{append_assoc, map-append}
 use Rattle.std.proofs.lemmas.List.Elements.{All-cons, All-head, All-nil, All-tail}
-use Rattle.list_totals.specs.Totals.{once_below, one_if_same, times}
+use Rattle.list_totals.specs.Totals.{once_below, times}
 use Rattle.list_totals.proofs.Totals.{once_below_most, once_below_yes, times_append}
 use Rattle.series_core.specs.Order.{distance_at}
 use Rattle.series_core.specs.declared.pair.Pair.{Pair}

@@ -1,5 +1,5 @@
 -- What lies beyond the limit is as good as scanned, and the order changes nothing.
-use Rattle.std.proofs.Common.{◌≡◌, ◌+◌, ◌≤◌, ◌++◌, List, ℕ, sym, subst, arith}
+use Rattle.std.proofs.Common.{◌≡◌, ◌≤◌, ◌++◌, List, ℕ, sym, subst, arith}
 use Rattle.std.specs.List.{All}
 use Rattle.std.specs.List.Sorted.{IsPermutation}
 use Rattle.std.proofs.lemmas.List.Sorted.{All-permutation}
@@ -7,7 +7,6 @@ use Rattle.list_totals.specs.Totals.{times}
 use Rattle.list_totals.proofs.Totals.{times_append}
 use Rattle.series_core.specs.declared.queue_words.Entry.{Entry}
 use Rattle.search_machine.specs.Ground.{last}
-use Rattle.search_machine.specs.Sound.{ListSound}
 use Rattle.query_core.specs.NearLeaves.{IsLeafEntry, leaves_in, within_bound}
 use Rattle.query_core.specs.Questions.{search_over}
 use Rattle.query_core.proofs.LeavesNear.{same_count, within_all, within_times}

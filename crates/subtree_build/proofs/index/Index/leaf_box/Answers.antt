@@ -23,7 +23,7 @@ returns c =
     let tables : AreTables x.members.items x.leaves.items x.tables = c.self.invariant.3 in
     let none : LeafPlace = record { word = []; first = 0; end = 0 } in
     c.index.ensures
-    ∙ ap (λ (bs : List Box). get_or bs l c.index.result.now) tables.boxes_are
+    ∙ ap (λ (bs : List Box). get_or bs l c.index.result.now) tables.boxes_are.leaves
     ∙ get_or-map (λ (q : LeafPlace). box_of (part q)) x.leaves.items l none c.index.result.now low
     ∙ ap box_of (sym (get_or-map part x.leaves.items l none [] low))
     ∙ ap (λ (ix : IndexParts). box_of (means_at ix.means l)) c.self.view_is

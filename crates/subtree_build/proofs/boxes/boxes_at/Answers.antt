@@ -3,7 +3,7 @@ use Rattle.std.proofs.Common.{◌∙◌, ◌-◌, take, drop}
 use Rattle.mean_bound.specs.Boxes.{box_of}
 use Rattle.subtree_build.specs.declared.leaf.LeafPlace.{LeafPlace}
 use Rattle.subtree_build.proofs.Meaning.{map_push}
-use Rattle.subtree_build.proofs.tables.boxes_of.Goals as goal
+use Rattle.subtree_build.proofs.boxes.boxes_at.Goals as goal
 
 pub loop-place-preserved : goal.loop-place-preserved
 loop-place-preserved c =

@@ -5,7 +5,7 @@ use Rattle.segment_sums.proofs.Filled.{fill_next}
 use Rattle.mean_bound.specs.Means.{raised_sum}
 use Rattle.mean_bound.specs.MeanBound.{low_mean, high_mean}
 use Rattle.mean_bound.proofs.OfSegments.{at_segment}
-use Rattle.mean_bound.proofs.view.MeanView.new.Goals as goal
+use Rattle.mean_bound.proofs.view.MeanView.of_any.Goals as goal
 
 pub low_mean-requires-clause-limit : goal.low_mean-requires-clause-limit
 low_mean-requires-clause-limit c =

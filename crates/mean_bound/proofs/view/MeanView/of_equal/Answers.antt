@@ -1,0 +1,72 @@
+-- One more least and one more greatest mean stand behind those so far, in place of zeros.
+use Rattle.std.proofs.Common.{ℕ, List, ◌≡◌, ◌∙◌, ◌+◌, ◌-◌, ◌*◌, ◌/◌, ◌<◌, arith, ap, sym}
+use Rattle.segment_sums.specs.Division.{segment_length}
+use Rattle.segment_sums.proofs.Filled.{fill_next, filled}
+use Rattle.segment_sums.proofs.Places.{equal_lengths}
+use Rattle.mean_bound.specs.Means.{raised_sum}
+use Rattle.mean_bound.specs.MeanBound.{View, low_mean, high_mean}
+use Rattle.mean_bound.proofs.OfSegments.{at_segment}
+use Rattle.mean_bound.proofs.view.MeanView.of_equal.Goals as goal
+
+pub low_mean-requires-clause-limit : goal.low_mean-requires-clause-limit
+low_mean-requires-clause-limit g c =
+    let cuts = c.args.cuts.now in
+    let j = c.loop-j.j in
+    let used : j < cuts.segments = omega (arith, c.requires.sixteen) in
+    let long : segment_length cuts j ≡ g.row.L
+    = equal_lengths cuts 16 g.row.L j (omega arith) c.requires.sixteen c.requires.equal in
+    let sum = at_segment cuts (raised_sum cuts c.args.query.now) c.equal_raised_sums-sums.result j
+    c.equal_raised_sums-sums.ensures.sums used in
+    let limit = c.equal_raised_sums-sums.ensures.limit j used in
+    omega (arith, sum, limit, long)
+
+pub high_mean-requires-clause-limit : goal.high_mean-requires-clause-limit
+high_mean-requires-clause-limit g c =
+    let cuts = c.args.cuts.now in
+    let j = c.loop-j.j in
+    let used : j < cuts.segments = omega (arith, c.requires.sixteen) in
+    let long : segment_length cuts j ≡ g.row.L
+    = equal_lengths cuts 16 g.row.L j (omega arith) c.requires.sixteen c.requires.equal in
+    let sum = at_segment cuts (raised_sum cuts c.args.query.now) c.equal_raised_sums-sums.result j
+    c.equal_raised_sums-sums.ensures.sums used in
+    let limit = c.equal_raised_sums-sums.ensures.limit j used in
+    omega (arith, sum, limit, long)
+
+pub loop-j-preserved : goal.loop-j-preserved
+loop-j-preserved g c =
+    let cuts = c.args.cuts.now in
+    let query = c.args.query.now in
+    let j = c.loop-j.j in
+    let l = g.row.L in
+    let used : j < cuts.segments = omega (arith, c.requires.sixteen) in
+    let inside : j < 16 = omega (arith, used, c.requires.sixteen) in
+    let long : segment_length cuts j ≡ l = equal_lengths cuts 16 l j (omega arith) c.requires.sixteen c.requires.equal in
+    let sum = at_segment cuts (raised_sum cuts query) c.equal_raised_sums-sums.result j
+    c.equal_raised_sums-sums.ensures.sums used in
+    record {
+      lows = fill_next (low_mean cuts query) 0 16 j c.loop-j.lows _ inside c.loop-j.invariant.lows
+          (c.low_mean.ensures ∙ ap (λ s. (s + 1) / l - 1) sum
+          ∙ ap (λ n. (raised_sum cuts query j + 1) / n - 1) (sym long));
+      highs = fill_next (high_mean cuts query) 0 16 j c.loop-j.highs _ inside c.loop-j.invariant.highs
+          (c.high_mean.ensures ∙ ap (λ s. (s + (l - 1)) / l) sum
+          ∙ ap (λ n. (raised_sum cuts query j + (n - 1)) / n) (sym long));
+    }
+
+pub returns : goal.returns
+returns g c =
+    let cuts = c.args.cuts.now in
+    let query = c.args.query.now in
+    let l = g.row.L in
+    let end : c.loop-j.j ≡ cuts.segments = omega (arith, c.requires.sixteen) in
+    let sixteenth : l ≡ cuts.row_length / 16 = omega (arith, c.requires.equal) in
+    let least : l ≡ cuts.row_length / cuts.segments
+    = sixteenth ∙ ap (λ n. cuts.row_length / n) (sym c.requires.sixteen) in
+    let lows = c.loop-j.invariant.lows ∙ ap (filled (low_mean cuts query) 0 16) end in
+    let highs = c.loop-j.invariant.highs ∙ ap (filled (high_mean cuts query) 0 16) end in
+    ap (λ (n : ℕ). record { least_length = n; lows = c.loop-j.lows; highs = c.loop-j.highs }) least
+    ∙ ap (λ (ls : List ℕ). record { least_length = cuts.row_length / cuts.segments; lows = ls; highs = c.loop-j.highs }) lows
+    ∙ ap (λ (hs : List ℕ). record {
+      least_length = cuts.row_length / cuts.segments;
+      lows = filled (low_mean cuts query) 0 16 cuts.segments;
+      highs = hs;
+    }) highs
