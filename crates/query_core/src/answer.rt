@@ -12,9 +12,6 @@ use series_core::{KBest, PairList, Rows};
 use std::alloc::Global;
 use subtree_build::Index;
 
-/// Where more of 32 members of a sample than these are within the first limit, a closer one is not looked for.
-const NEARLY_ALL: u64 = 30;
-
 /// The answer alone, the k nearest rows, without what an outcome has for a certificate. One worker needs no queues, so
 /// it is the same for any number of them.
 pub fn one_worker_answer<R: Rows>(
@@ -42,11 +39,7 @@ impl<'a, R: Rows> Task<'a, R> {
     {
         search_law(self, index);
         let first = self.first_limit(alloc, index)?;
-        if self.means_tell(index, first, NEARLY_ALL) {
-            self.nearest_by_leaves(alloc, index, first)
-        } else {
-            self.answer_by_rows(alloc, index, first)
-        }
+        self.nearest_by_leaves(alloc, index, first)
     }
 
     /// The list of the answer, by all rows.

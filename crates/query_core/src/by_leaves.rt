@@ -17,11 +17,17 @@ use series_core::{Entry, KBest, Rows};
 use std::alloc::Global;
 use subtree_build::Index;
 
-/// How many leaves of least bound are scanned for a closer limit.
-const CLOSEST: usize = 64;
+/// How many leaves of least bound are scanned for a closer limit, at least.
+const CLOSEST: u64 = 64;
+
+/// How many members these leaves are to have, as far as all leaves have as many.
+const CLOSEST_MEMBERS: u64 = 2048;
+
+/// Where more leaves than these are left, they are scanned in the order of their numbers, as they lie in memory.
+const MANY: usize = 4096;
 
 /// Where more of 32 members of a sample than these are within the closer limit, all rows are read.
-const FEW: u64 = 3;
+const FEW: u64 = 6;
 
 impl<'a, R: Rows> Task<'a, R> {
     /// The list of the answer, by the leaves that may have a member within the limit, or by all rows where the closer limit shows that
@@ -39,18 +45,42 @@ impl<'a, R: Rows> Task<'a, R> {
         search_law(self, index);
         let mut near = self.near_leaves(alloc, index, first)?;
         let mut list = KBest::new(alloc, self.k())?;
-        if near.len() <= CLOSEST {
+        let count = self.closest_count(index);
+        if near.len() <= count {
             self.scan_within(alloc, index, &near, first, &mut list)?;
             return Ok(list);
         }
-        let (closest, next, others) = near.select_nth_unstable_by_key(CLOSEST, |entry| entry.bound);
+        let (closest, next, others) = near.select_nth_unstable_by_key(count, |entry| entry.bound);
         self.scan_within(alloc, index, closest, first, &mut list)?;
         let limit = distance_of_worst(&list).min(first);
         if !self.means_tell(index, limit, FEW) {
             return self.answer_by_rows(alloc, index, limit);
         }
+        if others.len() > MANY {
+            return self.answer_in_order(alloc, index, limit);
+        }
         self.scan_entry(index, next, limit, &mut list);
         self.scan_within(alloc, index, others, limit, &mut list)?;
+        Ok(list)
+    }
+
+    // How many leaves of least bound are scanned for a closer limit.
+    fn closest_count(&self, index: &Index) -> usize {
+        let leaves = u64::from(index.leaf_count());
+        let count = u64::from(self.rows.count()).max(1);
+        (CLOSEST_MEMBERS * leaves / count).max(CLOSEST) as usize
+    }
+
+    // The list of the answer, by all leaves that may have a member within the limit, in the order of their numbers.
+    fn answer_in_order(&self, alloc: Global, index: &Index, limit: u64) -> Result<KBest, NoMemory>
+        requires fits { IndexFits self.now.collection self.now.layout index.now }
+        requires limit { last_of self.now ≤ limit }
+        ensures { IfOk result (λ best. best.pairs ≡ answer self.now.collection self.now.query self.now.k) }
+    {
+        search_law(self, index);
+        let near = self.near_leaves(alloc, index, limit)?;
+        let mut list = KBest::new(alloc, self.k())?;
+        self.scan_entries(index, &near, limit, &mut list);
         Ok(list)
     }
 

@@ -13,10 +13,10 @@ use std::alloc::Global;
 use subtree_build::Index;
 
 /// Of how many leaves the means are tried.
-const SAMPLE: u32 = 16;
+const SAMPLE: u32 = 64;
 
 /// Of how many members of each of them.
-const MEMBERS: usize = 32;
+const MEMBERS: usize = 8;
 
 impl<'a, R: Rows> Task<'a, R> {
     /// A limit that is not below the last distance: that of the k-th pair of the start leaf's members, and where these are fewer,

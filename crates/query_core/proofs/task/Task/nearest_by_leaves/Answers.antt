@@ -91,8 +91,8 @@ leaves_together closest others next =
     append_assoc (leaves_in closest) (next.leaf ∷ []) (leaves_in others)
     ∙ sym (map-append (λ (e : Entry). e.leaf) closest (next ∷ others))
 
-pub returns-then-len-le-CLOSEST : goal.returns-then-len-le-CLOSEST
-returns-then-len-le-CLOSEST g c =
+pub returns-then-len-count : goal.returns-then-len-count
+returns-then-len-count g c =
     let ix = c.args.index.now in
     let ground = search_over c.args.self.now ix 1 1 in
     let count = length ix.leaves in
@@ -119,6 +119,21 @@ scan_within-requires-2-clause-leaves g c =
 
 pub answer_by_rows-requires-clause-limit : goal.answer_by_rows-requires-clause-limit
 answer_by_rows-requires-clause-limit g c =
+    let ix = c.args.index.now in
+    let ground = search_over c.args.self.now ix 1 1 in
+    let fits = c.search_law.ensures.fits 1 1 (omega arith) (omega arith) in
+    let p = c.select_nth_unstable_by_key-closest.result in
+    let near = moved ground c.args.first (length ix.leaves) c.in_ok-near.near.items c.deref_mut.result.now
+    (p.0.now ++ p.1.now ∷ p.2.now) c.deref_mut.ensures.value c.select_nth_unstable_by_key-closest.ensures.permutation
+    c.in_ok-near.ensures in
+    let list = c.scan_within-2.new.list in
+    let least = closest_enough ground c.args.first (length ix.leaves) fits p.0.now (p.1.now ∷ p.2.now)
+    c.in_ok-list.list.pairs list.pairs list.k near (ap (λ b. b.pairs) c.in_ok-list.ensures)
+    c.in_ok-scan_within-2.ensures.met c.in_ok-scan_within-2.ensures.list.0 in
+    omega (arith, least, c.distance_of_worst.ensures, c.search_law.ensures.last 1 1, c.requires.limit)
+
+pub answer_in_order-requires-clause-limit : goal.answer_in_order-requires-clause-limit
+answer_in_order-requires-clause-limit g c =
     let ix = c.args.index.now in
     let ground = search_over c.args.self.now ix 1 1 in
     let fits = c.search_law.ensures.fits 1 1 (omega arith) (omega arith) in
