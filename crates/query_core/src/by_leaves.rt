@@ -21,13 +21,13 @@ use subtree_build::Index;
 const CLOSEST: u64 = 64;
 
 /// How many members these leaves are to have, as far as all leaves have as many.
-const CLOSEST_MEMBERS: u64 = 2048;
+const CLOSEST_MEMBERS: u64 = 512;
 
 /// Where more leaves than these are left, they are scanned in the order of their numbers, as they lie in memory.
 const MANY: usize = 4096;
 
 /// Where more of 32 members of a sample than these are within the closer limit, all rows are read.
-const FEW: u64 = 6;
+const FEW: u64 = 3;
 
 impl<'a, R: Rows> Task<'a, R> {
     /// The list of the answer, by the leaves that may have a member within the limit, or by all rows where the closer limit shows that
