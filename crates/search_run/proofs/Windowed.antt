@@ -1,4 +1,5 @@
--- How a search of windows ends: what refuses its files, and what was written of its text (`stops_conclude`).
+-- How a search of windows ends: what refuses its files, and what was written of its text (`stops_conclude`); and
+-- what stops the writing is no fault of reading (`stop_reads_nothing`).
 use Rattle.std.proofs.Common.{◌≡◌, ℕ, ◌*◌, ◌<◌, ◌++◌, List, Option, None, inl, inr, ⊎_elim, length, take, arith, ap, ◌∙◌}
 use Rattle.std.specs.Prelude.{ℤ, Result, Ok, Err, IfErr, OnOk}
 use Rattle.std.specs.Io.KnownBytes.{append_known}
@@ -25,6 +26,14 @@ use Rattle.search_run.specs.declared.output.answers.Telling.TheVariants.{Apart}
 use Rattle.search_run.specs.declared.output.stop.Stop.{Stop}
 use Rattle.search_run.specs.declared.output.stop.Stop.TheVariants.{WriteFault, NoMemory}
 use Rattle.search_run.specs.declared.status.Status.{Status}
+use Rattle.search_run.specs.declared.status.Status.TheVariants.{ReadFault}
+use Rattle.search_run.specs.declared.status.Which.{Which}
+
+-- what stops the writing is no fault of reading
+pub stop_reads_nothing : (r : Result (Unit {0}) Status) (s : Status) (stop : Stop) (w : Which) → r ≡ Err s → s ≡ status_of stop
+    → r ≡ Err (ReadFault w) → ⊥
+stop_reads_nothing r s WriteFault w ends is reads = cc
+stop_reads_nothing r s NoMemory w ends is reads = cc
 
 -- values alone, one a series, are no more than a collection may have series
 pub few_alone : (x : Loaded) → HasText (Raw 1) x.rows x.labels → HasFew x

@@ -11,7 +11,7 @@ use Rattle.search_run.specs.Traffic.{read_from, wrote_to}
 use Rattle.search_run.proofs.Both.{alike_refused}
 use Rattle.search_run.proofs.Concluding.{refusal_concludes}
 use Rattle.search_run.proofs.Loading.{index_wider}
-use Rattle.search_run.proofs.Windowed.{stops_conclude}
+use Rattle.search_run.proofs.Windowed.{stop_reads_nothing, stops_conclude}
 use Rattle.search_run.proofs.commands.nearest.answer_indexed.Goals as goal
 
 pub returns-in_err-both-clause-answers : goal.returns-in_err-both-clause-answers
@@ -90,3 +90,8 @@ returns-clause-answers g c =
     (subst (λ held. HoldsBytes held c.as_str.result.now (IsFitIndex x.rows)) c.in_ok-both.ensures.kept
     c.in_ok-tree.ensures.held) in
     (wrote.0, (x, fit.hold.first, (y, fit.hold.second, (fit.lengths, (held, wrote.1)))), wrote.2)
+
+pub returns-in_err-write_nearest-clause-reliable : goal.returns-in_err-write_nearest-clause-reliable
+returns-in_err-write_nearest-clause-reliable g c reliable w reads =
+    let told = err_from_is_err_and c.from_residual-in_err-write_nearest.result c.from_residual-in_err-write_nearest.ensures.1 in
+    stop_reads_nothing c.from_residual-in_err-write_nearest.result told.0 c.in_err-write_nearest.field-0.0 w told.1 told.2 reads

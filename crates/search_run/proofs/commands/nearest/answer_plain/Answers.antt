@@ -8,7 +8,7 @@ use Rattle.search_run.specs.Texts.{query_text}
 use Rattle.search_run.specs.Traffic.{read_from, wrote_to}
 use Rattle.search_run.proofs.Both.{files_refused}
 use Rattle.search_run.proofs.Concluding.{refusal_concludes}
-use Rattle.search_run.proofs.Windowed.{stops_conclude}
+use Rattle.search_run.proofs.Windowed.{stop_reads_nothing, stops_conclude}
 use Rattle.search_run.proofs.commands.nearest.answer_plain.Goals as goal
 
 pub returns-in_err-both-clause-answers : goal.returns-in_err-both-clause-answers
@@ -52,3 +52,8 @@ returns-clause-answers g c =
     let fit = c.in_ok-both.ensures.found in
     let wrote = c.in_ok-write_nearest.ensures.ok in
     (wrote.0, (x, fit.hold.first, (y, fit.hold.second, (fit.lengths, (fit.segments, wrote.1)))), wrote.2)
+
+pub returns-in_err-write_nearest-clause-reliable : goal.returns-in_err-write_nearest-clause-reliable
+returns-in_err-write_nearest-clause-reliable g c reliable w reads =
+    let told = err_from_is_err_and c.from_residual-in_err-write_nearest.result c.from_residual-in_err-write_nearest.ensures.1 in
+    stop_reads_nothing c.from_residual-in_err-write_nearest.result told.0 c.in_err-write_nearest.field-0.0 w told.1 told.2 reads

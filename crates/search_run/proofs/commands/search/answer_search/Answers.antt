@@ -4,6 +4,7 @@ use Rattle.search_run.specs.Finding.{IsGround}
 use Rattle.search_run.specs.Traffic.{read_from, wrote_to}
 use Rattle.search_run.specs.declared.commands.search.Ground.{Ground}
 use Rattle.search_run.proofs.Searching.{search_done, search_refused, search_stopped}
+use Rattle.search_run.proofs.Windowed.{stop_reads_nothing}
 use Rattle.search_run.proofs.commands.search.answer_search.Goals as goal
 
 pub returns-in_err-both-clause-answers : goal.returns-in_err-both-clause-answers
@@ -59,3 +60,8 @@ returns-clause-answers g c =
     let wrote = c.in_ok-write_pieces.ensures.ok in
     search_done (goal.P-post g c.args.piece_of.now) reading writing asked.series.now asked.queries.now
     asked.options.now base over both.queries c.in_ok-both.ensures.found wrote.0 wrote.1 wrote.2
+
+pub returns-in_err-write_pieces-clause-reliable : goal.returns-in_err-write_pieces-clause-reliable
+returns-in_err-write_pieces-clause-reliable g c reliable w reads =
+    let told = err_from_is_err_and c.from_residual-in_err-write_pieces.result c.from_residual-in_err-write_pieces.ensures.1 in
+    stop_reads_nothing c.from_residual-in_err-write_pieces.result told.0 c.in_err-write_pieces.field-0.0 w told.1 told.2 reads
