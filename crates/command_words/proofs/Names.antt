@@ -11,17 +11,24 @@ use Rattle.command_words.specs.declared.name.CommandName.TheVariants.{Nearest, R
 use Rattle.command_words.specs.declared.name.CommandName.TheVariants.{Convert, Save}
 use Rattle.command_words.specs.declared.name.CommandName.TheVariants.{Windows, Discord}
 
+-- what holds of each command by itself holds of all
+by_name : (P : CommandName → Type 0)
+    → P Nearest × P Range × P Verify × P Trial × P Convert × P Save × P Windows × P Discord
+    → (name : CommandName) → P name
+by_name P each Nearest = each.0
+by_name P each Range = each.1
+by_name P each Verify = each.2
+by_name P each Trial = each.3
+by_name P each Convert = each.4
+by_name P each Save = each.5
+by_name P each Windows = each.6
+by_name P each Discord = each.7
+
 -- `clap` computes the faults of each command exactly
 pub is_simple_app : (name : CommandName) → is_simple_and_free (app_for name) ≡ true
 unfolding app_for
-is_simple_app Nearest = refl
-is_simple_app Range = refl
-is_simple_app Verify = refl
-is_simple_app Trial = refl
-is_simple_app Convert = refl
-is_simple_app Save = refl
-is_simple_app Windows = refl
-is_simple_app Discord = refl
+is_simple_app = by_name (λ name. is_simple_and_free (app_for name) ≡ true)
+    (refl, refl, refl, refl, refl, refl, refl, refl)
 
 -- a command without such rules is a simple one
 pub is_simple_of_free : (a : App) → is_simple_and_free a ≡ true → is_simple a ≡ true
@@ -29,14 +36,8 @@ is_simple_of_free a e = (both _ _ e).0
 
 -- each command is named by its own word
 pub named_by_text : (name : CommandName) → named_by (text_of name) ≡ Some name
-named_by_text Nearest = refl
-named_by_text Range = refl
-named_by_text Verify = refl
-named_by_text Trial = refl
-named_by_text Convert = refl
-named_by_text Save = refl
-named_by_text Windows = refl
-named_by_text Discord = refl
+named_by_text = by_name (λ name. named_by (text_of name) ≡ Some name)
+    (refl, refl, refl, refl, refl, refl, refl, refl)
 
 -- a word that names a command is its own
 name_found : (t : Text) (name : CommandName) → named_by t ≡ Some name → t ≡ text_of name
