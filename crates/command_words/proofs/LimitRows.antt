@@ -1,14 +1,13 @@
 -- Rows of limits: for each option and number the least and the greatest, and what lies one beyond.
-use Rattle.std.proofs.Common.{List, [], ◌∷◌, arith, codes, refl}
+use Rattle.std.proofs.Common.{List, [], ◌∷◌, arith, codes, map, refl}
 use Rattle.clap.specs.Words.{Text}
 use Rattle.clap.proofs.OnLiterals.{clap_on_literals}
 use Rattle.command_words.specs.CommandName.{app_for, rows_of_words}
 use Rattle.command_words.specs.declared.name.CommandName.TheVariants as name
 use Rattle.command_words.proofs.Named.{HasNoSettings}
-use Rattle.command_words.proofs.NoSettings.{bad_apart, bad_breaks, bad_k, bad_leaf, bad_queues}
-use Rattle.command_words.proofs.NoSettings.{bad_raw, bad_segments, bad_workers, not_both, stray}
-use Rattle.command_words.proofs.NoSettings.{too_many_values, too_many_windows, unfit_trial}
-use Rattle.command_words.proofs.NoSettings.{unfit_windows}
+use Rattle.command_words.proofs.NoSettings.{NoneHasSettings, not_both, stray, too_many_values}
+use Rattle.command_words.proofs.NoSettings.{too_many_windows, unfit_trial, unfit_windows}
+use Rattle.command_words.proofs.NoSettings.{unread_options}
 use Rattle.command_words.proofs.Rows.{nearest}
 
 -- `windows S Q`, then a step and what follows
@@ -19,47 +18,19 @@ windows more = codes "windows" ∷ codes "S" ∷ codes "Q" ∷ more
 abbrev trial : List Text → List Text
 trial more = codes "trial" ∷ more
 
--- `--k` below and above its limits
-k_beyond : HasNoSettings (nearest (codes "--k=0" ∷ []))
-    × HasNoSettings (nearest (codes "--k=1025" ∷ []))
+-- each option of `nearest` below and above its limits
+options_beyond : NoneHasSettings nearest (map (λ o. o ∷ [])
+    (codes "--k=0" ∷ codes "--k=1025" ∷ codes "--segments=0" ∷ codes "--segments=17"
+    ∷ codes "--leaf=0" ∷ codes "--leaf=65536" ∷ codes "--workers=0" ∷ codes "--workers=65"
+    ∷ codes "--queues=0" ∷ codes "--queues=65" ∷ codes "--raw=0" ∷ codes "--raw=65537" ∷ []))
 unfolding clap_on_literals app_for rows_of_words
-k_beyond = (bad_k name.Nearest _ refl refl, bad_k name.Nearest _ refl refl)
-
--- `--segments` below and above its limits
-segments_beyond : HasNoSettings (nearest (codes "--segments=0" ∷ []))
-    × HasNoSettings (nearest (codes "--segments=17" ∷ []))
-unfolding clap_on_literals app_for rows_of_words
-segments_beyond = (bad_segments name.Nearest _ refl refl, bad_segments name.Nearest _ refl refl)
-
--- `--leaf` below and above its limits
-leaf_beyond : HasNoSettings (nearest (codes "--leaf=0" ∷ []))
-    × HasNoSettings (nearest (codes "--leaf=65536" ∷ []))
-unfolding clap_on_literals app_for rows_of_words
-leaf_beyond = (bad_leaf name.Nearest _ refl refl, bad_leaf name.Nearest _ refl refl)
-
--- `--workers` below and above its limits
-workers_beyond : HasNoSettings (nearest (codes "--workers=0" ∷ []))
-    × HasNoSettings (nearest (codes "--workers=65" ∷ []))
-unfolding clap_on_literals app_for rows_of_words
-workers_beyond = (bad_workers name.Nearest _ refl refl, bad_workers name.Nearest _ refl refl)
-
--- `--queues` below and above its limits
-queues_beyond : HasNoSettings (nearest (codes "--queues=0" ∷ []))
-    × HasNoSettings (nearest (codes "--queues=65" ∷ []))
-unfolding clap_on_literals app_for rows_of_words
-queues_beyond = (bad_queues name.Nearest _ refl refl, bad_queues name.Nearest _ refl refl)
-
--- `--raw` below and above its limits
-raw_beyond : HasNoSettings (nearest (codes "--raw=0" ∷ []))
-    × HasNoSettings (nearest (codes "--raw=65537" ∷ []))
-unfolding clap_on_literals app_for rows_of_words
-raw_beyond = (bad_raw name.Nearest _ refl refl, bad_raw name.Nearest _ refl refl)
+options_beyond = unread_options name.Nearest _ _ (λ _. refl) refl
 
 -- `--apart` below and above its limits
-apart_beyond : HasNoSettings (windows (codes "1" ∷ codes "--apart=0" ∷ []))
-    × HasNoSettings (windows (codes "1" ∷ codes "--apart=513" ∷ []))
+apart_beyond : NoneHasSettings windows
+    ((codes "1" ∷ codes "--apart=0" ∷ []) ∷ (codes "1" ∷ codes "--apart=513" ∷ []) ∷ [])
 unfolding clap_on_literals app_for rows_of_words
-apart_beyond = (bad_apart name.Windows _ refl refl, bad_apart name.Windows _ refl refl)
+apart_beyond = unread_options name.Windows _ _ (λ _. refl) refl
 
 -- a step below and above its limits
 step_beyond : HasNoSettings (windows (codes "0" ∷ []))
@@ -104,25 +75,13 @@ unfolding clap_on_literals app_for rows_of_words
 trial_too_large = unfit_trial _ refl
     (λ _ count length _ _ h. too_many_values 16777216 9 count length h.1 h.2 h.4 (omega arith))
 
--- names of breakpoints that are none, or spelled otherwise
-breaks_of_no_table : HasNoSettings (nearest (codes "--breaks=round" ∷ []))
-    × HasNoSettings (nearest (codes "--breaks=Flat" ∷ []))
+-- names of breakpoints that are none, or spelled otherwise, and a number with other characters than
+-- digits, one of many digits, and none at all
+other_spellings : NoneHasSettings nearest (map (λ o. o ∷ [])
+    (codes "--breaks=round" ∷ codes "--breaks=Flat" ∷ codes "--k=3k" ∷ codes "--k=1_0"
+    ∷ codes "--k=99999999999999999999999" ∷ codes "--k=-3" ∷ codes "--k=" ∷ []))
 unfolding clap_on_literals app_for rows_of_words
-breaks_of_no_table = (bad_breaks name.Nearest _ refl refl, bad_breaks name.Nearest _ refl refl)
-
--- a number with other characters than digits, one of many digits, and none at all
-k_of_other_spellings : HasNoSettings (nearest (codes "--k=3k" ∷ []))
-    × HasNoSettings (nearest (codes "--k=1_0" ∷ []))
-    × HasNoSettings (nearest (codes "--k=99999999999999999999999" ∷ []))
-    × HasNoSettings (nearest (codes "--k=-3" ∷ [])) × HasNoSettings (nearest (codes "--k=" ∷ []))
-unfolding clap_on_literals app_for rows_of_words
-k_of_other_spellings = (
-  bad_k name.Nearest _ refl refl,
-  bad_k name.Nearest _ refl refl,
-  bad_k name.Nearest _ refl refl,
-  bad_k name.Nearest _ refl refl,
-  bad_k name.Nearest _ refl refl,
-)
+other_spellings = unread_options name.Nearest _ _ (λ _. refl) refl
 
 -- an index beside each of the four that may not stand with it
 index_beside : HasNoSettings (nearest (codes "--index=I" ∷ codes "--segments=2" ∷ []))

@@ -1,9 +1,11 @@
 -- How words come to have no settings: by the first word, by `clap`, a number or a further rule.
-use Rattle.std.proofs.Common.{◌≡◌, ◌∙◌, ◌+◌, ◌-◌, ◌*◌, ◌<◌, ◌≤◌, ℕ, true}
+use Rattle.std.proofs.Common.{◌≡◌, ◌∙◌, ◌+◌, ◌-◌, ◌*◌, ◌<◌, ◌≤◌, ℕ, Bool, false, true}
 use Rattle.std.proofs.Common.{List, [], ◌∷◌, Option, Some, None, arith, codes}
 use Rattle.std.proofs.Common.{option_and_then, refl, sym}
-use Rattle.std.specs.Prelude.{slice_get}
-use Rattle.clap.specs.Words.{Text, first_of}
+use Rattle.std.specs.List.{AllByRecursion, list_any}
+use Rattle.std.specs.Prelude.{◌&&◌, is_some, slice_get}
+use Rattle.std.proofs.lemmas.Bool.{or_parts}
+use Rattle.clap.specs.Words.{Row, Text, first_of}
 use Rattle.clap.specs.declared.error.ErrorKind.{ErrorKind}
 use Rattle.command_words.specs.CommandName.{faults_of, named_by, rows_of_words}
 use Rattle.command_words.specs.Options.{HasOptions, number_at, number_if, number_or, table_named}
@@ -26,6 +28,17 @@ pub unnamed : (words : List Text) → option_and_then named_by (slice_get words 
     → HasNoSettings words
 unnamed words none c h = not_both _ _ none (name_is_found _ _ h.named)
 
+-- whether each option is one that a command can hold
+abbrev pub reads_options : List Row → Bool
+reads_options rows = is_some (number_or 1 1024 1 (first_of (codes "k") rows))
+    && (is_some (number_if 1 16 (first_of (codes "segments") rows))
+    && (is_some (number_or 1 65535 1000 (first_of (codes "leaf") rows))
+    && (is_some (number_or 1 64 4 (first_of (codes "workers") rows))
+    && (is_some (number_or 1 64 2 (first_of (codes "queues") rows))
+    && (is_some (table_named (first_of (codes "breaks") rows))
+    && (is_some (number_if 1 65536 (first_of (codes "raw") rows))
+    && is_some (number_or 1 512 1 (first_of (codes "apart") rows))))))))
+
 module _ (name : CommandName) (words : List Text)
     (found : option_and_then named_by (slice_get words 0) ≡ Some name) where
   -- words that `clap` refuses have no settings
@@ -39,45 +52,32 @@ module _ (name : CommandName) (words : List Text)
   no_options unfit =
       unfit_rows words name found _ refl (λ c is h. unfit (options_of c) h.options)
 
-  -- a bad `--k` leaves no settings
-  pub bad_k : number_or 1 1024 1 (first_of (codes "k") (rows_of_words name words)) ≡ None
-      → HasNoSettings words
-  bad_k bad = no_options (λ o h. not_both _ _ bad h.k)
+  -- an option that no command can hold leaves no settings
+  pub unread_option : reads_options (rows_of_words name words) ≡ false → HasNoSettings words
+  unread_option bad = no_options (λ o h.
+      let read : reads_options (rows_of_words name words) ≡ true =
+      rw (h.k, h.segments, h.leaf, h.workers, h.queues, h.table, h.raw, h.apart) refl in
+      absurd (cc))
 
-  -- a bad `--segments` leaves no settings
-  pub bad_segments : number_if 1 16 (first_of (codes "segments") (rows_of_words name words)) ≡ None
-      → HasNoSettings words
-  bad_segments bad = no_options (λ o h. not_both _ _ bad h.segments)
+-- none of these words has settings, after what stands before them
+pub record NoneHasSettings (before : List Text → List Text) (rest : List (List Text)) : Type 0 where
+  pub each : AllByRecursion (λ more. HasNoSettings (before more)) rest
 
-  -- a bad `--leaf` leaves no settings
-  pub bad_leaf : number_or 1 65535 1000 (first_of (codes "leaf") (rows_of_words name words)) ≡ None
-      → HasNoSettings words
-  bad_leaf bad = no_options (λ o h. not_both _ _ bad h.leaf)
-
-  -- a bad `--workers` leaves no settings
-  pub bad_workers : number_or 1 64 4 (first_of (codes "workers") (rows_of_words name words)) ≡ None
-      → HasNoSettings words
-  bad_workers bad = no_options (λ o h. not_both _ _ bad h.workers)
-
-  -- a bad `--queues` leaves no settings
-  pub bad_queues : number_or 1 64 2 (first_of (codes "queues") (rows_of_words name words)) ≡ None
-      → HasNoSettings words
-  bad_queues bad = no_options (λ o h. not_both _ _ bad h.queues)
-
-  -- a bad `--breaks` leaves no settings
-  pub bad_breaks : table_named (first_of (codes "breaks") (rows_of_words name words)) ≡ None
-      → HasNoSettings words
-  bad_breaks bad = no_options (λ o h. not_both _ _ bad h.table)
-
-  -- a bad `--raw` leaves no settings
-  pub bad_raw : number_if 1 65536 (first_of (codes "raw") (rows_of_words name words)) ≡ None
-      → HasNoSettings words
-  bad_raw bad = no_options (λ o h. not_both _ _ bad h.raw)
-
-  -- a bad `--apart` leaves no settings
-  pub bad_apart : number_or 1 512 1 (first_of (codes "apart") (rows_of_words name words)) ≡ None
-      → HasNoSettings words
-  bad_apart bad = no_options (λ o h. not_both _ _ bad h.apart)
+-- words have no settings where each list of them has an option that no command can hold
+pub unread_options : (name : CommandName) (before : List Text → List Text) (rest : List (List Text))
+    → ((more : List Text) → option_and_then named_by (slice_get (before more) 0) ≡ Some name)
+    → list_any (λ more. reads_options (rows_of_words name (before more))) rest ≡ false
+    → NoneHasSettings before rest
+unread_options name before rest found bad = record { each = go rest bad }
+  where
+    -- the same, list by list
+    go : (rest : List (List Text))
+        → list_any (λ more. reads_options (rows_of_words name (before more))) rest ≡ false
+        → AllByRecursion (λ more. HasNoSettings (before more)) rest
+    go [] bad = tt
+    go (more ∷ rest) bad =
+        let parts = or_parts _ _ bad in
+        (unread_option name (before more) (found more) parts.0, go rest parts.1)
 
 -- a stray option beside an index leaves no settings
 pub stray : (words : List Text)

@@ -8,7 +8,8 @@ use Rattle.clap.specs.declared.error.kind.ErrorKind.TheVariants as kind
 use Rattle.command_words.specs.CommandName.{app_for, faults_of, rows_of_words}
 use Rattle.command_words.specs.declared.name.CommandName.TheVariants as name
 use Rattle.command_words.proofs.Named.{HasNoSettings}
-use Rattle.command_words.proofs.NoSettings.{bad_k, bad_radius, faulty, unnamed}
+use Rattle.command_words.proofs.NoSettings.{NoneHasSettings, bad_radius, faulty}
+use Rattle.command_words.proofs.NoSettings.{unnamed, unread_options}
 
 -- `nearest A Q` and what follows
 abbrev pub nearest : List Text → List Text
@@ -40,25 +41,11 @@ one_word_long : HasNoSettings (nearest (codes "B" ∷ []))
 unfolding clap_on_literals app_for faults_of
 one_word_long = faulty name.Nearest _ refl kind.UnknownArgument refl
 
--- `--k 0` is below the limits
-k_of_0 : HasNoSettings (nearest (codes "--k" ∷ codes "0" ∷ []))
+-- `--k 0` and `--k 1025` are beyond the limits, and `--k 03` and `--k +3` are not well spelled
+bad_k : NoneHasSettings nearest (map (λ n. codes "--k" ∷ n ∷ [])
+    (codes "0" ∷ codes "1025" ∷ codes "03" ∷ codes "+3" ∷ []))
 unfolding clap_on_literals app_for rows_of_words
-k_of_0 = bad_k name.Nearest _ refl refl
-
--- `--k 1025` is above the limits
-k_of_1025 : HasNoSettings (nearest (codes "--k" ∷ codes "1025" ∷ []))
-unfolding clap_on_literals app_for rows_of_words
-k_of_1025 = bad_k name.Nearest _ refl refl
-
--- `--k 03` is not well spelled
-k_with_a_zero_before : HasNoSettings (nearest (codes "--k" ∷ codes "03" ∷ []))
-unfolding clap_on_literals app_for rows_of_words
-k_with_a_zero_before = bad_k name.Nearest _ refl refl
-
--- `--k +3` is not well spelled
-k_with_a_sign : HasNoSettings (nearest (codes "--k" ∷ codes "+3" ∷ []))
-unfolding clap_on_literals app_for rows_of_words
-k_with_a_sign = bad_k name.Nearest _ refl refl
+bad_k = unread_options name.Nearest _ _ (λ _. refl) refl
 
 -- `--k 2 --k 2` gives an option twice
 k_twice : HasNoSettings

@@ -68,8 +68,17 @@ said rows = (
 abbrev says : Options → Option ℕ × Option (Option ℕ) × Option ℕ × Option ℕ × Option ℕ × Option Table
     × Option (Option ℕ) × Bool × Bool × Option Text × Option ℕ
 says o = (
-  Some o.k, Some o.segments, Some o.leaf, Some o.workers, Some o.queues, Some o.table,
-  Some o.raw, o.certificate, o.sealed, o.index, Some o.apart,
+  Some o.k,
+  Some o.segments,
+  Some o.leaf,
+  Some o.workers,
+  Some o.queues,
+  Some o.table,
+  Some o.raw,
+  o.certificate,
+  o.sealed,
+  o.index,
+  Some o.apart,
 )
 
 -- words have the settings of a command, where all that is computed of them is what it holds
