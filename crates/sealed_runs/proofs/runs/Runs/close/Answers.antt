@@ -5,7 +5,7 @@ use Rattle.sealed_runs.specs.Entries.{Run, Sealed, no_run, run_at}
 use Rattle.sealed_runs.specs.Visits.{Visit, IsVisit, visit_at, column}
 use Rattle.sealed_runs.specs.Closed.{Line, IsLine}
 use Rattle.sealed_runs.specs.Sealing.{IsReady}
-use Rattle.sealed_runs.proofs.Closing.{next, left_count, left_own, left_column, left_rest, all_left, LinesFrom, line_more, all_lines}
+use Rattle.sealed_runs.proofs.Closing.{Next, next, left_count, left_own, left_column, left_rest, all_left, LinesFrom, line_more, all_lines}
 use Rattle.sealed_runs.proofs.runs.Runs.close.Goals as goal
 
 pub loop-run-init : goal.loop-run-init
@@ -23,71 +23,53 @@ loop-run-init c =
       lines = λ j in_list. absurd (omega arith);
     }
 
+-- without the run that this turn closes, one run less is left
+one_less : (c : goal.After-passes-1) → c.len.result + 1 ≡ vec_len c.loop-run.runs
+one_less c = omega (arith, c.len.ensures, c.in-Some.ensures.cases)
+
+-- the run that this turn closes is the last of those that are left
+last : (c : goal.After-passes-1)
+    → Next c.args.self.runs c.args.passes.items c.loop-run.passes.items c.pop.new.self.items
+    c.in-Some.run' c.len.result
+last c =
+    let inv = c.loop-run.invariant in
+    let rest_count : length c.pop.new.self.items ≡ c.len.result =
+    omega (arith, c.len.ensures, c.pop.new.self.ok.0) in
+    next c.args.self.runs c.args.passes.items c.loop-run.passes.items c.loop-run.runs.items
+    c.pop.new.self.items c.in-Some.run'
+    (vec_len c.loop-run.runs) c.len.result (length c.loop-run.lines.items) inv.runs
+    c.in-Some.ensures.items (one_less c) inv.count rest_count inv.passes
+
 pub close_run-line-requires-clause-ready : goal.close_run-line-requires-clause-ready
 close_run-line-requires-clause-ready c =
-    let runs = c.args.self.runs in
-    let passes = c.args.passes.items in
     let inv = c.loop-run.invariant in
-    let count = inv.count in
-    let n = c.len.result in
-    let one_less : n + 1 ≡ vec_len c.loop-run.runs =
-    omega (arith, c.len.ensures, c.in-Some.ensures.cases) in
-    let rest_count : length c.pop.new.self.items ≡ n =
-    omega (arith, c.len.ensures, c.pop.new.self.ok.0) in
-    let last = next runs passes c.loop-run.passes.items c.loop-run.runs.items c.pop.new.self.items
-    c.in-Some.run'
-    (vec_len c.loop-run.runs) n (length c.loop-run.lines.items) inv.runs c.in-Some.ensures.items
-    one_less count
-    rest_count inv.passes in
+    let passes = c.args.passes.items in
+    let last = last c in
     let all_ready = c.self.invariant.3 in
     let runs_are = ap (λ (s : Sealed). s.runs) c.self.view_is in
     let callers = ap (λ (s : Sealed). s.callers) c.self.view_is in
-    let low = last.low in
     let same = ap (λ (ps : List (List Visit)). length ps) inv.passes
     ∙ length-map passes (take (vec_len c.loop-run.runs)) in
     let many : c.self.inside.callers ≡ vec_len c.loop-run.passes =
     omega (arith, callers, c.requires.all, c.loop-run.passes.ok.0, c.args.passes.ok.0, same) in
     let ready = subst (λ (rs : List Run). All (IsReady c.self.inside.callers) rs) runs_are
-    all_ready n no_run low in
+    all_ready c.len.result no_run last.low in
     subst (λ (k : ℕ). IsReady k c.in-Some.run') many
     (subst (IsReady c.self.inside.callers) (sym last.run_is) ready)
 
 pub close_run-line-requires-clause-each : goal.close_run-line-requires-clause-each
 close_run-line-requires-clause-each c =
-    let runs = c.args.self.runs in
-    let passes = c.args.passes.items in
-    let inv = c.loop-run.invariant in
-    let count = inv.count in
     let n = c.len.result in
-    let one_less : n + 1 ≡ vec_len c.loop-run.runs =
-    omega (arith, c.len.ensures, c.in-Some.ensures.cases) in
-    let rest_count : length c.pop.new.self.items ≡ n =
-    omega (arith, c.len.ensures, c.pop.new.self.ok.0) in
-    let last = next runs passes c.loop-run.passes.items c.loop-run.runs.items c.pop.new.self.items
-    c.in-Some.run'
-    (vec_len c.loop-run.runs) n (length c.loop-run.lines.items) inv.runs c.in-Some.ensures.items
-    one_less count
-    rest_count inv.passes in
-    let each = left_count runs passes c.requires.own n last.low in
-    subst (λ (ps : List (List Visit)). All (λ vs. length vs ≡ n + 1) ps) (sym last.passes_are) each
+    let each = left_count c.args.self.runs c.args.passes.items c.requires.own n (last c).low in
+    subst (λ (ps : List (List Visit)). All (λ vs. length vs ≡ n + 1) ps) (sym (last c).passes_are)
+    each
 
 pub close_run-line-requires-clause-own : goal.close_run-line-requires-clause-own
 close_run-line-requires-clause-own c =
     let runs = c.args.self.runs in
-    let passes = c.args.passes.items in
-    let inv = c.loop-run.invariant in
-    let count = inv.count in
     let n = c.len.result in
-    let one_less : n + 1 ≡ vec_len c.loop-run.runs =
-    omega (arith, c.len.ensures, c.in-Some.ensures.cases) in
-    let rest_count : length c.pop.new.self.items ≡ n =
-    omega (arith, c.len.ensures, c.pop.new.self.ok.0) in
-    let last = next runs passes c.loop-run.passes.items c.loop-run.runs.items c.pop.new.self.items
-    c.in-Some.run'
-    (vec_len c.loop-run.runs) n (length c.loop-run.lines.items) inv.runs c.in-Some.ensures.items
-    one_less count
-    rest_count inv.passes in
-    let own = left_own runs passes c.requires.own n last.low in
+    let last = last c in
+    let own = left_own runs c.args.passes.items c.requires.own n last.low in
     let now = subst (λ (ps : List (List Visit)). All
     (λ vs. IsVisit (run_at runs n) (visit_at vs n)) ps)
     (sym last.passes_are) own in
@@ -99,17 +81,9 @@ loop-run-preserved c =
     let runs = c.args.self.runs in
     let passes = c.args.passes.items in
     let inv = c.loop-run.invariant in
-    let count = inv.count in
     let n = c.len.result in
-    let one_less : n + 1 ≡ vec_len c.loop-run.runs =
-    omega (arith, c.len.ensures, c.in-Some.ensures.cases) in
-    let rest_count : length c.pop.new.self.items ≡ n =
-    omega (arith, c.len.ensures, c.pop.new.self.ok.0) in
-    let last = next runs passes c.loop-run.passes.items c.loop-run.runs.items c.pop.new.self.items
-    c.in-Some.run'
-    (vec_len c.loop-run.runs) n (length c.loop-run.lines.items) inv.runs c.in-Some.ensures.items
-    one_less count
-    rest_count inv.passes in
+    let one_less = one_less c.before.before.before in
+    let last = last c.before.before.before in
     let m : vec_len c.pop.new.self ≡ n = sym c.len.ensures in
     let line = c.close_run-line.ensures.line in
     let columns = ap (λ (ps : List (List Visit)). column ps n) last.passes_are
