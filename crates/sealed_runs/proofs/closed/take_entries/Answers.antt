@@ -12,8 +12,6 @@ loop-place-preserved c =
     let place = c.loop-place.place in
     let was = c.loop-place.taken in
     let inv = c.loop-place.invariant in
-    let len = inv.len in
-    let room = inv.room in
     let low : place < length es = omega (arith, c.loop-place-test.true, c.requires.reach) in
     elim c.if-not-stands_in.branch [
       | then-not-stands_in w ↦
@@ -23,8 +21,8 @@ loop-place-preserved c =
           (c.stands_in.ensures.no w.if-not-stands_in.true) inv.takes in
           record {
             takes = subst (Takes es refused (place + 1)) (sym items) more;
-            len = omega (arith, ap vec_len w.taken-is, w.push_reserved.ensures.len);
-            room = omega (arith, ap vec_capacity w.taken-is, w.push_reserved.ensures.capacity);
+            len = omega (arith, inv.len, ap vec_len w.taken-is, w.push_reserved.ensures.len);
+            room = omega (arith, inv.room, ap vec_capacity w.taken-is, w.push_reserved.ensures.capacity);
           }
       | else-not-stands_in w ↦
           let past = takes_past es refused place was.items
@@ -32,8 +30,8 @@ loop-place-preserved c =
           record {
             takes = subst (λ (v : Vec Entry Global). Takes es refused (place + 1) v.items)
                 (sym w.taken-is) past;
-            len = omega (arith, ap vec_len w.taken-is);
-            room = omega (arith, ap vec_capacity w.taken-is);
+            len = omega (arith, inv.len, ap vec_len w.taken-is);
+            room = omega (arith, inv.room, ap vec_capacity w.taken-is);
           }
     ]
 

@@ -44,18 +44,19 @@ left c =
     ap (λ (vs : List Visit). visit_at (set vs m w) m) c.pass.view_is
     ∙ new_visit c.args.self.now.runs c.args.pass.now m w c.requires.own c.requires.queue
 
+-- what is said of the visit that the pop left holds of the visit of the run after it
+of_left : (c : goal.After-pass-1) (Holds : Visit → Type 0) → Holds c.pop.new.visit
+    → Holds (visit_at (set c.pass.inside.visits.items c.args.m c.pop.new.visit) c.args.m)
+of_left c Holds = subst Holds (sym (left c))
+
 pub returns-clause-leaf : goal.returns-clause-leaf
-returns-clause-leaf c =
-    let run = run_at c.args.self.now.runs c.args.m in
-    let v = visit_at c.args.pass.now c.args.m in
-    subst (λ (w : Visit). IfLeaf c.pop.result (Gives run c.args.limit v w)) (sym (left c))
+returns-clause-leaf c = of_left c (λ w. IfLeaf c.pop.result (Gives
+    (run_at c.args.self.now.runs c.args.m) c.args.limit (visit_at c.args.pass.now c.args.m) w))
     (says c).leaf
 
 pub returns-clause-closed : goal.returns-clause-closed
-returns-clause-closed c =
-    let run = run_at c.args.self.now.runs c.args.m in
-    let v = visit_at c.args.pass.now c.args.m in
-    subst (λ (w : Visit). IfClosed c.pop.result (Shuts run c.args.limit v w)) (sym (left c))
+returns-clause-closed c = of_left c (λ w. IfClosed c.pop.result (Shuts
+    (run_at c.args.self.now.runs c.args.m) c.args.limit (visit_at c.args.pass.now c.args.m) w))
     (says c).closed
 
 pub returns-clause-own : goal.returns-clause-own
