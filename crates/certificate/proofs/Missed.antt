@@ -1,8 +1,8 @@
 -- Series that no block misses, group by group, and the two parts of a block's tests.
-use Rattle.std.proofs.Common.{◌≡◌, ℕ, zero, suc, ◌+◌, ◌<◌, ◌≤◌, List, [], ◌∷◌, Option, Some, None, false, refl, sym, ap, ◌∙◌, subst, ⊎_elim, arith}
+use Rattle.std.proofs.Common.{◌≡◌, ℕ, zero, suc, ◌+◌, ◌<◌, ◌≤◌, List, [], ◌∷◌, drop, Option, Some, None, false, refl, sym, ap, ◌∙◌, subst, ⊎_elim, arith}
 use Rattle.std.specs.Prelude.{ℤ, slice_get, slice_index_or}
 use Rattle.std.proofs.lemmas.Bool.{cases_lt}
-use Rattle.std.proofs.lemmas.Option.{same_Some}
+use Rattle.std.proofs.lemmas.Option.{get_or_from_slice_get, same_Some}
 use Rattle.isax_word.specs.declared.layout.Layout.{Layout}
 use Rattle.lower_bound.specs.Bound.{view_of}
 use Rattle.series_core.specs.Answer.{distance_or_none}
@@ -13,7 +13,8 @@ use Rattle.certificate.specs.declared.error.Reject.{Reject}
 use Rattle.certificate.specs.declared.error.Reject.TheVariants.{Missed}
 use Rattle.certificate.specs.Missing.{MissesNoneOf, block_misses, lines_refusal}
 use Rattle.certificate.specs.Refusals.{first_of, first_refusal, when}
-use Rattle.certificate.specs.Verdict.{answers_refusal, block_refusal, bounds_refusal, is_missed, last_answer, lows_refusal, missed_refusal, misses_refusal}
+use Rattle.certificate.specs.Verdict.{answers_refusal, block_refusal, bounds_refusal, is_missed, last_answer, lows_refusal, missed_refusal, misses_refusal, query_refusal}
+use Rattle.certificate.proofs.Stepping.{refused}
 
 -- of three refusals the first is the first of the first two and the third
 first_of_three : (a b c d : Option Reject) → first_of a (first_of b (first_of c d)) ≡ first_of (first_of a (first_of b c)) d
@@ -50,6 +51,16 @@ pub misses_refuse : (rows : Collection) (labels : Option (List ℕ)) (k : ℕ) (
 misses_refuse rows labels k layout b q block r lines misses =
     block_parts rows labels k layout b q block
     ∙ ap (λ o. first_of o (block_misses rows k b q block)) lines ∙ misses
+
+-- what is refused of the block that a walk has come to is what the walk refuses
+pub block_refused : (rows : Collection) (labels : Option (List ℕ)) (queries : Collection) (k : ℕ) (layout : Layout)
+    (whole : Option Reject) (b : ℕ) (blocks : List Block) (block : Block) (q : List ℤ) (r : Reject)
+    → whole ≡ first_refusal (query_refusal rows labels queries k layout) b (drop b blocks)
+    → slice_get blocks b ≡ Some block → slice_get queries.series b ≡ Some q
+    → block_refusal rows labels k layout b q block ≡ Some r → Some r ≡ whole
+block_refused rows labels queries k layout whole b blocks block q r before here query fails =
+    refused (query_refusal rows labels queries k layout) whole b blocks block r before here
+    (ap (λ q. block_refusal rows labels k layout b q block) (get_or_from_slice_get queries.series b q [] query) ∙ fails)
 
 -- where no series is missed none is refused
 none_refused : (b : ℕ) (q : List ℤ) (last : Option Pair) (ps : List Pair) (at : ℕ) (series : List (List ℤ))

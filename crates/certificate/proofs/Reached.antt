@@ -3,6 +3,7 @@ use Rattle.std.proofs.Common.{◌≡◌, ℕ, suc, ◌+◌, ◌^◌, ◌<◌, �
 use Rattle.std.specs.Prelude.{IfSome}
 use Rattle.std.specs.List.{AllByRecursion}
 use Rattle.std.proofs.lemmas.Bool.{ltb-true}
+use Rattle.series_core.specs.declared.pair.Pair.{Pair}
 use Rattle.series_core.specs.declared.queue_words.Entry.{Entry}
 use Rattle.certificate.specs.declared.block.Block.{Block}
 use Rattle.certificate.specs.declared.block.LeafLine.{LeafLine}
@@ -13,18 +14,24 @@ use Rattle.certificate.specs.Grammar.{IsPair, IsEntry, IsStart, IsLeafLine, IsBl
 use Rattle.certificate.specs.Reading.{Reading, empty_block, blocks_of, blocks_read, whole_at, is_whole}
 use Rattle.certificate.proofs.LineLists.{blocks_more}
 
--- an open block as far as it is read: as a block of the grammar, but it may have no queue yet, and then has no leaf
-pub record IsPart (s : ℕ) (l : Bool) (b : Block) : Type 0 where
-  pub few_answers : length b.answers ≤ 1024
-  pub answers : AllByRecursion IsPair b.answers
-  pub labels_size : length b.labels ≡ cond l (length b.answers) 0
-  pub labels : AllByRecursion (λ label. label < 2 ^ 64) b.labels
-  pub start : IfSome b.start IsStart
-  pub few_queues : length b.lines ≤ 64
-  pub queues : AllByRecursion (AllByRecursion IsEntry) b.lines
-  pub few_leaves : length b.leaves ≤ 2 ^ 32
-  pub leaves : AllByRecursion (IsLeafLine s) b.leaves
-  pub behind : length b.lines ≡ 0 → b.leaves ≡ []
+-- answers of an open block, with their labels
+pub record AreAnswers (l : Bool) (ps : List Pair) (lb : List ℕ) : Type 0 where
+  pub few : length ps ≤ 1024
+  pub answers : AllByRecursion IsPair ps
+  pub labels_size : length lb ≡ cond l (length ps) 0
+  pub labels : AllByRecursion (λ label. label < 2 ^ 64) lb
+
+-- its queues and leaves: it may have no queue yet, and then has no leaf
+pub record AreLists (s : ℕ) (ln : List (List Entry)) (lv : List LeafLine) : Type 0 where
+  pub few_queues : length ln ≤ 64
+  pub queues : AllByRecursion (AllByRecursion IsEntry) ln
+  pub few_leaves : length lv ≤ 2 ^ 32
+  pub leaves : AllByRecursion (IsLeafLine s) lv
+  pub behind : length ln ≡ 0 → lv ≡ []
+
+-- an open block as far as it is read: as a block of the grammar, but for its queues
+abbrev pub IsPart : ℕ → Bool → Block → Type 0
+IsPart s l b = AreAnswers l b.answers b.labels × IfSome b.start IsStart × AreLists s b.lines b.leaves
 
 -- an open block whose start is not read
 pub record IsHead (s : ℕ) (l : Bool) (b : Block) : Type 0 where
@@ -60,38 +67,38 @@ blocks_push s l (a ∷ d) b are is = (are.0, blocks_push s l d b are.1 is)
 
 -- a part that has a queue is a block
 pub part_block : (s : ℕ) (l : Bool) (b : Block) → IsPart s l b → 0 < length b.lines → IsBlock s l b
-part_block s l b part some = record {
-  few_answers = part.few_answers;
-  answers = part.answers;
-  labels_size = part.labels_size;
-  labels = part.labels;
-  start = part.start;
+part_block s l b (said, start, lists) some = record {
+  few_answers = said.few;
+  answers = said.answers;
+  labels_size = said.labels_size;
+  labels = said.labels;
+  start = start;
   some_queue = omega arith;
-  few_queues = part.few_queues;
-  queues = part.queues;
-  few_leaves = part.few_leaves;
-  leaves = part.leaves;
+  few_queues = lists.few_queues;
+  queues = lists.queues;
+  few_leaves = lists.few_leaves;
+  leaves = lists.leaves;
 }
 
 -- a part with one empty queue in place of none
 one_queue : Block → Block
 one_queue b = record b { lines = [] ∷ []; leaves = [] }
 
--- it is a block
-one_queue_block : (s : ℕ) (l : Bool) (b : Block) → IsPart s l b → IsBlock s l (one_queue b)
-unfolding one_queue
-one_queue_block s l b part = record {
-  few_answers = part.few_answers;
-  answers = part.answers;
-  labels_size = part.labels_size;
-  labels = part.labels;
-  start = part.start;
-  some_queue = omega arith;
+-- one empty queue and no leaf
+empty_queue : (s : ℕ) → AreLists s ([] ∷ []) []
+empty_queue s = record {
   few_queues = omega arith;
   queues = (tt, tt);
   few_leaves = omega arith;
   leaves = tt;
+  behind = λ _. refl;
 }
+
+-- it is a block
+one_queue_block : (s : ℕ) (l : Bool) (b : Block) → IsPart s l b → IsBlock s l (one_queue b)
+unfolding one_queue
+one_queue_block s l b part =
+    part_block s l (one_queue b) (part.0, part.1, empty_queue s) (omega arith)
 
 -- a file with the blocks so far and one more
 file_more : (d : List Block) (b : Block) → file_lines (d ++ b ∷ []) ≡ lines_from 0 d ++ block_lines (length d) b
@@ -111,7 +118,7 @@ lines_begin s l d b are part = by_queues b.lines refl
         let fewer : block_lines (length d) b ≡ front ++ (start_line b.start ∷ []) =
         ap (λ (ls : List (List Entry)). front ++ (start_line b.start ∷ (queue_lines 0 ls ++ leaf_lines 0 b.leaves))) none
         ∙ ap (λ (ls : List LeafLine). front ++ (start_line b.start ∷ (queue_lines 0 [] ++ leaf_lines 0 ls)))
-        (part.behind (ap length none)) in
+        (part.2.behind (ap length none)) in
         record {
           blocks = d ++ one_queue b ∷ [];
           more = queue_line 0 [] ∷ [];

@@ -53,10 +53,9 @@ entries_take (suc n) text rest es read =
     let space = after_takes (32 ∷ []) text next next_is in
     let one = entry_takes next first.1 first.0 first_is in
     let more = entries_take n first.1 others.1 others.0 others_are in
-    let made : List Entry × List ℕ = (first.0 ∷ others.0, others.1) in
     let e = first.0 in
     subst (λ (x : List Entry × List ℕ). (text ≡ entries_text x.0 ++ x.1) × AllByRecursion IsEntry x.0)
-    (same_Some made (es, rest) read3) (
+    (same_Some _ (es, rest) read3) (
       space ∙ ap (λ (t : List ℕ). 32 ∷ t)
           (one.0 ∙ ap (λ (t : List ℕ). decimal e.bound ++ (58 ∷ (decimal e.leaf ++ t))) more.0
           ∙ ap (λ (t : List ℕ). decimal e.bound ++ (58 ∷ t)) (sym (append_assoc (decimal e.leaf) (entries_text others.0) others.1))
@@ -92,9 +91,8 @@ parts_take (suc n) text rest ps read =
     let front = after_takes (44 ∷ []) text comma comma_is in
     let one = part_takes comma first.1 first.0 first_is in
     let more = parts_take n first.1 others.1 others.0 others_are in
-    let made : List Part × List ℕ = (first.0 ∷ others.0, others.1) in
     subst (λ (x : List Part × List ℕ). (text ≡ parts_text x.0 ++ x.1) × (length x.0 ≡ suc n))
-    (same_Some made (ps, rest) read3) (
+    (same_Some _ (ps, rest) read3) (
       front ∙ ap (λ (t : List ℕ). 44 ∷ t)
           (one ∙ ap (λ (t : List ℕ). part_text first.0 ++ t) more.0
           ∙ sym (append_assoc (part_text first.0) (parts_text others.0) others.1)),

@@ -49,18 +49,17 @@ all_join P (x ∷ xs) ys all more = (all.0, all_join P xs ys all.1 more)
 -- an empty block is the head of one
 empty_head : (s : ℕ) (l : Bool) → IsHead s l empty_block
 empty_head s l = record {
-  part = record {
-    few_answers = omega arith;
-    answers = tt;
-    labels_size = none l;
-    labels = tt;
-    start = tt;
-    few_queues = omega arith;
-    queues = tt;
-    few_leaves = omega arith;
-    leaves = tt;
-    behind = λ _. refl;
-  };
+  part = (
+    record { few = omega arith; answers = tt; labels_size = none l; labels = tt },
+    tt,
+    record {
+      few_queues = omega arith;
+      queues = tt;
+      few_leaves = omega arith;
+      leaves = tt;
+      behind = λ _. refl;
+    },
+  );
   no_start = refl;
   no_lines = refl;
   no_leaves = refl;
@@ -148,27 +147,25 @@ answer_more s l d b next line are head read =
       is = (
         are,
         record {
-          part = record {
-            few_answers = omega (arith, length-append b.answers (x.0 ∷ []));
-            answers = all_push IsPair b.answers x.0 part.answers text.1;
-            labels_size = length-append b.labels x.1
-                ∙ labels_size_more l (length b.answers) (length b.labels) (length x.1) part.labels_size text.3
-                ∙ ap (λ n. cond l n 0) (sym (length-append b.answers (x.0 ∷ [])));
-            labels = all_join (λ n. n < 2 ^ 64) b.labels x.1 part.labels text.2;
-            start = part.start;
-            few_queues = part.few_queues;
-            queues = part.queues;
-            few_leaves = part.few_leaves;
-            leaves = part.leaves;
-            behind = part.behind;
-          };
+          part = (
+            record {
+              few = omega (arith, length-append b.answers (x.0 ∷ []));
+              answers = all_push IsPair b.answers x.0 part.0.answers text.1;
+              labels_size = length-append b.labels x.1
+                  ∙ labels_size_more l (length b.answers) (length b.labels) (length x.1) part.0.labels_size text.3
+                  ∙ ap (λ n. cond l n 0) (sym (length-append b.answers (x.0 ∷ [])));
+              labels = all_join (λ n. n < 2 ^ 64) b.labels x.1 part.0.labels text.2;
+            },
+            part.1,
+            part.2,
+          );
           no_start = head.no_start;
           no_lines = head.no_lines;
           no_leaves = head.no_leaves;
         },
       );
       lines = ap (λ (ls : List (List ℕ)). front ++ (query_line (length d) ∷ ls))
-          (answers_lines_more l b.answers x.0 b.labels x.1 part.labels_size text.3
+          (answers_lines_more l b.answers x.0 b.labels x.1 part.0.labels_size text.3
           ∙ ap (λ (t : List ℕ). answer_lines 1 b.answers b.labels ++ t ∷ []) (sym text.0))
           ∙ sym (append_assoc front (query_line (length d) ∷ answer_lines 1 b.answers b.labels) (line ∷ []));
     })))
@@ -190,21 +187,7 @@ start_more s l d b next line are head read =
     ∙ ap (λ (ls : List LeafLine). queue_lines 0 [] ++ leaf_lines 0 ls) head.no_leaves in
     subst (λ (y : Reading). OneMore s l r y line) (same_Some (with_start r st) next read1)
     (record {
-      is = (
-        are,
-        record {
-          few_answers = part.few_answers;
-          answers = part.answers;
-          labels_size = part.labels_size;
-          labels = part.labels;
-          start = text.1;
-          few_queues = part.few_queues;
-          queues = part.queues;
-          few_leaves = part.few_leaves;
-          leaves = part.leaves;
-          behind = part.behind;
-        },
-      );
+      is = (are, (part.0, text.1, part.2));
       lines = ap (λ (ls : List (List ℕ)). front ++ (begun ++ (start_line st ∷ ls))) tail
           ∙ ap (λ (t : List ℕ). front ++ (begun ++ (t ∷ []))) (sym text.0)
           ∙ sym (append_assoc front begun (line ∷ []));
@@ -246,18 +229,17 @@ queue_more s l d b next line are part read =
     (record {
       is = (
         are,
-        record {
-          few_answers = part.few_answers;
-          answers = part.answers;
-          labels_size = part.labels_size;
-          labels = part.labels;
-          start = part.start;
-          few_queues = omega arith;
-          queues = all_push (AllByRecursion IsEntry) b.lines es part.queues text.1;
-          few_leaves = part.few_leaves;
-          leaves = part.leaves;
-          behind = λ _. no_leaf;
-        },
+        (
+          part.0,
+          part.1,
+          record {
+            few_queues = omega (arith, part.2.few_queues);
+            queues = all_push (AllByRecursion IsEntry) b.lines es part.2.queues text.1;
+            few_leaves = part.2.few_leaves;
+            leaves = part.2.leaves;
+            behind = λ _. no_leaf;
+          },
+        ),
       );
       lines = block_more (lines_from 0 d) (query_line (length d) ∷ answer_lines 1 b.answers b.labels) (start_line b.start)
           line _ _ grown;
@@ -288,18 +270,17 @@ leaf_more s l d b next line some few are part read =
     (record {
       is = (
         are,
-        record {
-          few_answers = part.few_answers;
-          answers = part.answers;
-          labels_size = part.labels_size;
-          labels = part.labels;
-          start = part.start;
-          few_queues = part.few_queues;
-          queues = part.queues;
-          few_leaves = omega arith;
-          leaves = all_push (IsLeafLine s) b.leaves f part.leaves text.1;
-          behind = λ none. absurd (omega arith);
-        },
+        (
+          part.0,
+          part.1,
+          record {
+            few_queues = part.2.few_queues;
+            queues = part.2.queues;
+            few_leaves = omega arith;
+            leaves = all_push (IsLeafLine s) b.leaves f part.2.leaves text.1;
+            behind = λ none. absurd (omega arith);
+          },
+        ),
       );
       lines = block_more (lines_from 0 d) (query_line (length d) ∷ answer_lines 1 b.answers b.labels) (start_line b.start)
           line _ _ grown;

@@ -5,8 +5,8 @@ use Rattle.std.proofs.lemmas.Result.{err_from_is_err_and}
 use Rattle.certificate.specs.Refusals.{refusal_of}
 use Rattle.certificate.specs.Missing.{block_misses}
 use Rattle.certificate.specs.Verdict.{block_refusal, query_refusal}
-use Rattle.certificate.proofs.Missed.{block_passes, lines_refuse, misses_refuse}
-use Rattle.certificate.proofs.Stepping.{read_here, refused, passed, walked}
+use Rattle.certificate.proofs.Missed.{block_passes, block_refused, lines_refuse, misses_refuse}
+use Rattle.certificate.proofs.Stepping.{read_here, passed, walked}
 use Rattle.certificate.proofs.Whole.{verdict_answers, verdict_blocks}
 use Rattle.certificate.proofs.checking.check.Goals as goal
 
@@ -42,29 +42,25 @@ loop-b-preserved g c =
 pub returns-in_err-check_lines-clause-verdict : goal.returns-in_err-check_lines-clause-verdict
 returns-in_err-check_lines-clause-verdict g c =
     let rows = g.R.Rows.collection c.args.rows.now in
-    let queries = g.Q.Rows.collection c.args.queries.now in
     let labels = option_copied c.args.labels in
     let e = err_from_is_err_and c.from_residual.result c.from_residual.ensures.1 in
     ap refusal_of e.1
-    ∙ refused (query_refusal rows labels queries c.args.k c.args.layout.now) _ c.loop-b.b c.args.blocks.now
-    c.index-blocks-b.result e.0 c.loop-b.invariant (read_here _ _ _ c.loop-b-test.true c.index-blocks-b.is)
-    (ap (λ q. block_refusal rows labels c.args.k c.args.layout.now c.loop-b.b q c.index-blocks-b.result)
-    (get_or_from_slice_get queries.series c.loop-b.b c.row-query.result.now [] c.row-query.ensures)
-    ∙ lines_refuse rows labels c.args.k c.args.layout.now c.loop-b.b c.row-query.result.now c.index-blocks-b.result e.0
+    ∙ block_refused rows labels (g.Q.Rows.collection c.args.queries.now) c.args.k c.args.layout.now _ c.loop-b.b
+    c.args.blocks.now c.index-blocks-b.result c.row-query.result.now e.0 c.loop-b.invariant
+    (read_here _ _ _ c.loop-b-test.true c.index-blocks-b.is) c.row-query.ensures
+    (lines_refuse rows labels c.args.k c.args.layout.now c.loop-b.b c.row-query.result.now c.index-blocks-b.result e.0
     (sym c.check_lines.ensures ∙ ap refusal_of c.in_err-check_lines.was ∙ ap Some (sym e.2)))
 
 pub returns-in_err-check_missed-clause-verdict : goal.returns-in_err-check_missed-clause-verdict
 returns-in_err-check_missed-clause-verdict g c =
     let rows = g.R.Rows.collection c.args.rows.now in
-    let queries = g.Q.Rows.collection c.args.queries.now in
     let labels = option_copied c.args.labels in
     let e = err_from_is_err_and c.from_residual-in_err-check_missed.result c.from_residual-in_err-check_missed.ensures.1 in
     ap refusal_of e.1
-    ∙ refused (query_refusal rows labels queries c.args.k c.args.layout.now) _ c.loop-b.b c.args.blocks.now
-    c.index-blocks-b.result e.0 c.loop-b.invariant (read_here _ _ _ c.loop-b-test.true c.index-blocks-b.is)
-    (ap (λ q. block_refusal rows labels c.args.k c.args.layout.now c.loop-b.b q c.index-blocks-b.result)
-    (get_or_from_slice_get queries.series c.loop-b.b c.row-query.result.now [] c.row-query.ensures)
-    ∙ misses_refuse rows labels c.args.k c.args.layout.now c.loop-b.b c.row-query.result.now c.index-blocks-b.result e.0
+    ∙ block_refused rows labels (g.Q.Rows.collection c.args.queries.now) c.args.k c.args.layout.now _ c.loop-b.b
+    c.args.blocks.now c.index-blocks-b.result c.row-query.result.now e.0 c.loop-b.invariant
+    (read_here _ _ _ c.loop-b-test.true c.index-blocks-b.is) c.row-query.ensures
+    (misses_refuse rows labels c.args.k c.args.layout.now c.loop-b.b c.row-query.result.now c.index-blocks-b.result e.0
     (sym c.check_lines.ensures ∙ ap refusal_of c.in_ok-check_lines.was)
     (sym c.check_missed.ensures ∙ ap refusal_of c.in_err-check_missed.was ∙ ap Some (sym e.2)))
 

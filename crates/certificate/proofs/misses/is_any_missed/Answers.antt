@@ -1,4 +1,4 @@
-use Rattle.std.proofs.Common.{◌≤◌, ◌*◌, [], length, arith}
+use Rattle.std.proofs.Common.{◌*◌, [], arith}
 use Rattle.std.specs.Prelude.{slice_index_or}
 use Rattle.std.proofs.lemmas.Option.{slice_get_within}
 use Rattle.certificate.specs.Verdict.{last_answer}

@@ -1,4 +1,4 @@
-use Rattle.std.proofs.Common.{◌<◌, [], refl, sym, ap, ◌∙◌, arith}
+use Rattle.std.proofs.Common.{[], sym, ap, ◌∙◌, arith}
 use Rattle.certificate.specs.Verdict.{last_answer}
 use Rattle.std.proofs.lemmas.Option.{get_or_from_slice_get, slice_get_within}
 use Rattle.certificate.proofs.Missed.{one_more_block}

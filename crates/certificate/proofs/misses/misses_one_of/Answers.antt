@@ -1,4 +1,4 @@
-use Rattle.std.proofs.Common.{◌≤◌, sym, ◌∙◌, arith}
+use Rattle.std.proofs.Common.{sym, ◌∙◌, arith}
 use Rattle.certificate.proofs.Missed.{none_yet, one_more}
 use Rattle.certificate.proofs.misses.misses_one_of.Goals as goal
 

@@ -1,4 +1,4 @@
-use Rattle.std.proofs.Common.{◌≡◌, ◌+◌, ◌-◌, ◌++◌, [], ◌∷◌, ℕ, suc, zero, List, length, length-append, sym, ap, ◌∙◌, arith}
+use Rattle.std.proofs.Common.{◌≡◌, ◌+◌, ◌-◌, ◌<◌, ◌++◌, [], ◌∷◌, ℕ, suc, zero, List, Option, length, length-append, sym, ap, ◌∙◌, arith}
 use Rattle.isax_word.specs.declared.word.Part.{Part}
 use Rattle.certificate.specs.Fields.{◌>>=◌, parts_at, all_parts_at, with_front}
 use Rattle.certificate.proofs.Seen.{none_seen}
@@ -9,6 +9,13 @@ use Rattle.certificate.proofs.words.parts.Goals as goal
 left : (front : List Part) (rest : List ℕ) (n m : ℕ) → n ≡ m
     → with_front front (parts_at n rest) ≡ with_front front (parts_at m rest)
 left front rest n m same = ap (λ k. with_front front (parts_at k rest)) same
+
+-- a turn reads one of the parts that are left
+one_left : (segments counter : ℕ) (front : List Part) (rest : List ℕ) (whole : Option (List Part × List ℕ))
+    → whole ≡ with_front front (parts_at (segments - counter) rest) → counter < segments
+    → whole ≡ with_front front (parts_at (suc (segments - (counter + 1))) rest)
+one_left segments counter front rest whole read some =
+    read ∙ left front rest (segments - counter) (suc (segments - (counter + 1))) (omega arith)
 
 pub loop-init : goal.loop-init
 unfolding all_parts_at
@@ -23,16 +30,14 @@ pub returns-in_err-next-clause-read : goal.returns-in_err-next-clause-read
 returns-in_err-next-clause-read c =
     let n : ℕ = c.args.segments - (c.loop.counter + 1) in
     none_seen (λ x. (x.0, x.1.now)) c.from_residual-in_err-next.result _ c.from_residual-in_err-next.ensures
-    (c.loop.invariant.rest
-    ∙ left c.loop.parts c.loop.rest.now (c.args.segments - c.loop.counter) (suc n) (omega (arith, c.loop-test.true))
+    (one_left c.args.segments c.loop.counter _ _ _ c.loop.invariant.rest c.loop-test.true
     ∙ parts_stop n c.loop.parts c.loop.rest.now c.in_err-next.ensures)
 
 pub returns-in_err-part-clause-read : goal.returns-in_err-part-clause-read
 returns-in_err-part-clause-read c =
     let n : ℕ = c.args.segments - (c.loop.counter + 1) in
     none_seen (λ x. (x.0, x.1.now)) c.from_residual-in_err-part.result _ c.from_residual-in_err-part.ensures
-    (c.loop.invariant.rest
-    ∙ left c.loop.parts c.loop.rest.now (c.args.segments - c.loop.counter) (suc n) (omega (arith, c.loop-test.true))
+    (one_left c.args.segments c.loop.counter _ _ _ c.loop.invariant.rest c.loop-test.true
     ∙ parts_bad n c.loop.parts c.loop.rest.now c.in_ok-next.next.now c.in_ok-next.ensures c.in_err-part.ensures)
 
 pub push-requires-in-loop : goal.push-requires-in-loop
@@ -42,8 +47,7 @@ pub loop-preserved : goal.loop-preserved
 loop-preserved c =
     let n : ℕ = c.args.segments - (c.loop.counter + 1) in
     record {
-      rest = c.loop.invariant.rest
-          ∙ left c.loop.parts c.loop.rest.now (c.args.segments - c.loop.counter) (suc n) (omega (arith, c.loop-test.true))
+      rest = one_left c.args.segments c.loop.counter _ _ _ c.loop.invariant.rest c.loop-test.true
           ∙ parts_more n c.loop.parts c.loop.rest.now c.in_ok-next.next.now c.in_ok-part.next.now c.in_ok-part.part
           c.in_ok-next.ensures c.in_ok-part.ensures
           ∙ ap (λ (ps : List Part). with_front ps (parts_at n c.in_ok-part.next.now)) (sym c.push-in-loop.ensures);

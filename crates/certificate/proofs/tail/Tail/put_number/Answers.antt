@@ -1,4 +1,4 @@
-use Rattle.std.proofs.Common.{◌≡◌, ◌-◌, length, drop, ap, ◌∙◌, arith, length-drop, length-append}
+use Rattle.std.proofs.Common.{length, drop, ap, ◌∙◌, arith, length-drop, length-append}
 use Rattle.std.specs.Prelude.{decimal}
 use Rattle.std.proofs.lemmas.Fmt.{length-decimal-le}
 use Rattle.certificate.proofs.tail.Tail.put_number.Goals as goal
