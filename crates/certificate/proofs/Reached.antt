@@ -84,6 +84,16 @@ part_block s l b (said, start, lists) some = record {
 one_queue : Block → Block
 one_queue b = record b { lines = [] ∷ []; leaves = [] }
 
+-- no queue and no leaf
+pub empty_lists : (s : ℕ) → AreLists s [] []
+empty_lists s = record {
+  few_queues = omega arith;
+  queues = tt;
+  few_leaves = omega arith;
+  leaves = tt;
+  behind = λ _. refl;
+}
+
 -- one empty queue and no leaf
 empty_queue : (s : ℕ) → AreLists s ([] ∷ []) []
 empty_queue s = record {

@@ -18,7 +18,7 @@ use Rattle.certificate.specs.Reading.{Reading, empty_block, count_of, whole_at, 
 use Rattle.certificate.proofs.Binding.{bind_then}
 use Rattle.certificate.proofs.LineTexts.{query_takes, answer_takes, start_takes, queue_takes, leaf_takes}
 use Rattle.certificate.proofs.LineLists.{answers_more, labelled_more, queues_more, leaves_more, blocks_more}
-use Rattle.certificate.proofs.Reached.{IsPart, IsHead, IsAt, IsReading, lines_at, lines_read, blocks_push, part_block}
+use Rattle.certificate.proofs.Reached.{AreLists, IsPart, empty_lists, IsHead, IsAt, IsReading, lines_at, lines_read, blocks_push, part_block}
 
 -- a reading that stands for the lines of another and one more
 pub record OneMore (s : ℕ) (l : Bool) (old new : Reading) (line : List ℕ) : Type 0 where
@@ -49,17 +49,7 @@ all_join P (x ∷ xs) ys all more = (all.0, all_join P xs ys all.1 more)
 -- an empty block is the head of one
 empty_head : (s : ℕ) (l : Bool) → IsHead s l empty_block
 empty_head s l = record {
-  part = (
-    record { few = omega arith; answers = tt; labels_size = none l; labels = tt },
-    tt,
-    record {
-      few_queues = omega arith;
-      queues = tt;
-      few_leaves = omega arith;
-      leaves = tt;
-      behind = λ _. refl;
-    },
-  );
+  part = (record { few = omega arith; answers = tt; labels_size = none l; labels = tt }, tt, empty_lists s);
   no_start = refl;
   no_lines = refl;
   no_leaves = refl;
@@ -201,6 +191,18 @@ block_more front begun st line tail more same =
     ∙ ap (λ (ls : List (List ℕ)). front ++ ls) (sym (append_assoc begun (st ∷ tail) (line ∷ [])))
     ∙ sym (append_assoc front (begun ++ (st ∷ tail)) (line ∷ []))
 
+-- an open block whose queues and leaves have one line more
+lists_more : (s : ℕ) (l : Bool) (d : List Block) (b : Block) (ln : List (List Entry)) (lv : List LeafLine) (line : List ℕ)
+    → AreBlocks s l d → IsPart s l b → AreLists s ln lv
+    → queue_lines 0 ln ++ leaf_lines 0 lv ≡ (queue_lines 0 b.lines ++ leaf_lines 0 b.leaves) ++ line ∷ []
+    → OneMore s l (record { done = d; stage = Lines; block = b })
+    (record { done = d; stage = Lines; block = record b { lines = ln; leaves = lv } }) line
+lists_more s l d b ln lv line are part lists grown = record {
+  is = (are, (part.0, part.1, lists));
+  lines = block_more (lines_from 0 d) (query_line (length d) ∷ answer_lines 1 b.answers b.labels) (start_line b.start)
+      line _ _ grown;
+}
+
 -- a queue
 queue_more : (s : ℕ) (l : Bool) (d : List Block) (b : Block) (next : Reading) (line : List ℕ)
     → AreBlocks s l d → IsPart s l b → queue_step (record { done = d; stage = Lines; block = b }) line ≡ Some next
@@ -226,24 +228,13 @@ queue_more s l d b next line are part read =
     ∙ ap (λ (ls : List (List ℕ)). ls ++ line ∷ []) (sym (append-nil (queue_lines 0 b.lines)))
     ∙ ap (λ (ls : List LeafLine). (queue_lines 0 b.lines ++ leaf_lines 0 ls) ++ line ∷ []) (sym no_leaf) in
     subst (λ (y : Reading). OneMore s l r y line) (same_Some (with_queue r es) next read2)
-    (record {
-      is = (
-        are,
-        (
-          part.0,
-          part.1,
-          record {
-            few_queues = omega (arith, part.2.few_queues);
-            queues = all_push (AllByRecursion IsEntry) b.lines es part.2.queues text.1;
-            few_leaves = part.2.few_leaves;
-            leaves = part.2.leaves;
-            behind = λ _. no_leaf;
-          },
-        ),
-      );
-      lines = block_more (lines_from 0 d) (query_line (length d) ∷ answer_lines 1 b.answers b.labels) (start_line b.start)
-          line _ _ grown;
-    })))
+    (lists_more s l d b (b.lines ++ es ∷ []) b.leaves line are part (record {
+      few_queues = omega (arith, part.2.few_queues);
+      queues = all_push (AllByRecursion IsEntry) b.lines es part.2.queues text.1;
+      few_leaves = part.2.few_leaves;
+      leaves = part.2.leaves;
+      behind = λ _. no_leaf;
+    }) grown)))
 
 -- a leaf
 leaf_more : (s : ℕ) (l : Bool) (d : List Block) (b : Block) (next : Reading) (line : List ℕ) → 1 ≤ s → s ≤ 16
@@ -267,24 +258,13 @@ leaf_more s l d b next line some few are part read =
     ∙ ap (λ (t : List ℕ). leaf_lines 0 b.leaves ++ t ∷ []) (sym text.0))
     ∙ sym (append_assoc (queue_lines 0 b.lines) (leaf_lines 0 b.leaves) (line ∷ [])) in
     subst (λ (y : Reading). OneMore s l r y line) (same_Some (with_leaf r f) next read2)
-    (record {
-      is = (
-        are,
-        (
-          part.0,
-          part.1,
-          record {
-            few_queues = part.2.few_queues;
-            queues = part.2.queues;
-            few_leaves = omega arith;
-            leaves = all_push (IsLeafLine s) b.leaves f part.2.leaves text.1;
-            behind = λ none. absurd (omega arith);
-          },
-        ),
-      );
-      lines = block_more (lines_from 0 d) (query_line (length d) ∷ answer_lines 1 b.answers b.labels) (start_line b.start)
-          line _ _ grown;
-    })))
+    (lists_more s l d b b.lines (b.leaves ++ f ∷ []) line are part (record {
+      few_queues = part.2.few_queues;
+      queues = part.2.queues;
+      few_leaves = omega arith;
+      leaves = all_push (IsLeafLine s) b.leaves f part.2.leaves text.1;
+      behind = λ none. absurd (omega arith);
+    }) grown)))
 
 -- one more line
 pub step_more : (s : ℕ) (l : Bool) (r next : Reading) (line : List ℕ) → 1 ≤ s → s ≤ 16 → IsReading s l r
