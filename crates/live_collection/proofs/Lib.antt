@@ -3,6 +3,7 @@ pub mod Takings
 pub mod Holding
 pub mod Counting
 pub mod LastCalls
+mod Called
 pub mod Fitting
 pub mod PartsSoFar
 pub mod Dealing
