@@ -15,27 +15,30 @@ use denote.Param.SendFields.{declared_send, declared_sync}
 use Rattle.std.proofs.Crossing.{crosses}
 use Rattle.subtree_build.proofs.node.Node.TheLaws.TheKnot as knot
 use Rattle.live_collection.specs.contracts.object.LiveObject.{the_row}
+use Rattle.live_collection.specs.contracts.part.Part.{the_row as part_row}
 use Rattle.live_collection.specs.contracts.calls.Reply.{the_row as reply_row}
 use Rattle.live_collection.specs.contracts.calls.Call.{the_row as call_row}
 use Rattle.live_collection.specs.contracts.live.LiveCollection.{the_row as collection_row, the_type as collection_type}
 use Rattle.live_collection.specs.contracts.live.Writer.{the_row as writer_row, the_type as writer_type}
 use Rattle.live_collection.specs.contracts.live.Reader.{the_row as reader_row, the_type as reader_type}
 
--- the object under the lock moves with its turn
-pub object_sends : IsSend the_row
-object_sends = search (
+-- a hold on a batch moves to another thread
+part_sends : IsSend part_row
+part_sends = search (
   cuts.the_send,
   cuts.the_sync,
   flat.the_send,
   flat.the_sync,
-  global.the_send,
   vec.the_send,
   arc.the_send,
-  list.the_send,
   crosses,
   knot.crosses,
   sendable,
 ) depth 60 fits 20000
+
+-- the object under the lock moves with its turn
+pub object_sends : IsSend the_row
+object_sends = search (part_sends, global.the_send, vec.the_send, list.the_send, crosses, sendable) depth 60 fits 20000
 
 -- what the lock guards
 pub held_sends : IsSend (held.the_row the_row call_row reply_row)
@@ -45,22 +48,7 @@ held_sends = search (object_sends, option.the_field_send, crosses, sendable) dep
 pub reader_sends : IsSend reader_row
 reader_sends = declared_send reader_type (
   search (held_sends, pass.the_send, crosses, sendable) depth 60 fits 20000,
-  (
-    search (
-      cuts.the_send,
-      cuts.the_sync,
-      flat.the_send,
-      flat.the_sync,
-      global.the_send,
-      vec.the_send,
-      arc.the_send,
-      list.the_send,
-      crosses,
-      knot.crosses,
-      sendable,
-    ) depth 60 fits 20000,
-    tt,
-  ),
+  (search (part_sends, global.the_send, list.the_send, crosses, sendable) depth 60 fits 20000, tt),
 )
 
 -- so does the writer
