@@ -74,6 +74,14 @@ pub record Fits (rows : List Row) (command : Command) : Type 0 where
   pub words : HasWords rows command
   pub options : HasOptions rows (options_of command)
 
+-- the matches have all that this command holds, and it has this name
+abbrev pub FitsAs : CommandName → List Row → Command → Type 0
+FitsAs name rows command = (name_of command ≡ name) × Fits rows command
+
+-- the matches have all that a command of this name holds, for no such command
+abbrev pub FitsNone : CommandName → List Row → Type 0
+FitsNone name rows = (command : Command) → name_of command ≡ name → Fits rows command → ⊥
+
 -- the words have these settings: the first names the command, `clap` takes those after it by the
 -- command's own rules, and its matches have what the command holds
 pub record HasSettings (words : List Text) (command : Command) : Type 0 where

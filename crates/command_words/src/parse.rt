@@ -1,10 +1,10 @@
 //! The settings of words, read command by command, and of a whole command line.
-ghost use Rattle.std.specs.Prelude.{◌≡◌, ℕ, List, IfOk, Some, map, option_and_then, slice_get, string_bytes};
+ghost use Rattle.std.specs.Prelude.{◌≡◌, ℕ, List, IfOk, Some, map, option_and_then, slice_get, string_bytes, codes};
 ghost use Rattle.command_words.specs.Absence.{HoldsAbsence, IndexStandsAlone};
 ghost use Rattle.command_words.specs.CommandName.{named_by};
 ghost use Rattle.command_words.specs.Limits.{KeepsLimits};
-ghost use Rattle.command_words.specs.Options.{rows};
-ghost use Rattle.command_words.specs.Settings.{Fits, HasSettings, has_stray_option, name_of, options_of};
+ghost use Rattle.command_words.specs.Options.{HasOptions, rows};
+ghost use Rattle.command_words.specs.Settings.{FitsAs, FitsNone, HasSettings, HasText, has_stray_option, name_of, options_of};
 ghost use Rattle.command_words.specs.declared.command.Command.{Command};
 
 use crate::command::Command;
@@ -12,7 +12,8 @@ use crate::error::WordsError;
 use crate::given::{given, is_flag_set, long_number_at, number_at, text_at};
 use crate::matching::matches_of;
 use crate::name::CommandName;
-use crate::options::options_of;
+use crate::options::{Options, options_of};
+use crate::text::Text;
 use clap::ArgMatches;
 use std::alloc::Global;
 
@@ -27,11 +28,21 @@ fn has_stray_option(matches: &ArgMatches<'_>) -> bool
             || is_flag_set(matches, "certificate"))
 }
 
+/// The file that stands alone before the options of a command, and the options.
+fn data_and_options(alloc: Global, matches: &ArgMatches<'_>) -> Result<(Text, Options), WordsError>
+    ensures ok { IfOk result (λ r. HasText (codes "DATA") (rows matches.now) r.0 × HasOptions (rows matches.now) r.1) }
+    ensures usage { result ≡ Err WordsError.Usage → (t : List ℕ) (o : Options)
+        → HasText (codes "DATA") (rows matches.now) t → HasOptions (rows matches.now) o → ⊥ }
+{
+    let data = text_at(alloc, matches, "DATA")?;
+    let options = options_of(alloc, matches)?;
+    Ok((data, options))
+}
+
 /// What the matches of `nearest DATA QUERIES` ask for.
 fn nearest(alloc: Global, matches: &ArgMatches<'_>) -> Result<Command, WordsError>
-    ensures ok { IfOk result (λ c. (name_of c ≡ CommandName.Nearest) × Fits (rows matches.now) c) }
-    ensures usage { result ≡ Err WordsError.Usage → (c : Command) → name_of c ≡ CommandName.Nearest
-        → Fits (rows matches.now) c → ⊥ }
+    ensures ok { IfOk result (FitsAs CommandName.Nearest (rows matches.now)) }
+    ensures usage { result ≡ Err WordsError.Usage → FitsNone CommandName.Nearest (rows matches.now) }
 {
     let series = text_at(alloc, matches, "DATA")?;
     let queries = text_at(alloc, matches, "QUERIES")?;
@@ -48,9 +59,8 @@ fn nearest(alloc: Global, matches: &ArgMatches<'_>) -> Result<Command, WordsErro
 
 /// What the matches of `range DATA QUERIES RADIUS` ask for.
 fn range(alloc: Global, matches: &ArgMatches<'_>) -> Result<Command, WordsError>
-    ensures ok { IfOk result (λ c. (name_of c ≡ CommandName.Range) × Fits (rows matches.now) c) }
-    ensures usage { result ≡ Err WordsError.Usage → (c : Command) → name_of c ≡ CommandName.Range
-        → Fits (rows matches.now) c → ⊥ }
+    ensures ok { IfOk result (FitsAs CommandName.Range (rows matches.now)) }
+    ensures usage { result ≡ Err WordsError.Usage → FitsNone CommandName.Range (rows matches.now) }
 {
     let series = text_at(alloc, matches, "DATA")?;
     let queries = text_at(alloc, matches, "QUERIES")?;
@@ -66,9 +76,8 @@ fn range(alloc: Global, matches: &ArgMatches<'_>) -> Result<Command, WordsError>
 
 /// What the matches of `verify DATA QUERIES CERTIFICATE` ask for.
 fn verify(alloc: Global, matches: &ArgMatches<'_>) -> Result<Command, WordsError>
-    ensures ok { IfOk result (λ c. (name_of c ≡ CommandName.Verify) × Fits (rows matches.now) c) }
-    ensures usage { result ≡ Err WordsError.Usage → (c : Command) → name_of c ≡ CommandName.Verify
-        → Fits (rows matches.now) c → ⊥ }
+    ensures ok { IfOk result (FitsAs CommandName.Verify (rows matches.now)) }
+    ensures usage { result ≡ Err WordsError.Usage → FitsNone CommandName.Verify (rows matches.now) }
 {
     let series = text_at(alloc, matches, "DATA")?;
     let queries = text_at(alloc, matches, "QUERIES")?;
@@ -84,9 +93,8 @@ fn verify(alloc: Global, matches: &ArgMatches<'_>) -> Result<Command, WordsError
 
 /// What the matches of `trial SEED COUNT LENGTH QUERIES` ask for.
 fn trial(alloc: Global, matches: &ArgMatches<'_>) -> Result<Command, WordsError>
-    ensures ok { IfOk result (λ c. (name_of c ≡ CommandName.Trial) × Fits (rows matches.now) c) }
-    ensures usage { result ≡ Err WordsError.Usage → (c : Command) → name_of c ≡ CommandName.Trial
-        → Fits (rows matches.now) c → ⊥ }
+    ensures ok { IfOk result (FitsAs CommandName.Trial (rows matches.now)) }
+    ensures usage { result ≡ Err WordsError.Usage → FitsNone CommandName.Trial (rows matches.now) }
 {
     let seed = long_number_at(matches, "SEED", 0, u64::MAX).ok_or(WordsError::Usage)?;
     let count = number_at(matches, "COUNT", 0, 16777216).ok_or(WordsError::Usage)?;
@@ -105,33 +113,10 @@ fn trial(alloc: Global, matches: &ArgMatches<'_>) -> Result<Command, WordsError>
     })
 }
 
-/// What the matches of `convert DATA` ask for.
-fn convert(alloc: Global, matches: &ArgMatches<'_>) -> Result<Command, WordsError>
-    ensures ok { IfOk result (λ c. (name_of c ≡ CommandName.Convert) × Fits (rows matches.now) c) }
-    ensures usage { result ≡ Err WordsError.Usage → (c : Command) → name_of c ≡ CommandName.Convert
-        → Fits (rows matches.now) c → ⊥ }
-{
-    let series = text_at(alloc, matches, "DATA")?;
-    let options = options_of(alloc, matches)?;
-    Ok(Command::Convert { series, options })
-}
-
-/// What the matches of `save DATA` ask for.
-fn save(alloc: Global, matches: &ArgMatches<'_>) -> Result<Command, WordsError>
-    ensures ok { IfOk result (λ c. (name_of c ≡ CommandName.Save) × Fits (rows matches.now) c) }
-    ensures usage { result ≡ Err WordsError.Usage → (c : Command) → name_of c ≡ CommandName.Save
-        → Fits (rows matches.now) c → ⊥ }
-{
-    let series = text_at(alloc, matches, "DATA")?;
-    let options = options_of(alloc, matches)?;
-    Ok(Command::Save { series, options })
-}
-
 /// What the matches of `windows SERIES QUERIES STEP` ask for.
 fn windows(alloc: Global, matches: &ArgMatches<'_>) -> Result<Command, WordsError>
-    ensures ok { IfOk result (λ c. (name_of c ≡ CommandName.Windows) × Fits (rows matches.now) c) }
-    ensures usage { result ≡ Err WordsError.Usage → (c : Command) → name_of c ≡ CommandName.Windows
-        → Fits (rows matches.now) c → ⊥ }
+    ensures ok { IfOk result (FitsAs CommandName.Windows (rows matches.now)) }
+    ensures usage { result ≡ Err WordsError.Usage → FitsNone CommandName.Windows (rows matches.now) }
 {
     let series = text_at(alloc, matches, "SERIES")?;
     let queries = text_at(alloc, matches, "QUERIES")?;
@@ -148,36 +133,33 @@ fn windows(alloc: Global, matches: &ArgMatches<'_>) -> Result<Command, WordsErro
     })
 }
 
-/// What the matches of `discord DATA` ask for.
-fn discord(alloc: Global, matches: &ArgMatches<'_>) -> Result<Command, WordsError>
-    ensures ok { IfOk result (λ c. (name_of c ≡ CommandName.Discord) × Fits (rows matches.now) c) }
-    ensures usage { result ≡ Err WordsError.Usage → (c : Command) → name_of c ≡ CommandName.Discord
-        → Fits (rows matches.now) c → ⊥ }
-{
-    let series = text_at(alloc, matches, "DATA")?;
-    let options = options_of(alloc, matches)?;
-    Ok(Command::Discord { series, options })
-}
-
 /// The command of this name that the matches say.
 fn command_given(
     alloc: Global,
     name: CommandName,
     matches: &ArgMatches<'_>,
 ) -> Result<Command, WordsError>
-    ensures ok { IfOk result (λ c. (name_of c ≡ name) × Fits (rows matches.now) c) }
-    ensures usage { result ≡ Err WordsError.Usage → (c : Command) → name_of c ≡ name
-        → Fits (rows matches.now) c → ⊥ }
+    ensures ok { IfOk result (FitsAs name (rows matches.now)) }
+    ensures usage { result ≡ Err WordsError.Usage → FitsNone name (rows matches.now) }
 {
     match name {
         CommandName::Nearest => nearest(alloc, matches),
         CommandName::Range => range(alloc, matches),
         CommandName::Verify => verify(alloc, matches),
         CommandName::Trial => trial(alloc, matches),
-        CommandName::Convert => convert(alloc, matches),
-        CommandName::Save => save(alloc, matches),
+        CommandName::Convert => {
+            let (series, options) = data_and_options(alloc, matches)?;
+            Ok(Command::Convert { series, options })
+        }
+        CommandName::Save => {
+            let (series, options) = data_and_options(alloc, matches)?;
+            Ok(Command::Save { series, options })
+        }
         CommandName::Windows => windows(alloc, matches),
-        CommandName::Discord => discord(alloc, matches),
+        CommandName::Discord => {
+            let (series, options) = data_and_options(alloc, matches)?;
+            Ok(Command::Discord { series, options })
+        }
     }
 }
 
