@@ -1,30 +1,25 @@
 -- How the calls at a queue and a record that agree grow together, call by call.
-use Rattle.std.proofs.Common.{◌≡◌, ℕ, ◌<◌, ◌≤◌, ◌++◌, List, [], ◌∷◌, None, Some, true, false, length, set, eqb, cond, sym, refl, ap, ◌∙◌, subst, inl, inr, ⊎_elim, append_assoc, arith}
-use Rattle.std.specs.Prelude.{slice_get, not, ◌&&◌}
-use Rattle.std.proofs.lemmas.Bool.{cases_eq, eq-eqb, ne_eqb, true≢false}
-use Rattle.std.proofs.lemmas.Option.{none-some}
-use Rattle.std.proofs.Math.Nat.{mod-lt}
-use Rattle.list_totals.specs.Totals.{one_if_same, times, total}
+use Rattle.std.proofs.Common.{◌≡◌, ℕ, ◌++◌, [], ◌∷◌, true, false, cond, sym, refl, ap, ◌∙◌, subst, inl, inr, ⊎_elim, arith}
+use Rattle.std.specs.Prelude.{not, ◌&&◌}
+use Rattle.std.proofs.lemmas.Bool.{eq-eqb, ne_eqb}
+use Rattle.list_totals.specs.Totals.{one_if_same, total}
 use Rattle.list_totals.specs.Standing.{In}
-use Rattle.list_totals.proofs.Standing.{in_append, in_behind, in_front}
-use Rattle.list_totals.proofs.Totals.{times_push, total_push}
-use Rattle.claim_word.specs.Passes.{drew}
+use Rattle.list_totals.proofs.Standing.{in_behind, in_front}
+use Rattle.list_totals.proofs.Totals.{total_push}
 use Rattle.series_core.specs.declared.queue_words.Entry.{Entry}
 use Rattle.series_core.specs.declared.queue_words.PutReply.{PutReply}
 use Rattle.series_core.specs.declared.queue_words.PutReply.TheVariants.{Placed, Shut, Filled}
 use Rattle.series_core.specs.declared.queue_words.PopReply.{PopReply}
-use Rattle.series_core.specs.declared.queue_words.PopReply.TheVariants.{Leaf, Closed}
 use Rattle.turn_lock.specs.declared.object.Entry.{Entry as Made}
-use Rattle.turn_lock.specs.History.{entry}
 use Rattle.leaf_queues.specs.declared.calls.Call.{Call as QueueCall}
 use Rattle.leaf_queues.specs.declared.calls.Call.TheVariants.{Put as ToPut, Pop as ToPop}
 use Rattle.leaf_queues.specs.declared.calls.Reply.{Reply as QueueReply}
 use Rattle.leaf_queues.specs.declared.calls.Reply.TheVariants.{Put as PutAnswer, Pop as PopAnswer}
-use Rattle.search_machine.specs.Closes.{leaf_of, placed_of, popped_of, put_in}
+use Rattle.search_machine.specs.Closes.{leaf_of, placed_of, popped_of}
 use Rattle.search_machine.specs.OwnRecord.{PutMade, PopMade, RecordedWorker, is_refused}
 use Rattle.queue_histories.specs.Histories.{History, gives_leaf, placed_at, places_leaf, taken_at}
 use Rattle.queue_histories.specs.Closings.{Agrees}
-use Rattle.queue_histories.specs.Rooms.{puts_at}
+use Rattle.live_query.proofs.Places.{in_pushed}
 
 -- a put counts at its queue as the call does, and not at another
 placed_here : (m l : ℕ) (e : Entry) (reply : PutReply)
@@ -98,25 +93,17 @@ module _ (m : ℕ) (x y : RecordedWorker) (calls : History) (a : Agrees m x call
           let more = total_push (taken_at l) calls z in
           let c : taken_at l z ≡ 0 = ap (gives_leaf l) is_reply in
           omega arith;
-      puts = λ w d i is. ⊎_elim
+      puts = λ w d i is. in_pushed w z calls i
           (λ (old : In w calls). let p = a.puts w d old is in (p.0, subst (In p.0) (sym puts) (inr p.1), p.2, p.3))
-          (λ (last : In w (z ∷ [])). ⊎_elim
           (λ (same : w ≡ z).
           let told : ToPut e ≡ ToPut d = sym is_call ∙ ap (λ (t : Made QueueCall QueueReply). t.call) (sym same) ∙ is in
           let entry_is : e ≡ d = cc in
-          (put, subst (In put) (sym puts) (inl refl), here, entry_is))
-          (λ (none : ⊥). absurd none)
-          last)
-          (in_append w calls (z ∷ []) i);
-      pops = λ w v i is. ⊎_elim
+          (put, subst (In put) (sym puts) (inl refl), here, entry_is));
+      pops = λ w v i is. in_pushed w z calls i
           (λ (old : In w calls). let p = a.pops w v old is in (p.0, subst (In p.0) (sym pops) p.1, p.2))
-          (λ (last : In w (z ∷ [])). ⊎_elim
           (λ (same : w ≡ z).
           let told : ToPut e ≡ ToPop v = sym is_call ∙ ap (λ (t : Made QueueCall QueueReply). t.call) (sym same) ∙ is in
-          absurd (cc))
-          (λ (none : ⊥). absurd none)
-          last)
-          (in_append w calls (z ∷ []) i);
+          absurd (cc));
       answered = λ p i at. ⊎_elim
           (λ (new : p ≡ put). (
             z,
@@ -171,25 +158,17 @@ module _ (m : ℕ) (x y : RecordedWorker) (calls : History) (a : Agrees m x call
           let q = ap (λ k. popped_of m l (record { queue = k; limit = v; reply = reply })) here in
           let c : taken_at l z ≡ leaf_of l reply = ap (gives_leaf l) is_reply in
           omega arith;
-      puts = λ w d i is. ⊎_elim
+      puts = λ w d i is. in_pushed w z calls i
           (λ (old : In w calls). let p = a.puts w d old is in (p.0, subst (In p.0) (sym puts) p.1, p.2, p.3))
-          (λ (last : In w (z ∷ [])). ⊎_elim
           (λ (same : w ≡ z).
           let told : ToPop v ≡ ToPut d = sym is_call ∙ ap (λ (t : Made QueueCall QueueReply). t.call) (sym same) ∙ is in
-          absurd (cc))
-          (λ (none : ⊥). absurd none)
-          last)
-          (in_append w calls (z ∷ []) i);
-      pops = λ w u i is. ⊎_elim
+          absurd (cc));
+      pops = λ w u i is. in_pushed w z calls i
           (λ (old : In w calls). let p = a.pops w u old is in (p.0, subst (In p.0) (sym pops) (inr p.1), p.2))
-          (λ (last : In w (z ∷ [])). ⊎_elim
           (λ (same : w ≡ z).
           let told : ToPop v ≡ ToPop u = sym is_call ∙ ap (λ (t : Made QueueCall QueueReply). t.call) (sym same) ∙ is in
           let limit_is : v ≡ u = cc in
-          (pop, subst (In pop) (sym pops) (inl refl), limit_is))
-          (λ (none : ⊥). absurd none)
-          last)
-          (in_append w calls (z ∷ []) i);
+          (pop, subst (In pop) (sym pops) (inl refl), limit_is));
       answered = λ p i at.
           let r = a.answered p (subst (In p) puts i) at in (r.0, in_front r.0 calls (z ∷ []) r.1, r.2, r.3);
       closed = λ p u i at is. ⊎_elim

@@ -1,6 +1,6 @@
 -- What the searchers are before the drain part (`all_draining`), and what each was before it (`went`).
 use Rattle.std.proofs.Common.{◌≡◌, ◌≢◌, ℕ, zero, suc, ◌<◌, ◌≤◌, List, [], ◌∷◌, None, Some, Option, All, true, false, length, map, refl, sym, ap, ◌∙◌, subst, arith}
-use Rattle.std.specs.Prelude.{is_some, slice_get, slice_index_or}
+use Rattle.std.specs.Prelude.{is_some, slice_get}
 use Rattle.std.proofs.lemmas.Bool.{true≢false}
 use Rattle.std.proofs.lemmas.List.{length-map}
 use Rattle.std.proofs.lemmas.Option.{none-some, slice_get_within}
@@ -25,7 +25,7 @@ use Rattle.query_core.specs.Turning.{search_of}
 use Rattle.query_core.proofs.OfIndex.{search_fits}
 use Rattle.live_query.specs.DrainHands.{DrainTied, given_of}
 use Rattle.live_query.specs.Knowing.{DrainServes, DrainsBy, DrainsOn}
-use Rattle.live_query.specs.Parts.{AllFilled, Draining, HasFilled, Resting, draining}
+use Rattle.live_query.specs.Parts.{AllDrainOn, AllFilled, Draining, HasFilled, Resting, draining}
 use Rattle.live_query.specs.Resting.{Kept}
 use Rattle.live_query.proofs.Openers.{search_at}
 use Rattle.live_query.proofs.Places.{all_from, all_map, by_place}
@@ -43,19 +43,33 @@ pub none_closed : (o : Option ℕ) → is_some o ≡ true → o ≡ None → ⊥
 none_closed None s e = true≢false (sym s)
 none_closed (Some v) s e = none-some v (sym e)
 
-module _ (a : Question) (ix : IndexParts) (m : ℕ) (best : Best) (searches : CanBeSearched a ix) (some : 0 < m)
-    (team : List Resting) (filled : AllFilled a ix m best team) (runs : List Run) (roots : ℕ)
-    (count : length runs ≡ m) (all_roots : roots ≡ length ix.roots) where
+-- the outset of the drain part: searchers that have filled, and a run for each queue
+pub record Outset (a : Question) (ix : IndexParts) (m : ℕ) (best : Best) (team : List Resting) (runs : List Run) (roots : ℕ)
+    : Type 0 where
+  pub searches : CanBeSearched a ix
+  pub some : 0 < m
+  pub filled : AllFilled a ix m best team
+  pub count : length runs ≡ m
+  pub all_roots : roots ≡ length ix.roots
+
+-- the searchers with their hands of the drain part, before some turns and after them
+pub record Turned (team : List Resting) (runs : List Run) (roots : ℕ) (before cells : List Draining) : Type 0 where
+  pub is : before ≡ map (draining runs roots) team
+  pub len : length cells ≡ length before
+  pub on : AllDrainOn before cells
+
+module _ {a : Question} {ix : IndexParts} {m : ℕ} {best : Best} {team : List Resting} {runs : List Run} {roots : ℕ}
+    (outset : Outset a ix m best team runs roots) where
   abbrev one : Ground
   one = search_over a ix 1 m
 
   -- the record of a searcher that has filled
   has_at : (i : ℕ) (c : Resting) → slice_get team i ≡ Some c
-      → (x : RecordedWorker) × (slice_get filled.records i ≡ Some x) × HasFilled a ix m best i c x
+      → (x : RecordedWorker) × (slice_get outset.filled.records i ≡ Some x) × HasFilled a ix m best i c x
   has_at i c at =
-      let low : i < length filled.records = let b = slice_get_within team i c at in let e = filled.count in omega arith in
-      let x = get_some filled.records i low in
-      (x.0, x.1, filled.each i c x.0 at x.1)
+      let low : i < length outset.filled.records = let b = slice_get_within team i c at in let e = outset.filled.count in omega arith in
+      let x = get_some outset.filled.records i low in
+      (x.0, x.1, outset.filled.each i c x.0 at x.1)
 
   -- before the drain part its record has no pops, and no run has answered it
   fresh_tied : (c : Resting) (x : RecordedWorker) (i : ℕ) → HasFilled a ix m best i c x
@@ -87,10 +101,10 @@ module _ (a : Question) (ix : IndexParts) (m : ℕ) (best : Best) (searches : Ca
     shown = x.worker;
     shows = has.shows;
     fits = subst (λ (h : Ground). Fits h) (sym (search_at a ix m i c.worker has.place))
-        (search_fits a ix 1 m searches (omega arith) some);
-    roots = all_roots ∙ sym (ap (λ ix. length ix.roots) has.place.index);
+        (search_fits a ix 1 m outset.searches (omega arith) outset.some);
+    roots = outset.all_roots ∙ sym (ap (λ ix. length ix.roots) has.place.index);
     floor = has.floor ∙ sym (ap last_of has.place.question);
-    queues = count ∙ sym has.place.queues;
+    queues = outset.count ∙ sym has.place.queues;
     visits = length-map runs (λ (run : Run). fresh_visit run.claims);
   }
 
@@ -118,22 +132,20 @@ module _ (a : Question) (ix : IndexParts) (m : ℕ) (best : Best) (searches : Ca
   abbrev On : Draining → Draining → Type 0
   On x y = DrainsOn x.worker x.hand y.worker y.hand
 
-  module _ (before cells : List Draining) (is : before ≡ map (draining runs roots) team)
-      (len : length cells ≡ length before)
-      (on : (i : ℕ) (d : Draining) → i < length before → On (slice_index_or before i d) (slice_index_or cells i d)) where
+  module _ {before cells : List Draining} (turned : Turned team runs roots before cells) where
     -- a searcher that has drained, with what it was after it had filled
     pub record Went (i : ℕ) (d : Draining) : Type 0 where
       pub from : Resting
       pub record_of : RecordedWorker
       pub at : slice_get team i ≡ Some from
-      pub at_record : slice_get filled.records i ≡ Some record_of
+      pub at_record : slice_get outset.filled.records i ≡ Some record_of
       pub has : HasFilled a ix m best i from record_of
       pub goes : On (draining runs roots from) d
 
     pub went : (i : ℕ) (d : Draining) → slice_get cells i ≡ Some d → Went i d
     went i d at =
-        let r = by_place On before cells len on i d at in
-        let s = get_map (draining runs roots) team i r.from (ap (λ l. slice_get l i) (sym is) ∙ r.at) in
+        let r = by_place On before cells turned.len turned.on i d at in
+        let s = get_map (draining runs roots) team i r.from (ap (λ l. slice_get l i) (sym turned.is) ∙ r.at) in
         let x = has_at i s.0 s.1 in
         record {
           from = s.0;

@@ -1,5 +1,5 @@
 -- What a call and its reply did to the hand in the drain part, the longer record says too (`drain_ties`).
-use Rattle.std.proofs.Common.{◌≡◌, ℕ, zero, suc, ◌<◌, ◌≤◌, List, [], ◌∷◌, ◌⊎◌, None, Some, true, false, length, set, is_some, sym, refl, ap, ◌∙◌, subst, inl, inr, ⊎_elim, eqb, arith}
+use Rattle.std.proofs.Common.{◌≡◌, ℕ, zero, suc, ◌+◌, ◌<◌, ◌≤◌, List, [], ◌∷◌, ◌⊎◌, None, Some, true, false, length, set, is_some, sym, refl, ap, ◌∙◌, subst, inl, inr, ⊎_elim, eqb, arith}
 use Rattle.std.proofs.lemmas.Option.{none-some, same_Some}
 use Rattle.std.proofs.lemmas.Bool.{cases_eq, cond-true, cond-false, eq-eqb, ne_eqb, true≢false}
 use Rattle.list_totals.specs.Totals.{one_if_same, total}
@@ -103,39 +103,63 @@ module _ (h : DrainKept) (r : OwnRecord) (m v : ℕ) (t : DrainTied h r) where
     kept = λ n u low e. let k = t.kept n u low e in (k.0, inr k.1, k.2, k.3);
   }
 
+  -- a pop that takes a step
+  module _ (k : DrainKept) (reply : PopReply) (d : PopsRun h m v reply k) where
+    here : visit_at (visits k) m ≡ now k
+    here = visit_here h.visits m (now k) d.visit
+
+    other : (n : ℕ) → (m ≡ n → ⊥) → visit_at (visits k) n ≡ visit_at h.visits n
+    other n ne = visit_other h.visits m n (now k) (λ q. ne (sym q))
+
+    -- where the run that was popped handed out what the reply names, the pops count what each run handed out
+    popped_now : ((l : ℕ) → given_of l (run_at h.runs m) (now k) ≡ given_of l (run_at h.runs m) (visit_at h.visits m) + leaf_of l reply)
+        → (n l : ℕ) → n < length h.runs
+        → total (popped_of n l) (with_pop (popped_with reply) r).pops ≡ given_of l (run_at h.runs n) (visit_at (visits k) n)
+    popped_now more n l low = ⊎_elim
+        (λ (same : m ≡ n).
+        let old = t.popped n l low in
+        let one = popped_here n l (popped_with reply) same in
+        let handed = more l in
+        let there = ap (given_of l (run_at h.runs m)) here in
+        let at = ap (λ (j : ℕ). given_of l (run_at h.runs j) (visit_at h.visits j)) same in
+        let at_new = ap (λ (j : ℕ). given_of l (run_at h.runs j) (visit_at (visits k) j)) same in
+        omega arith)
+        (λ (ne : m ≡ n → ⊥).
+        let old = t.popped n l low in
+        let none = popped_there n l (popped_with reply) ne in
+        let stays = ap (given_of l (run_at h.runs n)) (other n ne) in
+        omega arith)
+        (cases_eq m n)
+
+    -- what a closed run keeps is a pop's limit, where that of the run that was popped is
+    kept_now : ((n u : ℕ) → m ≡ n → (visit_at (visits k) n).closed ≡ Some u
+        → (p : PopMade) × In p (with_pop (popped_with reply) r).pops × (p.queue ≡ n) × (p.limit ≡ u))
+        → (n u : ℕ) → n < length h.runs → (visit_at (visits k) n).closed ≡ Some u
+        → (p : PopMade) × In p (with_pop (popped_with reply) r).pops × (p.queue ≡ n) × (p.limit ≡ u)
+    kept_now own n u low c = ⊎_elim
+        (λ (same : m ≡ n). own n u same c)
+        (λ (ne : m ≡ n → ⊥).
+        let was : (visit_at h.visits n).closed ≡ Some u
+        = ap (λ (x : Visit). x.closed) (sym (other n ne)) ∙ c in
+        let k = t.kept n u low was in (k.0, inr k.1, k.2, k.3))
+        (cases_eq m n)
+
   -- a pop that was answered by an entry
   leaf_tied : (k : DrainKept) (e : Entry) → PopsRun h m v (Leaf e) k
       → DrainTied k (with_pop (popped_with (Leaf e)) r)
   leaf_tied k e d = subst (λ (k : DrainKept). DrainTied k (with_pop (popped_with (Leaf e)) r)) (sym d.after) (record {
     reads = t.reads;
-    popped = popped_now;
+    popped = popped_now k (Leaf e) d (λ l.
+        let f : Entry → ℕ = λ e. one_if_same l e.leaf in
+        ap (total f) d.leaf.next ∙ total_push f (leaves (run_at h.runs m).entries (visit_at h.visits m)) e);
     closed = closed_now;
-    kept = kept_now;
+    kept = kept_now k (Leaf e) d (λ n u same c.
+        let going : (visit_at (visits k) n).closed ≡ None
+        = ap (λ (j : ℕ). (visit_at (visits k) j).closed) (sym same) ∙ ap (λ (x : Visit). x.closed) (here k (Leaf e) d)
+        ∙ d.leaf.going in
+        absurd (none-some u (sym going ∙ c)));
   })
     where
-      here : visit_at (visits k) m ≡ (now k)
-      here = visit_here h.visits m (now k) d.visit
-
-      popped_now : (n l : ℕ) → n < length h.runs
-          → total (popped_of n l) (with_pop (popped_with (Leaf e)) r).pops ≡ given_of l (run_at h.runs n) (visit_at (visits k) n)
-      popped_now n l low = ⊎_elim
-          (λ (same : m ≡ n).
-          let old = t.popped n l low in
-          let one = popped_here n l (popped_with (Leaf e)) same in
-          let f : Entry → ℕ = λ e. one_if_same l e.leaf in
-          let run = run_at h.runs m in
-          let more = ap (total f) d.leaf.next ∙ total_push f (leaves run.entries (visit_at h.visits m)) e in
-          let there = ap (given_of l run) here in
-          let at = ap (λ (k : ℕ). given_of l (run_at h.runs k) (visit_at h.visits k)) same in
-          let at_new = ap (λ (j : ℕ). given_of l (run_at h.runs j) (visit_at (visits k) j)) same in
-          omega arith)
-          (λ (ne : m ≡ n → ⊥).
-          let old = t.popped n l low in
-          let none = popped_there n l (popped_with (Leaf e)) ne in
-          let stays = ap (given_of l (run_at h.runs n)) (visit_other h.visits m n (now k) (λ q. ne (sym q))) in
-          omega arith)
-          (cases_eq m n)
-
       closed_now : (n : ℕ) → n < length h.runs → WasClosed (with_pop (popped_with (Leaf e)) r) n
           → is_some (visit_at (visits k) n).closed ≡ true
       closed_now n low w = ⊎_elim
@@ -146,60 +170,26 @@ module _ (h : DrainKept) (r : OwnRecord) (m v : ℕ) (t : DrainTied h r) where
           let going : is_some (visit_at h.visits n).closed ≡ false
           = ap (λ (k : ℕ). is_some (visit_at h.visits k).closed) (sym same) ∙ ap is_some d.goes_on in
           absurd (true≢false (sym shut ∙ going)))
-          (λ (ne : m ≡ n → ⊥).
-          ap (λ (x : Visit). is_some x.closed) (visit_other h.visits m n (now k) (λ q. ne (sym q))) ∙ t.closed n low old)
+          (λ (ne : m ≡ n → ⊥). ap (λ (x : Visit). is_some x.closed) (other k (Leaf e) d n ne) ∙ t.closed n low old)
           (cases_eq m n))
           (closed_old r (popped_with (Leaf e)) n w)
-
-      kept_now : (n u : ℕ) → n < length h.runs → (visit_at (visits k) n).closed ≡ Some u
-          → (p : PopMade) × In p (with_pop (popped_with (Leaf e)) r).pops × (p.queue ≡ n) × (p.limit ≡ u)
-      kept_now n u low c = ⊎_elim
-          (λ (same : m ≡ n).
-          let going : (visit_at (visits k) n).closed ≡ None
-          = ap (λ (j : ℕ). (visit_at (visits k) j).closed) (sym same) ∙ ap (λ (x : Visit). x.closed) here ∙ d.leaf.going in
-          absurd (none-some u (sym going ∙ c)))
-          (λ (ne : m ≡ n → ⊥).
-          let was : (visit_at h.visits n).closed ≡ Some u
-          = ap (λ (x : Visit). x.closed) (sym (visit_other h.visits m n (now k) (λ q. ne (sym q)))) ∙ c in
-          let k = t.kept n u low was in (k.0, inr k.1, k.2, k.3))
-          (cases_eq m n)
 
   -- a pop that was answered Closed
   shut_tied : (k : DrainKept) (told : ℕ) → PopsRun h m v (Closed told) k
       → DrainTied k (with_pop (popped_with (Closed told)) r)
   shut_tied k told d = subst (λ (k : DrainKept). DrainTied k (with_pop (popped_with (Closed told)) r)) (sym d.after) (record {
     reads = t.reads;
-    popped = popped_now;
+    popped = popped_now k (Closed told) d
+        (λ l. let stays = ap (total (λ (e : Entry). one_if_same l e.leaf)) d.closed.none in omega arith);
     closed = closed_now;
-    kept = kept_now;
+    kept = kept_now k (Closed told) d
+        (λ n u same c. ((popped_with (Closed told)), inl refl, same, same_Some v u (sym (shut_now n same) ∙ c)));
   })
     where
-      here : visit_at (visits k) m ≡ (now k)
-      here = visit_here h.visits m (now k) d.visit
-
-      popped_now : (n l : ℕ) → n < length h.runs
-          → total (popped_of n l) (with_pop (popped_with (Closed told)) r).pops ≡ given_of l (run_at h.runs n) (visit_at (visits k) n)
-      popped_now n l low = ⊎_elim
-          (λ (same : m ≡ n).
-          let old = t.popped n l low in
-          let one = popped_here n l (popped_with (Closed told)) same in
-          let f : Entry → ℕ = λ e. one_if_same l e.leaf in
-          let run = run_at h.runs m in
-          let stays = ap (total f) d.closed.none in
-          let there = ap (given_of l run) here in
-          let at = ap (λ (k : ℕ). given_of l (run_at h.runs k) (visit_at h.visits k)) same in
-          let at_new = ap (λ (j : ℕ). given_of l (run_at h.runs j) (visit_at (visits k) j)) same in
-          omega arith)
-          (λ (ne : m ≡ n → ⊥).
-          let old = t.popped n l low in
-          let none = popped_there n l (popped_with (Closed told)) ne in
-          let stays = ap (given_of l (run_at h.runs n)) (visit_other h.visits m n (now k) (λ q. ne (sym q))) in
-          omega arith)
-          (cases_eq m n)
-
       shut_now : (n : ℕ) → m ≡ n → (visit_at (visits k) n).closed ≡ Some v
       shut_now n same =
-          ap (λ (j : ℕ). (visit_at (visits k) j).closed) (sym same) ∙ ap (λ (x : Visit). x.closed) here ∙ d.closed.shut
+          ap (λ (j : ℕ). (visit_at (visits k) j).closed) (sym same) ∙ ap (λ (x : Visit). x.closed) (here k (Closed told) d)
+          ∙ d.closed.shut
 
       closed_now : (n : ℕ) → n < length h.runs → WasClosed (with_pop (popped_with (Closed told)) r) n
           → is_some (visit_at (visits k) n).closed ≡ true
@@ -207,19 +197,8 @@ module _ (h : DrainKept) (r : OwnRecord) (m v : ℕ) (t : DrainTied h r) where
           (λ (same : m ≡ n). ap is_some (shut_now n same))
           (λ (ne : m ≡ n → ⊥). ⊎_elim
           (λ (new : (m ≡ n) × ((u : ℕ) × (Closed told ≡ Closed u))). absurd (ne new.0))
-          (λ (old : WasClosed r n).
-          ap (λ (x : Visit). is_some x.closed) (visit_other h.visits m n (now k) (λ q. ne (sym q))) ∙ t.closed n low old)
+          (λ (old : WasClosed r n). ap (λ (x : Visit). is_some x.closed) (other k (Closed told) d n ne) ∙ t.closed n low old)
           (closed_old r (popped_with (Closed told)) n w))
-          (cases_eq m n)
-
-      kept_now : (n u : ℕ) → n < length h.runs → (visit_at (visits k) n).closed ≡ Some u
-          → (p : PopMade) × In p (with_pop (popped_with (Closed told)) r).pops × (p.queue ≡ n) × (p.limit ≡ u)
-      kept_now n u low c = ⊎_elim
-          (λ (same : m ≡ n). ((popped_with (Closed told)), inl refl, same, same_Some v u (sym (shut_now n same) ∙ c)))
-          (λ (ne : m ≡ n → ⊥).
-          let was : (visit_at h.visits n).closed ≡ Some u
-          = ap (λ (x : Visit). x.closed) (sym (visit_other h.visits m n (now k) (λ q. ne (sym q)))) ∙ c in
-          let k = t.kept n u low was in (k.0, inr k.1, k.2, k.3))
           (cases_eq m n)
 
   pop_tied : (k : DrainKept) (reply : PopReply)

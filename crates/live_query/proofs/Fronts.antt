@@ -1,5 +1,5 @@
--- Taking the first pass of each row, row by row (`fronts_more`).
-use Rattle.std.proofs.Common.{◌≡◌, ℕ, zero, suc, ◌+◌, ◌<◌, ◌≤◌, ◌⊎◌, List, [], ◌∷◌, ◌++◌, Some, length, set, refl, sym, ap, ◌∙◌, subst, inl, inr, ⊎_elim, length-append, get_or, take, drop, arith}
+-- Lists with one item more (`at_push`, `push_both`), and taking the first pass of each row, row by row (`fronts_more`).
+use Rattle.std.proofs.Common.{◌≡◌, ℕ, zero, suc, ◌<◌, ◌≤◌, ◌⊎◌, List, [], ◌∷◌, ◌++◌, Some, length, set, refl, sym, ap, ◌∙◌, subst, inl, inr, ⊎_elim, length-append, get_or, take, drop, arith}
 use Rattle.std.specs.Prelude.{slice_get}
 use Rattle.std.proofs.lemmas.Option.{none-some, same_Some, slice_get_within}
 use Rattle.search_machine.proofs.Places.{get_set_other, get_set_same}
@@ -31,6 +31,25 @@ at_push (z ∷ xs) x y (suc j) e = ⊎_elim
     (λ (old : slice_get xs j ≡ Some y). inl old)
     (λ (new : (j ≡ length xs) × (x ≡ y)). inr (ap suc new.0, new.1))
     (at_push xs x y j e)
+
+-- what holds at each place of two lists, and of one item more of each, holds at each place of the longer lists
+pub push_both : {X Y : Type 0} (R : ℕ → X → Y → Type 0) (xs : List X) (ys : List Y) (x : X) (y : Y) → length xs ≡ length ys
+    → ((i : ℕ) (a : X) (b : Y) → slice_get xs i ≡ Some a → slice_get ys i ≡ Some b → R i a b) → R (length xs) x y
+    → (i : ℕ) (a : X) (b : Y) → slice_get (xs ++ x ∷ []) i ≡ Some a → slice_get (ys ++ y ∷ []) i ≡ Some b → R i a b
+push_both {X} {Y} R xs ys x y same old more i a b at_a at_b = ⊎_elim
+    (λ (was_a : slice_get xs i ≡ Some a). ⊎_elim
+    (λ (was_b : slice_get ys i ≡ Some b). old i a b was_a was_b)
+    (λ (new : (i ≡ length ys) × (y ≡ b)).
+    let low = slice_get_within xs i a was_a in let e = new.0 in absurd (omega arith))
+    (at_push ys y b i at_b))
+    (λ (new : (i ≡ length xs) × (x ≡ a)). ⊎_elim
+    (λ (was_b : slice_get ys i ≡ Some b).
+    let low = slice_get_within ys i b was_b in let e = new.0 in absurd (omega arith))
+    (λ (last : (i ≡ length ys) × (y ≡ b)).
+    subst (λ (j : ℕ). R j a b) (sym new.0)
+    (subst (λ (z : Y). R (length xs) a z) last.1 (subst (λ (z : X). R (length xs) z y) new.1 more)))
+    (at_push ys y b i at_b))
+    (at_push xs x a i at_a)
 
 pub fronts_more : (old : List Row) (fronts : List QueuePass) (new : List Row) (p : QueuePass) (row rest : Row)
     → FrontsTo old fronts new → slice_get new (length fronts) ≡ Some row → row.items ≡ p ∷ rest.items

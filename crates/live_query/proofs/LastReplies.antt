@@ -1,5 +1,5 @@
 -- The last reply of a legal history is one to its call.
-use Rattle.std.proofs.Common.{◌≡◌, ℕ, List, [], ◌∷◌, ◌++◌, sym, refl, ap, ◌∙◌, subst}
+use Rattle.std.proofs.Common.{◌≡◌, ℕ, [], ◌∷◌, ◌++◌, sym, ◌∙◌, subst}
 use Rattle.series_core.specs.declared.queue_words.Entry.{Entry}
 use Rattle.series_core.specs.declared.queue_words.PutReply.{PutReply}
 use Rattle.series_core.specs.declared.queue_words.PopReply.{PopReply}
@@ -17,18 +17,21 @@ last_reply : (q : PlainQueue) (log : History) (e : Made Call Reply) → IsLegal 
 last_reply q [] e l = (q, l.0)
 last_reply q (x ∷ log) e l = last_reply (next q x.call).0 log e l.1
 
+-- the reply of the call with which a legal history ends is that of some queue
+told_by : (q : PlainQueue) (before after : History) (e : Made Call Reply) → EndsWith before e after → IsLegal answers q after
+    → (r : PlainQueue) × (e.reply ≡ (next r e.call).1)
+told_by q before after e ends legal = last_reply q (before ++ ends.0) e (subst (IsLegal answers q) ends.1 legal)
+
 -- a put is not answered as a pop
 pub put_is_put : (q : PlainQueue) (before after : History) (n : ℕ) (e : Entry) (reply : Reply) (r : PopReply)
     → reply ≡ PopAnswer r → EndsWith before (entry n (Put e) reply) after → IsLegal answers q after → ⊥
 put_is_put q before after n e reply r told ends legal =
-    let l = last_reply q (before ++ ends.0) (entry n (Put e) reply) (subst (IsLegal answers q) ends.1 legal) in
-    let is = sym told ∙ l.1 in
+    let is = sym told ∙ (told_by q before after (entry n (Put e) reply) ends legal).1 in
     absurd (cc)
 
 -- a pop is not answered as a put
 pub pop_is_pop : (q : PlainQueue) (before after : History) (n : ℕ) (v : ℕ) (reply : Reply) (r : PutReply)
     → reply ≡ PutAnswer r → EndsWith before (entry n (Pop v) reply) after → IsLegal answers q after → ⊥
 pop_is_pop q before after n v reply r told ends legal =
-    let l = last_reply q (before ++ ends.0) (entry n (Pop v) reply) (subst (IsLegal answers q) ends.1 legal) in
-    let is = sym told ∙ l.1 in
+    let is = sym told ∙ (told_by q before after (entry n (Pop v) reply) ends legal).1 in
     absurd (cc)

@@ -10,6 +10,7 @@ pub mod DrainTies
 pub mod DrainEffort
 pub mod DrainKnowing
 pub mod Places
+pub mod Endings
 pub mod Marks
 pub mod Openers
 pub mod FillGather

@@ -1,8 +1,7 @@
 -- Closing locks one after the other: each takes its pass from each row (`column_all`, `left_less`).
-use Rattle.std.proofs.Common.{◌≡◌, ℕ, zero, suc, ◌++◌, ◌+◌, ◌<◌, ◌≤◌, List, [], ◌∷◌, Some, All, length, map, refl, sym, ap, ◌∙◌, subst, get_or, arith}
+use Rattle.std.proofs.Common.{◌≡◌, ℕ, zero, suc, ◌++◌, ◌+◌, ◌<◌, List, [], ◌∷◌, Some, All, length, refl, sym, ap, ◌∙◌, subst, arith}
 use Rattle.std.specs.Prelude.{slice_get}
-use Rattle.std.proofs.lemmas.List.{length-map}
-use Rattle.std.proofs.lemmas.Option.{none-some, same_Some, slice_get_within, slice_get-get_or, get_or_from_slice_get}
+use Rattle.std.proofs.lemmas.Option.{same_Some, slice_get_within, get_or_from_slice_get}
 use Rattle.leaf_queues.specs.PlainQueue.{PlainQueue, next}
 use Rattle.turn_lock.specs.History.{calls_by}
 use Rattle.turn_lock.specs.Passes.{AgreesWith, AreAll, HasOneHistory, IsPassOf, callers_of, opening_of}
@@ -111,14 +110,7 @@ left_some ks rows n old l more own j row at =
     let b = (own j from.0 from.1).count in
     omega arith
 
--- what stands in the middle of a list, and what is all of it
-pub get_middle : {X : Type 0} (xs ys all : List X) (x : X) → xs ++ x ∷ ys ≡ all → slice_get all (length xs) ≡ Some x
-get_middle xs ys all x is = subst (λ l. slice_get l (length xs) ≡ Some x) is (at xs)
-  where
-    at : (xs : List _) → slice_get (xs ++ x ∷ ys) (length xs) ≡ Some x
-    at [] = refl
-    at (z ∷ zs) = at zs
-
+-- what stands in a list stands in its front where nothing is behind
 pub get_all : {X : Type 0} (xs ys all : List X) (m : ℕ) (x : X) → xs ++ ys ≡ all → length ys ≡ 0
     → slice_get all m ≡ Some x → slice_get xs m ≡ Some x
 get_all xs ys all m x is none at = by xs ys m none (subst (λ l. slice_get l m ≡ Some x) (sym is) at)

@@ -1,14 +1,14 @@
 -- Locks and the rows of their passes, one lock more (`round_more`, `dealt_more`), and one column of passes less (`dealt_less`).
-use Rattle.std.proofs.Common.{◌≡◌, ℕ, suc, ◌+◌, ◌<◌, ◌≤◌, ◌⊎◌, List, [], ◌∷◌, ◌++◌, Some, length, map, refl, sym, ap, ◌∙◌, subst, inl, inr, ⊎_elim, length-append, arith}
+use Rattle.std.proofs.Common.{◌≡◌, ℕ, suc, ◌+◌, ◌<◌, List, [], ◌∷◌, ◌++◌, Some, length, sym, ap, ◌∙◌, subst, ⊎_elim, length-append, arith}
 use Rattle.std.specs.Prelude.{slice_get}
 use Rattle.std.proofs.lemmas.List.{map-append}
-use Rattle.std.proofs.lemmas.Option.{none-some, same_Some, slice_get_within, get_or_from_slice_get}
+use Rattle.std.proofs.lemmas.Option.{slice_get_within, get_or_from_slice_get}
 use Rattle.leaf_queues.specs.PlainQueue.{PlainQueue}
-use Rattle.turn_lock.specs.Passes.{AreNewPasses, IsNewPass, IsPassOf, callers_of, opening_of}
+use Rattle.turn_lock.specs.Passes.{AreNewPasses, IsNewPass, callers_of, opening_of}
 use Rattle.search_machine.proofs.Places.{get_some}
 use Rattle.live_query.specs.LockHands.{AreOwn, QueueLock, QueuePass}
 use Rattle.live_query.specs.LockParts.{AreDealt, AreFronts, AreRound, DealtFrom, Row}
-use Rattle.live_query.proofs.Fronts.{at_push}
+use Rattle.live_query.proofs.Fronts.{at_push, push_both}
 
 pub round_more : (qs : List PlainQueue) (n : ℕ) (ks : List QueueLock) (q : PlainQueue) (k : QueueLock) → AreRound qs n ks
     → opening_of k ≡ q → callers_of k ≡ n → AreRound (qs ++ q ∷ []) n (ks ++ k ∷ [])
@@ -36,20 +36,7 @@ pub dealt_more : (ks : List QueueLock) (rows : List Row) (k : QueueLock) (row : 
     → DealtFrom k 0 row.items → AreDealt (ks ++ k ∷ []) 0 (rows ++ row ∷ [])
 dealt_more ks rows k row d one = record {
   count = let a = length-append rows (row ∷ []) in let b = length-append ks (k ∷ []) in let c = d.count in omega arith;
-  each = λ m l r at_l at_r. ⊎_elim
-      (λ (old : slice_get ks m ≡ Some l). ⊎_elim
-      (λ (at : slice_get rows m ≡ Some r). d.each m l r old at)
-      (λ (new : (m ≡ length rows) × (row ≡ r)).
-      let low = slice_get_within ks m l old in let a = new.0 in let b = d.count in absurd (omega arith))
-      (at_push rows row r m at_r))
-      (λ (new : (m ≡ length ks) × (k ≡ l)). ⊎_elim
-      (λ (at : slice_get rows m ≡ Some r).
-      let low = slice_get_within rows m r at in let a = new.0 in let b = d.count in absurd (omega arith))
-      (λ (last : (m ≡ length rows) × (row ≡ r)).
-      subst (λ (l : QueueLock). DealtFrom l 0 r.items) new.1
-      (subst (λ (r : Row). DealtFrom k 0 r.items) last.1 one))
-      (at_push rows row r m at_r))
-      (at_push ks k l m at_l);
+  each = push_both (λ m l r. DealtFrom l 0 r.items) ks rows k row (sym d.count) d.each one;
 }
 
 -- the next pass of each lock, and what is left of the rows

@@ -1,16 +1,12 @@
 -- What a call and its reply did to the hand over locked queues, the longer record says too (`lock_ties`).
-use Rattle.std.proofs.Common.{◌≡◌, ℕ, zero, suc, ◌+◌, ◌<◌, ◌≤◌, ◌++◌, List, [], ◌∷◌, ◌⊎◌, Option, None, Some, true, false, length, set, sym, refl, ap, ◌∙◌, subst, inl, inr, ⊎_elim, append_assoc, arith}
+use Rattle.std.proofs.Common.{◌≡◌, ℕ, ◌+◌, ◌<◌, ◌≤◌, ◌++◌, [], ◌∷◌, Option, length, sym, refl, ap, ◌∙◌, subst, inl, inr, ⊎_elim, append_assoc, arith}
 use Rattle.std.specs.Prelude.{slice_get}
 use Rattle.std.proofs.lemmas.Bool.{cases_eq}
 use Rattle.std.proofs.lemmas.Option.{slice_get_within}
-use Rattle.list_totals.specs.Totals.{one_if_same, total}
+use Rattle.list_totals.specs.Totals.{total}
 use Rattle.list_totals.specs.Standing.{In}
 use Rattle.list_totals.proofs.Totals.{total_push}
-use Rattle.series_core.specs.declared.queue_words.PutReply.{PutReply}
-use Rattle.series_core.specs.declared.queue_words.PopReply.{PopReply}
-use Rattle.turn_lock.specs.declared.object.Entry.{Entry as Made}
 use Rattle.turn_lock.specs.History.{entry}
-use Rattle.turn_lock.specs.Passes.{made_by}
 use Rattle.leaf_queues.specs.declared.calls.Call.{Call as QueueCall}
 use Rattle.leaf_queues.specs.declared.calls.Call.TheVariants.{Put as ToPut, Pop as ToPop}
 use Rattle.leaf_queues.specs.declared.calls.Reply.{Reply as QueueReply}
@@ -22,16 +18,16 @@ use Rattle.search_machine.specs.declared.phase.Phase.TheVariants.{Claim, Look, G
 use Rattle.search_machine.specs.Ground.{Ground, entry_of, queue_of}
 use Rattle.search_machine.specs.Calls.{call_in}
 use Rattle.search_machine.specs.Closes.{puts_by}
-use Rattle.search_machine.specs.OwnRecord.{OwnRecord, PutMade, PopMade, RecordedWorker, put_of}
+use Rattle.search_machine.specs.OwnRecord.{OwnRecord, RecordedWorker, put_of}
 use Rattle.search_machine.specs.Replies.{own_after}
-use Rattle.search_machine.specs.Workers.{Worker, round_queue}
+use Rattle.search_machine.specs.Workers.{round_queue}
 use Rattle.search_machine.proofs.Places.{get_set_other}
 use Rattle.queue_histories.specs.Histories.{History}
 use Rattle.queue_histories.specs.Closings.{Agrees}
 use Rattle.queue_histories.specs.Rooms.{puts_at, puts_leaf}
 use Rattle.live_query.specs.FillHands.{InRange}
 use Rattle.live_query.specs.RootClaims.{DidClaim, DrawTied, Drawn}
-use Rattle.live_query.specs.LockHands.{Called, LockDid, LockKept, NamesNone, QueuePass, calls_at, calls_of}
+use Rattle.live_query.specs.LockHands.{Called, LockDid, LockKept, calls_at, calls_of}
 use Rattle.live_query.specs.LockKnowing.{Earlier, LockTied}
 use Rattle.live_query.proofs.Agreeing.{agrees_pop_here, agrees_pop_there, agrees_put_here, agrees_put_there, agrees_same}
 use Rattle.live_query.proofs.RootTies.{drawn_ties}

@@ -1,11 +1,10 @@
 -- A turn over locked queues: whatever the record was, there is a later one (`locks_on`), and its call is that of its part.
-use Rattle.std.proofs.Common.{◌≡◌, ◌≢◌, ◌+◌, ◌<◌, ℕ, [], ◌∷◌, Some, true, false, length, sym, refl, ap, ◌∙◌, subst, inl, inr, ⊎_elim, arith}
+use Rattle.std.proofs.Common.{◌≡◌, ◌≢◌, ◌+◌, ◌<◌, ℕ, Some, true, false, length, sym, refl, ap, ◌∙◌, subst, inl, inr, ⊎_elim, arith}
 use Rattle.std.specs.Prelude.{slice_get}
 use Rattle.std.proofs.Math.Nat.{mod-lt}
 use Rattle.std.proofs.lemmas.Bool.{cases_eq, true≢false}
 use Rattle.std.proofs.lemmas.Option.{same_Some}
 use Rattle.list_totals.specs.Standing.{In}
-use Rattle.list_totals.proofs.Standing.{in_append}
 use Rattle.turn_lock.specs.declared.object.Entry.{Entry as Made}
 use Rattle.turn_lock.specs.History.{entry}
 use Rattle.leaf_queues.specs.declared.calls.Call.{Call as QueueCall}
@@ -30,13 +29,13 @@ use Rattle.search_machine.proofs.Places.{get_set}
 use Rattle.query_core.specs.Questions.{last_of}
 use Rattle.query_core.specs.Turning.{Turns, search_of}
 use Rattle.query_core.specs.Working.{IsOf, Working}
-use Rattle.queue_histories.specs.Histories.{ArePops, ArePuts}
 use Rattle.live_query.specs.RootClaims.{IsOwn, Roots}
-use Rattle.live_query.specs.LockHands.{Called, LockDid, LockKept, NamesNone, QueuePass, calls_at}
+use Rattle.live_query.specs.LockHands.{Called, LockDid, LockKept, QueuePass, calls_at}
 use Rattle.live_query.specs.LockKnowing.{LockServes, LocksBy, LocksOn, PopsAlone, PutsAlone, SamePlaces, Earlier}
 use Rattle.live_query.proofs.FillKnowing.{same_search}
 use Rattle.live_query.proofs.FillRunning.{fills_runs, not_end}
 use Rattle.live_query.proofs.GoingOn.{place_on, same_place}
+use Rattle.live_query.proofs.Places.{in_pushed}
 use Rattle.live_query.proofs.RootTies.{still_own}
 use Rattle.live_query.proofs.LockTies.{QueueThere, called_here, called_length, called_there, lock_ties}
 
@@ -105,6 +104,21 @@ did_same h k (PopCall m v) (PopTold reply) (inl none) = same_of h k none.1
 did_same h k (PopCall m v) (PopTold reply) (inr d) = same_called h k m _ _ d
 did_same h k _ _ d = absurd d
 
+-- whatever the record was, there is a later one, over the same objects
+goes_on : (w v : Working) (h k : LockKept) → IsOf w.question w.index w.queues w.number v → SameLocks h k
+    → ((earlier : Earlier) (x : RecordedWorker) → LocksBy earlier w h x → (y : RecordedWorker) × LocksBy earlier v k y)
+    → LocksOn w h v k
+goes_on w v h k is same on = record {
+  place = is;
+  roots = same.roots;
+  own = same.own;
+  best = same.best;
+  floor = same.floor;
+  locks = same.locks;
+  passes = same.passes;
+  on = on;
+}
+
 -- the queue that a phase calls is there
 queue_there : (g : Ground) (i n : ℕ) (phase : Phase) → n ≡ g.queues → 0 < g.queues → QueueThere g i n phase
 queue_there g i n (Give l) e some = let low = mod-lt l some in omega arith
@@ -123,14 +137,10 @@ module _ (h k : LockKept) (m : ℕ) (call : QueueCall) (reply : QueueReply) (d :
       → ((x : Made QueueCall QueueReply) → In x (calls_at h n) → P x)
       → (x : Made QueueCall QueueReply) → In x (calls_at k n) → P x
   more_calls one all x i = ⊎_elim
-      (λ (same : n ≡ m). ⊎_elim
+      (λ (same : n ≡ m). in_pushed x (entry d.before.number call reply) (calls_at h m)
+      (subst (In x) (called_here h k m call reply d) (subst (λ (n : ℕ). In x (calls_at k n)) same i))
       (λ (old : In x (calls_at h m)). all x (subst (λ (m : ℕ). In x (calls_at h m)) (sym same) old))
-      (λ (last : In x (entry d.before.number call reply ∷ [])). ⊎_elim
-      (λ (is : x ≡ entry d.before.number call reply). subst P (sym is) one)
-      (λ (none : ⊥). absurd none)
-      last)
-      (in_append x (calls_at h m) (entry d.before.number call reply ∷ [])
-      (subst (In x) (called_here h k m call reply d) (subst (λ (n : ℕ). In x (calls_at k n)) same i))))
+      (λ (is : x ≡ entry d.before.number call reply). subst P (sym is) one))
       (λ (ne : n ≡ m → ⊥). all x (subst (In x) (called_there h k m n call reply d ne) i))
       (cases_eq n m)
 
@@ -207,18 +217,8 @@ module _ (w v : Working) (h k : LockKept) (serves : LockServes w h)
         (t.1.called 1 y known.shows) known.tied;
   }
 
-  -- whatever the record was, there is a later one
   pub locks_on : LocksOn w h v k
-  locks_on = record {
-    place = is;
-    roots = same.roots;
-    own = same.own;
-    best = same.best;
-    floor = same.floor;
-    locks = same.locks;
-    passes = same.passes;
-    on = λ earlier y known. (after g w.number y t.0, later earlier y known);
-  }
+  locks_on = goes_on w v h k is same (λ earlier y known. (after g w.number y t.0, later earlier y known))
 
   -- a worker that fills is not done, and one that does not fill fills no more
   pub locks_run : fills w.phase ≡ true → v.phase ≢ Done
@@ -242,16 +242,7 @@ module _ (w v : Working) (h k : LockKept) (serves : LockServes w h)
       (t.1.called 1 x serves.shows)
 
 pub locks_stay : (w : Working) (h : LockKept) → LocksOn w h w h
-locks_stay w h = record {
-  place = same_place w;
-  roots = refl;
-  own = λ own. own;
-  best = refl;
-  floor = refl;
-  locks = refl;
-  passes = places_stay h;
-  on = λ earlier x known. (x, known);
-}
+locks_stay w h = goes_on w w h h (same_place w) (same_of h h refl) (λ earlier x known. (x, known))
 
 pub locks_then : (w v u : Working) (h k m : LockKept) → LocksOn w h v k → LocksOn v k u m → LocksOn w h u m
 locks_then w v u h k m first second = record {

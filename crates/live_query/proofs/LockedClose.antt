@@ -1,6 +1,7 @@
 -- What the searchers and the queues say together after both parts: the search has a legal and straight outcome (`ends_right`).
-use Rattle.std.proofs.Common.{◌≡◌, ◌≢◌, ℕ, zero, suc, ◌+◌, ◌<◌, ◌≤◌, ◌++◌, List, [], ◌∷◌, None, Some, All, true, false, length, map, refl, sym, ap, ◌∙◌, subst, inl, inr, ⊎_elim, append_assoc, length-append, eqb, arith}
+use Rattle.std.proofs.Common.{◌≡◌, ◌≢◌, ℕ, zero, suc, ◌+◌, ◌<◌, ◌≤◌, ◌++◌, List, [], ◌∷◌, None, Some, All, false, length, map, refl, sym, ap, ◌∙◌, subst, inl, inr, ⊎_elim, eqb, arith}
 use Rattle.std.specs.Prelude.{slice_get}
+use Rattle.std.proofs.Math.Nat.{mod-lt}
 use Rattle.std.proofs.lemmas.List.{length-map}
 use Rattle.std.proofs.lemmas.List.Elements.{All-cons, All-head, All-tail}
 use Rattle.std.proofs.lemmas.Bool.{cond_both, eq-eqb}
@@ -18,46 +19,44 @@ use Rattle.turn_lock.specs.History.{calls_by}
 use Rattle.leaf_queues.specs.declared.calls.Call.{Call as QueueCall}
 use Rattle.leaf_queues.specs.declared.calls.Call.TheVariants.{Put as ToPut, Pop as ToPop}
 use Rattle.leaf_queues.specs.declared.calls.Reply.{Reply as QueueReply}
-use Rattle.leaf_queues.specs.PlainQueue.{PlainQueue, empty_queue}
+use Rattle.leaf_queues.specs.PlainQueue.{PlainQueue}
 use Rattle.subtree_build.specs.Index.{IndexParts}
 use Rattle.subtree_build.specs.Outline.{leaf_numbers}
 use Rattle.search_machine.specs.declared.phase.Phase.TheVariants.{Done}
 use Rattle.search_machine.specs.declared.outcome.QueueLine.{QueueLine}
 use Rattle.search_machine.specs.Basics.{Between as InLimits, Ordered}
-use Rattle.search_machine.specs.Closes.{AllStand, ClaimedOnce, Closes, claimed_by, final, puts_by}
+use Rattle.search_machine.specs.Closes.{AllStand, ClaimedOnce, Closes, ClosesStraight, puts_by}
 use Rattle.search_machine.specs.Ground.{Fits, Ground, queue_of}
 use Rattle.search_machine.specs.Machine.{capacity_of, empty_queues}
 use Rattle.search_machine.specs.Outcome.{line_of}
-use Rattle.search_machine.specs.OwnRecord.{RecordedWorker, is_refused, nothing_yet}
+use Rattle.search_machine.specs.OwnRecord.{RecordedWorker, nothing_yet}
 use Rattle.search_machine.specs.Stands.{StandsFor}
 use Rattle.search_machine.specs.Workers.{fills}
 use Rattle.search_machine.proofs.AnyWorkers.{stands_any}
-use Rattle.search_machine.proofs.Closing.{closed_legal}
-use Rattle.search_machine.proofs.ClosedStraight.{closed_straight}
 use Rattle.search_machine.proofs.OwnLate.{below_real}
 use Rattle.search_machine.proofs.Places.{get_map, get_some}
 use Rattle.search_machine.proofs.PutsOnce.{puts_once}
-use Rattle.queue_histories.specs.Histories.{ArePops, ArePuts, History, Holds, Leads}
+use Rattle.queue_histories.specs.Histories.{ArePops, ArePuts, History, Leads}
 use Rattle.queue_histories.specs.Closings.{Agrees, TeamAgrees}
-use Rattle.queue_histories.specs.Rooms.{ArePutsInto, IsLeafOf, opened_for, puts_at}
+use Rattle.queue_histories.specs.Rooms.{ArePutsInto, opened_for, puts_at}
 use Rattle.queue_histories.proofs.Callers.{by_team}
 use Rattle.queue_histories.proofs.Closings.{closes as queue_says, unrefused}
 use Rattle.queue_histories.proofs.Joins.{calls_joined, leads_joined, taken_ascends}
 use Rattle.queue_histories.proofs.Rooms.{different_placed}
 use Rattle.query_core.specs.Questions.{Question, last_of, search_over}
 use Rattle.query_core.specs.Teams.{AreOver}
-use Rattle.query_core.specs.Turning.{search_of}
 use Rattle.query_core.specs.Working.{IsOf, Shows, Working}
 use Rattle.query_core.proofs.OfIndex.{last_is, search_fits}
 use Rattle.live_query.specs.declared.part.Part.TheVariants.{Fill, Drain}
 use Rattle.live_query.specs.Holding.{Held}
 use Rattle.live_query.specs.RootClaims.{DrawTied, Drawn, IsOwn, Roots, group_count}
 use Rattle.live_query.specs.LockHands.{LockKept, calls_at}
-use Rattle.live_query.specs.LockKnowing.{Earlier, InPart, LockTied, LocksBy}
+use Rattle.live_query.specs.LockKnowing.{Earlier, LocksBy}
 use Rattle.live_query.specs.LockParts.{IsServed, Went, WentBy, WentOn, calls_by_hand, held_of}
 use Rattle.live_query.specs.Parts.{Between, EndsRight, IsOpen, Opens}
+use Rattle.live_query.proofs.Endings.{ends_as}
 use Rattle.live_query.proofs.Openers.{filled_ended, fits_one, moved, opener, opener_drawn, opener_floor, opener_own, opener_runs, opener_stands, opener_word, search_at}
-use Rattle.live_query.proofs.Places.{Chosen, all_from, all_map, choose, map_at}
+use Rattle.live_query.proofs.Places.{Chosen, all_from, all_map, choose, map_at, totals_most}
 use Rattle.live_query.proofs.RootGather.{given_all, given_once}
 
 -- a list with nothing behind it
@@ -81,18 +80,6 @@ all_both : {X : Type 0} (P : X → Type 0) (xs ys : List X) → All P xs → All
 all_both P [] ys a b = b
 all_both P (x ∷ xs) ys a b =
     All-cons P x (xs ++ ys) (All-head P x xs a) (all_both P xs ys (All-tail P x xs a) b)
-
--- a total is at most another where the parts at each place are
-totals_most : {X Y : Type 0} (f : X → ℕ) (h : Y → ℕ) (xs : List X) (ys : List Y) → length xs ≡ length ys
-    → ((i : ℕ) (x : X) (y : Y) → slice_get xs i ≡ Some x → slice_get ys i ≡ Some y → f x ≤ h y)
-    → total f xs ≤ total h ys
-totals_most f h [] [] e most = omega arith
-totals_most f h [] (y ∷ ys) e most = absurd (omega arith)
-totals_most f h (x ∷ xs) [] e most = absurd (omega arith)
-totals_most f h (x ∷ xs) (y ∷ ys) e most =
-    let here = most 0 x y refl refl in
-    let rest = totals_most f h xs ys (omega arith) (λ i a b p q. most (suc i) a b p q) in
-    omega arith
 
 -- the queues that open empty, by their places
 empty_at : (g : Ground) (m n j : ℕ) (q : PlainQueue) → slice_get (empty_queues g m n) j ≡ Some q → q ≡ opened_for g (m + j)
@@ -119,8 +106,27 @@ of_caller y (x ∷ log) i =
     (λ (later : In y log). of_caller y log later)
     i)
 
-module _ (a : Question) (ix : IndexParts) (m : ℕ) (roots : Roots) (best : Best) (some : 0 < m) (team : List Between)
-    (opens : Opens a ix m roots best team) (n : ℕ) (some_worker : 0 < n) (as_many : length team ≡ n) where
+-- a search over m queues as it opens, with `n` searchers
+pub record Begun (a : Question) (ix : IndexParts) (m : ℕ) (roots : Roots) (best : Best) (team : List Between) (n : ℕ) : Type 0 where
+  pub some : 0 < m
+  pub opens : Opens a ix m roots best team
+  pub some_worker : 0 < n
+  pub as_many : length team ≡ n
+
+-- its fill part, over queues that were empty
+pub record Filled (a : Question) (ix : IndexParts) (m : ℕ) (roots : Roots) (team : List Between) (n : ℕ) (qs0 : List PlainQueue)
+    (team1 : List Between) (qs1 : List PlainQueue) : Type 0 where
+  pub empty : qs0 ≡ empty_queues (search_over a ix n m) 0 m
+  pub filled : Went Fill roots team qs0 team1 qs1
+
+module _ {a : Question} {ix : IndexParts} {m : ℕ} {roots : Roots} {best : Best} {team : List Between} {n : ℕ}
+    (begun : Begun a ix m roots best team n) where
+  abbrev some : 0 < m
+  some = begun.some
+
+  abbrev opens : Opens a ix m roots best team
+  opens = begun.opens
+
   abbrev one : Ground
   one = search_over a ix 1 m
 
@@ -128,7 +134,7 @@ module _ (a : Question) (ix : IndexParts) (m : ℕ) (roots : Roots) (best : Best
   g = search_over a ix n m
 
   fits : Fits g
-  fits = search_fits a ix n m opens.searches some_worker some
+  fits = search_fits a ix n m opens.searches begun.some_worker some
 
   -- a searcher at its place, whose worker shows some worker
   record Placed (i : ℕ) (c : Between) : Type 0 where
@@ -170,21 +176,20 @@ module _ (a : Question) (ix : IndexParts) (m : ℕ) (roots : Roots) (best : Best
   first_running = all_from (λ (c : Between). c.worker.phase ≢ Done) team
       (λ i c at. opener_runs a ix m roots best some team opens i c (opens.each i c at))
 
-  module _ (qs0 qs1 : List PlainQueue) (team1 : List Between) (empty : qs0 ≡ empty_queues g 0 m)
-      (filled : Went Fill roots team qs0 team1 qs1) where
+  module _ {qs0 qs1 : List PlainQueue} {team1 : List Between} (part : Filled a ix m roots team n qs0 team1 qs1) where
     pub count0 : length qs0 ≡ m
-    count0 = ap (λ (l : List PlainQueue). length l) empty ∙ empty_count g 0 m
+    count0 = ap (λ (l : List PlainQueue). length l) part.empty ∙ empty_count g 0 m
 
     pub count1 : length qs1 ≡ m
-    count1 = filled.queue_count ∙ count0
+    count1 = part.filled.queue_count ∙ count0
 
     abbrev no_calls : Earlier
     no_calls j = []
 
     -- a searcher after the fill part, with its record
-    record Filled (i : ℕ) (d : Between) : Type 0 where
+    record FilledAt (i : ℕ) (d : Between) : Type 0 where
       hand : LockKept
-      at : slice_get filled.hands i ≡ Some hand
+      at : slice_get part.filled.hands i ≡ Some hand
       from : Between
       went : WentOn Fill roots (length qs0) from d hand
       place : IsOf a ix m i d.worker
@@ -195,12 +200,12 @@ module _ (a : Question) (ix : IndexParts) (m : ℕ) (roots : Roots) (best : Best
       word : hand.best ≡ best
       floor : hand.floor ≡ last_of a
 
-    filled_at : (i : ℕ) (d : Between) → slice_get team1 i ≡ Some d → Filled i d
+    filled_at : (i : ℕ) (d : Between) → slice_get team1 i ≡ Some d → FilledAt i d
     filled_at i d at =
         let low = slice_get_within team1 i d at in
-        let k = get_some filled.hands i (let x = filled.same in let y = filled.count in omega arith) in
-        let c = get_some team i (let x = filled.same in omega arith) in
-        let w = filled.each i c.0 d k.0 c.1 at k.1 in
+        let k = get_some part.filled.hands i (let x = part.filled.same in let y = part.filled.count in omega arith) in
+        let c = get_some team i (let x = part.filled.same in omega arith) in
+        let w = part.filled.each i c.0 d k.0 c.1 at k.1 in
         let o = opens.each i c.0 c.1 in
         let x = opener a ix m roots best some team opens i in
         let place = moved a ix m i c.0.worker d.worker o.place w.on.place in
@@ -233,7 +238,7 @@ module _ (a : Question) (ix : IndexParts) (m : ℕ) (roots : Roots) (best : Best
           floor = w.on.floor ∙ ap (λ (h : Held). h.floor) w.begins ∙ opener_floor a ix m roots best some team opens i c.0 o;
         }
 
-    placed_then : (i : ℕ) (d : Between) → Filled i d → Placed i d
+    placed_then : (i : ℕ) (d : Between) → FilledAt i d → Placed i d
     placed_then i d f = record {
       place = f.place;
       shown = f.own;
@@ -255,19 +260,19 @@ module _ (a : Question) (ix : IndexParts) (m : ℕ) (roots : Roots) (best : Best
     then_drains = all_from (λ (d : Between). fills d.worker.phase ≡ false) team1
         (λ i d at. (filled_at i d at).went.ends)
 
-    module _ (qs2 : List PlainQueue) (team2 : List Between) (drained : Went Drain roots team1 qs1 team2 qs2) where
+    module _ {qs2 : List PlainQueue} {team2 : List Between} (drained : Went Drain roots team1 qs1 team2 qs2) where
       queues_are : length qs2 ≡ m
       queues_are = drained.queue_count ∙ count1
 
       team_count : length team2 ≡ n
-      team_count = drained.same ∙ filled.same ∙ as_many
+      team_count = drained.same ∙ part.filled.same ∙ begun.as_many
 
       -- a searcher that has drained, with the record of all its calls
       record Ended (i : ℕ) (y : RecordedWorker) : Type 0 where
         cell : Between
         at : slice_get team2 i ≡ Some cell
         before : Between
-        fill : Filled i before
+        fill : FilledAt i before
         hand : LockKept
         hand_at : slice_get drained.hands i ≡ Some hand
         went : WentOn Drain roots (length qs1) before cell hand
@@ -355,7 +360,7 @@ module _ (a : Question) (ix : IndexParts) (m : ℕ) (roots : Roots) (best : Best
       pub sizes_are : (ws : List Working) (ls : List QueueLine) → ws ≡ map (λ (c : Between). c.worker) team2 → ls ≡ map line_of qs2
           → (length ws ≡ length team) × (length ls ≡ m)
       sizes_are ws ls ws_are ls_are = (
-        ap (λ (l : List Working). length l) ws_are ∙ length-map team2 (λ (c : Between). c.worker) ∙ drained.same ∙ filled.same,
+        ap (λ (l : List Working). length l) ws_are ∙ length-map team2 (λ (c : Between). c.worker) ∙ drained.same ∙ part.filled.same,
         ap (λ (l : List QueueLine). length l) ls_are ∙ length-map qs2 line_of ∙ queues_are,
       )
 
@@ -401,15 +406,6 @@ module _ (a : Question) (ix : IndexParts) (m : ℕ) (roots : Roots) (best : Best
         once : ClaimedOnce ys
         once = given_once roots opens.size draws ys draws_count draws_tied draws_ended passes passes_are drawn
 
-        all_claimed : (i : ℕ) (y : RecordedWorker) (x : ℕ) → slice_get ys i ≡ Some y → In None y.own.claims
-            → x < length g.roots → 0 < total (claimed_by x) ys
-        all_claimed i y x at none low =
-            given_all roots opens.size draws ys draws_count draws_tied draws_ended passes passes_are drawn i y x at
-            (let nodes = opens.searches.index.one_node_each in
-            let long = length-map ix.nodes leaf_numbers in
-            let c = opens.count in
-            omega arith)
-
         -- the history of a queue over both parts
         module _ (j : ℕ) (low : j < m) (q : PlainQueue) (at_q : slice_get qs2 j ≡ Some q) where
           between : (r : PlainQueue) × (slice_get qs1 j ≡ Some r)
@@ -418,14 +414,14 @@ module _ (a : Question) (ix : IndexParts) (m : ℕ) (roots : Roots) (best : Best
           opening : (r : PlainQueue) × (slice_get qs0 j ≡ Some r)
           opening = get_some qs0 j (let x = count0 in omega arith)
 
-          first : WentBy (length team) (λ i. calls_by_hand (slice_get filled.hands i) j) opening.0 between.0
-          first = filled.queues j opening.0 between.0 opening.1 between.1
+          first : WentBy (length team) (λ i. calls_by_hand (slice_get part.filled.hands i) j) opening.0 between.0
+          first = part.filled.queues j opening.0 between.0 opening.1 between.1
 
           second : WentBy (length team1) (λ i. calls_by_hand (slice_get drained.hands i) j) between.0 q
           second = drained.queues j between.0 q between.1 at_q
 
           opened : opening.0 ≡ opened_for g j
-          opened = empty_at g 0 m j opening.0 (ap (λ (l : List PlainQueue). slice_get l j) (sym empty) ∙ opening.1)
+          opened = empty_at g 0 m j opening.0 (ap (λ (l : List PlainQueue). slice_get l j) (sym part.empty) ∙ opening.1)
               ∙ ap (opened_for g) (let s : 0 + j ≡ j = omega arith in s)
 
           first_leads : Leads (opened_for g j) first.log between.0
@@ -439,7 +435,7 @@ module _ (a : Question) (ix : IndexParts) (m : ℕ) (roots : Roots) (best : Best
           fill_calls i y at =
               let e = all.each i y at in
               let within = slice_get_within team2 i e.cell e.at in
-              first.own i (let x = team_count in omega arith) ∙ ap (λ o. calls_by_hand o j) e.fill.at
+              first.own i (let x = team_count in let z = begun.as_many in omega arith) ∙ ap (λ o. calls_by_hand o j) e.fill.at
 
           drain_calls : (i : ℕ) (y : RecordedWorker) (at : slice_get ys i ≡ Some y)
               → calls_by i second.log ≡ calls_at (all.each i y at).hand j
@@ -452,9 +448,9 @@ module _ (a : Question) (ix : IndexParts) (m : ℕ) (roots : Roots) (best : Best
           agrees = record {
             callers = all_both (λ (x : Made QueueCall QueueReply). x.caller < length ys) first.log second.log
                 (subst (λ (k : ℕ). All (λ (x : Made QueueCall QueueReply). x.caller < k) first.log)
-                (as_many ∙ sym (all.count ∙ team_count)) first.callers_only)
+                (begun.as_many ∙ sym (all.count ∙ team_count)) first.callers_only)
                 (subst (λ (k : ℕ). All (λ (x : Made QueueCall QueueReply). x.caller < k) second.log)
-                (filled.same ∙ as_many ∙ sym (all.count ∙ team_count)) second.callers_only);
+                (part.filled.same ∙ begun.as_many ∙ sym (all.count ∙ team_count)) second.callers_only);
             members = λ i y at.
                 let e = all.each i y at in
                 subst (Agrees j y)
@@ -468,7 +464,7 @@ module _ (a : Question) (ix : IndexParts) (m : ℕ) (roots : Roots) (best : Best
           member : (x : Made QueueCall QueueReply) → In x first.log → (y : RecordedWorker) × (slice_get ys x.caller ≡ Some y)
           member x i =
               let low = in_all (λ (x : Made QueueCall QueueReply). x.caller < length team) first.log x first.callers_only i in
-              get_some ys x.caller (let u = all.count in let v = team_count in omega arith)
+              get_some ys x.caller (let u = all.count in let v = team_count in let z = begun.as_many in omega arith)
 
           fill_puts : ArePuts first.log
           fill_puts x i =
@@ -479,7 +475,7 @@ module _ (a : Question) (ix : IndexParts) (m : ℕ) (roots : Roots) (best : Best
           drain_pops : ArePops second.log
           drain_pops x i =
               let low = in_all (λ (x : Made QueueCall QueueReply). x.caller < length team1) second.log x second.callers_only i in
-              let y = get_some ys x.caller (let u = all.count in let v = team_count in let w = filled.same in omega arith) in
+              let y = get_some ys x.caller (let u = all.count in let v = drained.same in omega arith) in
               (all.each x.caller y.0 y.1).went.calls j x
               (subst (In x) (drain_calls x.caller y.0 y.1) (of_caller x second.log i))
 
@@ -507,7 +503,7 @@ module _ (a : Question) (ix : IndexParts) (m : ℕ) (roots : Roots) (best : Best
               (λ i low. (calls_by i first.log, refl)) in
               let sum = by_team (puts_at l) (total (puts_at l)) hs.items first.log
               (subst (λ (k : ℕ). All (λ (x : Made QueueCall QueueReply). x.caller < k) first.log)
-              (as_many ∙ sym (hs.count ∙ all.count ∙ team_count)) first.callers_only)
+              (begun.as_many ∙ sym (hs.count ∙ all.count ∙ team_count)) first.callers_only)
               (λ i h at. ap (total (puts_at l)) (sym (hs.each i h at))) in
               let most = totals_most (total (puts_at l)) (puts_by l) hs.items ys hs.count
               (λ i h y at_h at_y.
@@ -551,37 +547,29 @@ module _ (a : Question) (ix : IndexParts) (m : ℕ) (roots : Roots) (best : Best
           stands = stands;
           done = worker_done;
           claims = once;
-          all_claimed = all_claimed;
+          all_claimed = λ i y x at none low.
+              given_all roots opens.size draws ys draws_count draws_tied draws_ended passes passes_are drawn i y x at
+              (let nodes = opens.searches.index.one_node_each in
+              let long = length-map ix.nodes leaf_numbers in
+              let c = opens.count in
+              omega arith);
           reads = in_range;
           queue_count = queues_are;
           queues = λ j q at. says j (let low = slice_get_within qs2 j q at in let c = queues_are in omega arith) q at;
         }
 
-        placed_all : Rattle.search_machine.specs.Closes.NoneRefused ys
-        placed_all i y p at put =
-            let right = (stands i y at).puts p put in
-            let low : p.queue < m = let l = Rattle.std.proofs.Math.Nat.mod-lt p.entry.leaf some in let r = right.queue in omega arith in
-            let q = get_some qs2 p.queue (let c = queues_are in omega arith) in
-            none_refused p.queue low q.0 q.1 i y p at put refl
+        closes_straight : ClosesStraight g ys qs2
+        closes_straight = record {
+          closes = closes;
+          placed = λ i y p at put.
+              let right = (stands i y at).puts p put in
+              let low : p.queue < m = let l = mod-lt p.entry.leaf some in let r = right.queue in omega arith in
+              let q = get_some qs2 p.queue (let c = queues_are in omega arith) in
+              none_refused p.queue low q.0 q.1 i y p at put refl;
+          order = λ j q at. in_order j (let low = slice_get_within qs2 j q at in let c = queues_are in omega arith) q at;
+        }
 
         pub ends_right : (ws : List Working) (ls : List QueueLine) → ws ≡ map (λ (c : Between). c.worker) team2
             → ls ≡ map line_of qs2 → EndsRight g ws ls
-        ends_right ws ls ws_are ls_are = record {
-          state = final g ys qs2;
-          ends = record {
-            workers = record {
-              count = ap (λ l. length l) ws_are ∙ length-map team2 (λ (c : Between). c.worker) ∙ sym all.count
-                  ∙ sym (length-map ys (λ (x : RecordedWorker). x.worker));
-              shows = λ i w v at_w at_v.
-                  let y = get_map (λ (x : RecordedWorker). x.worker) ys i v at_v in
-                  let e = all.each i y.0 y.1 in
-                  let there = sym (map_at (λ (c : Between). c.worker) team2 i e.cell e.at)
-                  ∙ ap (λ l. slice_get l i) (sym ws_are) ∙ at_w in
-                  subst (Shows w) y.2 (subst (λ w. Shows w y.0.worker) (same_Some e.cell.worker w there) e.knows.shows);
-            };
-            lines = ls_are;
-          };
-          legal = closed_legal g fits ys qs2 closes;
-          straight = closed_straight g fits ys qs2 closes placed_all
-              (λ j q at. in_order j (let low = slice_get_within qs2 j q at in let c = queues_are in omega arith) q at);
-        }
+        ends_right ws ls ws_are ls_are = ends_as g fits ys qs2 closes_straight (λ (c : Between). c.worker) team2 all.count
+            (λ i y at. let e = all.each i y at in (e.cell, e.at, e.knows.shows)) ws ls ws_are ls_are

@@ -1,5 +1,5 @@
 -- What a searcher is as it opens, and where it is after some turns.
-use Rattle.std.proofs.Common.{◌≡◌, ◌≢◌, ℕ, zero, suc, ◌<◌, List, [], None, Some, true, false, All, map, refl, replicate, sym, ap, ◌∙◌, subst, arith}
+use Rattle.std.proofs.Common.{◌≡◌, ◌≢◌, ℕ, zero, suc, ◌<◌, List, [], None, Some, false, All, map, refl, replicate, sym, ap, ◌∙◌, subst, arith}
 use Rattle.std.specs.Prelude.{slice_get}
 use Rattle.std.proofs.lemmas.Bool.{true≢false}
 use Rattle.list_totals.specs.Standing.{In}
@@ -15,10 +15,10 @@ use Rattle.search_machine.specs.Stands.{OwnPhase, StandsFor}
 use Rattle.search_machine.specs.Workers.{fills}
 use Rattle.search_machine.proofs.EveryReply.{own_idle, own_leader}
 use Rattle.search_machine.proofs.Places.{get_replicate}
-use Rattle.query_core.specs.Questions.{CanBeSearched, Question, last_of, search_over}
+use Rattle.query_core.specs.Questions.{Question, last_of, search_over}
 use Rattle.query_core.specs.Teams.{AreHired}
 use Rattle.query_core.specs.Turning.{search_of}
-use Rattle.query_core.specs.Working.{IsOf, Shows, Working, opens_as}
+use Rattle.query_core.specs.Working.{IsOf, Working, opens_as}
 use Rattle.query_core.proofs.OfIndex.{search_fits}
 use Rattle.live_query.specs.Holding.{Held, fresh_held}
 use Rattle.live_query.specs.RootClaims.{DrawTied, IsOwn, Roots}

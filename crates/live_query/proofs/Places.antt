@@ -1,10 +1,12 @@
 -- Lists by their places: a list of what there is for each place (`choose`), lists whose items give the same by place
 -- (`totals_same`, `maps_same`), and what a mapped list holds.
-use Rattle.std.proofs.Common.{◌≡◌, ℕ, zero, suc, ◌<◌, List, [], ◌∷◌, ◌++◌, Some, All, get_or, length, map, refl, sym, ap, ◌∙◌, subst, arith}
+use Rattle.std.proofs.Common.{◌≡◌, ℕ, zero, suc, ◌<◌, ◌≤◌, List, [], ◌∷◌, ◌++◌, Some, All, get_or, length, map, refl, sym, ap, ◌∙◌, subst, ⊎_elim, append_assoc, arith}
 use Rattle.std.specs.Prelude.{slice_get, slice_index_or}
 use Rattle.std.proofs.lemmas.List.{map-append}
 use Rattle.std.proofs.lemmas.Option.{none-some, same_Some, slice_get-get_or, slice_get_within, get_or_from_slice_get}
+use Rattle.list_totals.specs.Standing.{In}
 use Rattle.list_totals.specs.Totals.{total}
+use Rattle.list_totals.proofs.Standing.{in_append}
 use Rattle.search_machine.proofs.Places.{get_map, get_some}
 
 -- a list of what there is for each of n places
@@ -29,16 +31,25 @@ choose {Y} (suc n) P f =
     each_of first rest zero y e = subst (P 0) (same_Some first.0 y e) first.1
     each_of first rest (suc i) y e = rest.each i y e
 
--- totals are the same where the parts at each place are
+-- a total is at most another where the parts at each place are
+pub totals_most : {X Y : Type 0} (f : X → ℕ) (h : Y → ℕ) (xs : List X) (ys : List Y) → length xs ≡ length ys
+    → ((i : ℕ) (x : X) (y : Y) → slice_get xs i ≡ Some x → slice_get ys i ≡ Some y → f x ≤ h y)
+    → total f xs ≤ total h ys
+totals_most f h [] [] e most = omega arith
+totals_most f h [] (y ∷ ys) e most = absurd (omega arith)
+totals_most f h (x ∷ xs) [] e most = absurd (omega arith)
+totals_most f h (x ∷ xs) (y ∷ ys) e most =
+    let here = most 0 x y refl refl in
+    let rest = totals_most f h xs ys (omega arith) (λ i a b p q. most (suc i) a b p q) in
+    omega arith
+
+-- and the same where the parts are
 pub totals_same : {X Y : Type 0} (f : X → ℕ) (h : Y → ℕ) (xs : List X) (ys : List Y) → length xs ≡ length ys
     → ((i : ℕ) (x : X) (y : Y) → slice_get xs i ≡ Some x → slice_get ys i ≡ Some y → f x ≡ h y)
     → total f xs ≡ total h ys
-totals_same f h [] [] e same = refl
-totals_same f h [] (y ∷ ys) e same = absurd (omega arith)
-totals_same f h (x ∷ xs) [] e same = absurd (omega arith)
-totals_same f h (x ∷ xs) (y ∷ ys) e same =
-    let here = same 0 x y refl refl in
-    let rest = totals_same f h xs ys (omega arith) (λ i a b p q. same (suc i) a b p q) in
+totals_same f h xs ys e same =
+    let most = totals_most f h xs ys e (λ i x y p q. let s = same i x y p q in omega arith) in
+    let least = totals_most h f ys xs (sym e) (λ i y x q p. let s = same i x y p q in omega arith) in
     omega arith
 
 -- mapped lists are the same where the items at each place are
@@ -113,13 +124,31 @@ all_ends P xs x all = (
     get_end [] = refl
     get_end (z ∷ zs) = get_end zs
 
--- what holds of all items holds of the one in the middle
-pub all_middle : {X : Type 0} (P : X → Type 0) (xs ys all : List X) (x : X) → xs ++ x ∷ ys ≡ all → All P all → P x
-all_middle P xs ys all x is each = all_at P all (length xs) x each (subst (λ l. slice_get l (length xs) ≡ Some x) is (at xs))
-  where
-    at : (xs : List _) → slice_get (xs ++ x ∷ ys) (length xs) ≡ Some x
-    at [] = refl
-    at (z ∷ zs) = at zs
+-- a list that is cut before its next item
+module _ {X : Type 0} {left rest all : List X} {x : X} (done : List X) (next : left ≡ x ∷ rest) (whole : done ++ left ≡ all) where
+  with_next : done ++ x ∷ rest ≡ all
+  with_next = ap (λ (xs : List X). done ++ xs) (sym next) ∙ whole
+
+  -- cut behind that item
+  pub cut_later : (done ++ x ∷ []) ++ rest ≡ all
+  cut_later = append_assoc done (x ∷ []) rest ∙ with_next
+
+  pub at_next : slice_get all (length done) ≡ Some x
+  at_next = subst (λ (l : List X). slice_get l (length done) ≡ Some x) with_next (at done)
+    where
+      at : (xs : List X) → slice_get (xs ++ x ∷ rest) (length xs) ≡ Some x
+      at [] = refl
+      at (z ∷ zs) = at zs
+
+  -- what holds of all items holds of the next
+  pub all_next : (P : X → Type 0) → All P all → P x
+  all_next P each = all_at P all (length done) x each at_next
+
+-- what stands in a list with one item more stands in the list or is that item
+pub in_pushed : {X P : Type 0} (x z : X) (xs : List X) → In x (xs ++ z ∷ []) → (In x xs → P) → (x ≡ z → P) → P
+in_pushed x z xs i old last = ⊎_elim old
+    (λ (h : In x (z ∷ [])). ⊎_elim last (λ (none : ⊥). absurd none) h)
+    (in_append x xs (z ∷ []) i)
 
 -- a list of images with one more is the image of the list with one more
 pub map_more : {X Y : Type 0} (f : X → Y) (xs : List X) (x : X) (y : Y) (ys zs : List Y) → zs ≡ ys ++ y ∷ [] → ys ≡ map f xs

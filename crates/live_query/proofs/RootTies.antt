@@ -1,5 +1,5 @@
 -- What a claim did to a worker's draws, its longer record says too (`drawn_ties`).
-use Rattle.std.proofs.Common.{◌≡◌, ℕ, zero, suc, ◌+◌, ◌*◌, ◌/◌, ◌<◌, ◌≤◌, ◌⊎◌, List, [], ◌∷◌, Option, None, Some, min, sym, refl, ap, ◌∙◌, subst, inl, inr, ⊎_elim, arith}
+use Rattle.std.proofs.Common.{◌≡◌, ℕ, ◌+◌, ◌*◌, ◌/◌, ◌<◌, ◌≤◌, ◌⊎◌, List, [], ◌∷◌, Option, None, Some, min, sym, refl, ap, ◌∙◌, subst, ⊎_elim, arith}
 use Rattle.std.proofs.Math.Nat.{div-eq_of_lt-le, div-mul-le_self, lt-div-mul-add}
 use Rattle.std.proofs.lemmas.Bool.{true≢false}
 use Rattle.std.proofs.lemmas.Bool.Decides.{nat_tests}
@@ -7,9 +7,9 @@ use Rattle.std.proofs.lemmas.Option.{none-some}
 use Rattle.list_totals.specs.Standing.{In}
 use Rattle.list_totals.specs.Totals.{one_if_same, times, total}
 use Rattle.list_totals.proofs.Totals.{times_push}
-use Rattle.claim_word.specs.Passes.{Pass, drew}
+use Rattle.claim_word.specs.Passes.{Pass}
 use Rattle.search_machine.specs.OwnRecord.{claims_of}
-use Rattle.live_query.specs.RootClaims.{DidClaim, Drawn, DrawTied, GivesFirst, GivesNext, GivesNone, IsOwn, Roots, fresh_drawn, keeps, once_from}
+use Rattle.live_query.specs.RootClaims.{DidClaim, Drawn, DrawTied, GivesFirst, GivesNext, GivesNone, IsOwn, Roots, fresh_drawn, once_from}
 
 -- the first of a stretch, and the others
 from_next : (n b c : ℕ) → n < b → once_from n b c ≡ one_if_same c n + once_from (n + 1) b c
@@ -63,6 +63,13 @@ group_is size p c some =
     (low_or_not c (p * size))
 
 module _ (r : Roots) (some : 0 < r.size) (d k : Drawn) (claims : List (Option ℕ)) (t : DrawTied r d claims) where
+  -- where a number that is one is given, no other was
+  other_real : (n : ℕ) → n < r.count → (c : ℕ) → r.count ≤ c → total (claims_of c) (Some n ∷ claims) ≡ 0
+  other_real n low c out =
+      let old = t.real c out in
+      let other = same_no c n (λ e. omega arith) in
+      omega arith
+
   next_tied : (n : ℕ) → n < r.count → GivesNext d n k → DrawTied r k (Some n ∷ claims)
   next_tied n low g = subst (λ (k : Drawn). DrawTied r k (Some n ∷ claims)) (sym g.after) (record {
     given = λ c real.
@@ -70,10 +77,7 @@ module _ (r : Roots) (some : 0 < r.size) (d k : Drawn) (claims : List (Option �
         let step = from_next n d.end c g.kept in
         let at = ap (λ a. once_from a d.end c) g.next in
         omega arith;
-    real = λ c out.
-        let old = t.real c out in
-        let other = same_no c n (λ e. omega arith) in
-        omega arith;
+    real = other_real n low;
     ended = λ i. ⊎_elim (λ (e : None ≡ Some n). absurd (none-some n e))
         (λ (i : In None claims). let h = (t.ended i).1 in let a = g.next in let b = g.kept in absurd (omega arith)) i;
   })
@@ -89,10 +93,7 @@ module _ (r : Roots) (some : 0 < r.size) (d k : Drawn) (claims : List (Option �
         let step = from_next n (n + r.size) c (omega arith) in
         let cut = from_min r.count (n + 1) (n + r.size) c real in
         omega arith;
-    real = λ c out.
-        let old = t.real c out in
-        let other = same_no c n (λ e. omega arith) in
-        omega arith;
+    real = other_real n low;
     ended = λ i. ⊎_elim (λ (e : None ≡ Some n). absurd (none-some n e))
         (λ (i : In None claims). absurd (true≢false (sym (t.ended i).0 ∙ g.goes_on))) i;
   })

@@ -21,7 +21,7 @@ use Rattle.subtree_build.specs.Outline.{leaf_numbers}
 use Rattle.search_machine.specs.declared.phase.Phase.TheVariants.{Done}
 use Rattle.search_machine.specs.declared.outcome.QueueLine.{QueueLine}
 use Rattle.search_machine.specs.Basics.{Between, Ordered, entered}
-use Rattle.search_machine.specs.Closes.{AllStand, CameByPop, CameByPut, ClaimedOnce, Closes, ClosesStraight, QueueCloses, claimed_by, final, placed_by, placed_of, popped_by}
+use Rattle.search_machine.specs.Closes.{AllStand, CameByPop, CameByPut, ClaimedOnce, Closes, ClosesStraight, QueueCloses, claimed_by, placed_by, placed_of, popped_by}
 use Rattle.search_machine.specs.Ground.{Fits, Ground, entry_of, queue_of, start_limit}
 use Rattle.search_machine.specs.Machine.{capacity_of}
 use Rattle.search_machine.specs.Outcome.{line_of}
@@ -30,31 +30,27 @@ use Rattle.search_machine.specs.Sound.{takes, waits}
 use Rattle.search_machine.specs.Stands.{OwnDrains, OwnPhase, StandsFor}
 use Rattle.search_machine.proofs.AnyWorkers.{stands_any}
 use Rattle.search_machine.proofs.CallCounts.{placed_is}
-use Rattle.search_machine.proofs.Closing.{closed_legal}
-use Rattle.search_machine.proofs.ClosedStraight.{closed_straight}
 use Rattle.search_machine.proofs.Counts.{same_counts}
 use Rattle.search_machine.proofs.OwnLate.{below_real}
 use Rattle.search_machine.proofs.Places.{get_map, get_some, total_at, total_some}
 use Rattle.search_machine.proofs.PutsOnce.{placed_put, puts_once}
-use Rattle.query_core.specs.Questions.{CanBeSearched, Question, search_over, view_in}
-use Rattle.query_core.specs.Working.{IsOf, Shows, Working}
+use Rattle.query_core.specs.Questions.{Question, search_over, view_in}
+use Rattle.query_core.specs.Working.{Working}
 use Rattle.query_core.proofs.OfIndex.{last_is, search_fits}
 use Rattle.live_query.specs.DrainHands.{given_of}
 use Rattle.live_query.specs.Knowing.{IsLater}
 use Rattle.live_query.specs.Marked.{IsMarked, IsRunOf, line_of_run}
-use Rattle.live_query.specs.Parts.{AllDrainOn, AllFilled, Draining, EndsRight, Resting, draining, marks_of}
+use Rattle.live_query.specs.Parts.{Draining, EndsRight, Resting, draining, marks_of}
 use Rattle.live_query.specs.Resting.{Kept}
-use Rattle.live_query.proofs.DrainGather.{Went, known_at, none_closed, went}
+use Rattle.live_query.proofs.DrainGather.{Outset, Turned, Went, known_at, none_closed, went}
+use Rattle.live_query.proofs.Endings.{ends_as}
 use Rattle.live_query.proofs.Openers.{moved, search_at}
 use Rattle.live_query.proofs.Marks.{entry_same}
 use Rattle.live_query.proofs.Places.{Chosen, all_at, all_from, choose, map_at, maps_same, totals_same}
 use Rattle.live_query.proofs.RunQueues.{ascending_ordered, entered_in, in_filter, is_left, least_from, least_some, left_of, left_or_taken, once_entered, ordered_filter, round_covers}
 
-module _ (a : Question) (ix : IndexParts) (m : ℕ) (best : Best) (searches : CanBeSearched a ix) (some : 0 < m)
-    (team : List Resting) (filled : AllFilled a ix m best team) (runs : List Run) (roots : ℕ)
-    (count : length runs ≡ m) (all_roots : roots ≡ length ix.roots)
-    (before cells : List Draining) (is : before ≡ map (draining runs roots) team)
-    (len : length cells ≡ length before) (on : AllDrainOn before cells)
+module _ {a : Question} {ix : IndexParts} {m : ℕ} {best : Best} {team : List Resting} {runs : List Run} {roots : ℕ}
+    (outset : Outset a ix m best team runs roots) {before cells : List Draining} (turned : Turned team runs roots before cells)
     (n : ℕ) (some_worker : 0 < n) (as_many : length team ≡ n)
     (start : best.start ≡ start_limit (search_over a ix 1 m))
     (done : All (λ (c : Draining). c.worker.phase ≡ Done) cells)
@@ -66,7 +62,7 @@ module _ (a : Question) (ix : IndexParts) (m : ℕ) (best : Best) (searches : Ca
 
   -- a searcher that has drained, with what it was after it had filled
   abbrev Way : ℕ → Draining → Type 0
-  Way i d = Went a ix m best searches some team filled runs roots count all_roots before cells is len on i d
+  Way i d = Went outset turned i d
 
   -- a searcher that is done, with the record of all its calls
   record Ended (i : ℕ) (y : RecordedWorker) : Type 0 where
@@ -78,15 +74,15 @@ module _ (a : Question) (ix : IndexParts) (m : ℕ) (best : Best) (searches : Ca
   ended : (i : ℕ) → i < length cells → (y : RecordedWorker) × Ended i y
   ended i low =
       let d = get_some cells i low in
-      let w = went a ix m best searches some team filled runs roots count all_roots before cells is len on i d.0 d.1 in
-      let y = w.goes.on w.record_of (known_at a ix m best searches some team filled runs roots count all_roots w.from w.record_of i w.has) in
+      let w = went outset turned i d.0 d.1 in
+      let y = w.goes.on w.record_of (known_at outset w.from w.record_of i w.has) in
       (y.0, record { cell = d.0; at = d.1; way = w; later = y.1 })
 
   abbrev g : Ground
   g = search_over a ix n m
 
   fits : Fits g
-  fits = search_fits a ix n m searches some_worker some
+  fits = search_fits a ix n m outset.searches some_worker outset.some
 
   all : Chosen (length cells) Ended
   all = choose (length cells) Ended ended
@@ -95,7 +91,7 @@ module _ (a : Question) (ix : IndexParts) (m : ℕ) (best : Best) (searches : Ca
   ys = all.items
 
   cells_count : length cells ≡ n
-  cells_count = len ∙ ap (λ l. length l) is ∙ length-map team (draining runs roots) ∙ as_many
+  cells_count = turned.len ∙ ap (λ l. length l) turned.is ∙ length-map team (draining runs roots) ∙ as_many
 
   stands : AllStand g ys
   stands i y at =
@@ -111,23 +107,23 @@ module _ (a : Question) (ix : IndexParts) (m : ℕ) (best : Best) (searches : Ca
       let e = all.each i y at in
       e.later.known.shows.phase ∙ all_at (λ (c : Draining). c.worker.phase ≡ Done) cells i e.cell done e.at
 
-  same_claims : (c : ℕ) → total (claimed_by c) ys ≡ total (claimed_by c) filled.records
+  same_claims : (c : ℕ) → total (claimed_by c) ys ≡ total (claimed_by c) outset.filled.records
   same_claims c =
-      totals_same (claimed_by c) (claimed_by c) ys filled.records
-      (all.count ∙ cells_count ∙ sym as_many ∙ sym filled.count)
+      totals_same (claimed_by c) (claimed_by c) ys outset.filled.records
+      (all.count ∙ cells_count ∙ sym as_many ∙ sym outset.filled.count)
       (λ i y x at_y at_x.
       let e = all.each i y at_y in
       let same = same_Some e.way.record_of x (sym e.way.at_record ∙ at_x) in
       ap (λ os. total (Rattle.search_machine.specs.OwnRecord.claims_of c) os) e.later.claims ∙ ap (claimed_by c) same)
 
   once : ClaimedOnce ys
-  once c = let e = same_claims c in let b = filled.once c in omega arith
+  once c = let e = same_claims c in let b = outset.filled.once c in omega arith
 
   in_range : (i : ℕ) (y : RecordedWorker) (v : ℕ) → slice_get ys i ≡ Some y → In v y.own.reads → Between g v
   in_range i y v at read =
       let e = all.each i y at in
       let r = e.later.known.tied.reads v read in
-      let low = e.way.goes.floor ∙ e.way.has.floor ∙ sym (last_is a ix n m searches.question) in
+      let low = e.way.goes.floor ∙ e.way.has.floor ∙ sym (last_is a ix n m outset.searches.question) in
       let high = ap (λ (b : Best). b.start) (e.way.goes.best ∙ e.way.has.word) ∙ start in
       (omega (arith, r.0, low), omega (arith, r.1, high))
 
@@ -196,7 +192,7 @@ module _ (a : Question) (ix : IndexParts) (m : ℕ) (best : Best) (searches : Ca
     vs = column passes j
 
     is_line : IsLine run vs line
-    is_line = lines.each j (omega (arith, low, count))
+    is_line = lines.each j (omega (arith, low, outset.count))
 
     is_run : IsRunOf (view_in a) ix (marks_of team) m j run.entries
     is_run = sealed j low
@@ -224,7 +220,7 @@ module _ (a : Question) (ix : IndexParts) (m : ℕ) (best : Best) (searches : Ca
         of_run k v at =
             let p = get_map (λ (vs : List Visit). visit_at vs j) passes k v at in
             subst (IsVisit run) p.2
-            ((all_at (IsPass runs) passes k p.0 own p.1).each j (let b = count in omega arith))
+            ((all_at (IsPass runs) passes k p.0 own p.1).each j (let b = outset.count in omega arith))
 
         handed_in : (e : Entry) (v : Visit) → IsVisit run v → In e (leaves run.entries v) → In e run.entries
         handed_in e v is i =
@@ -316,7 +312,7 @@ module _ (a : Question) (ix : IndexParts) (m : ℕ) (best : Best) (searches : Ca
         (λ i y c at_y at_c.
         let e = all.each i y at_y in
         let same = same_Some e.cell c (sym e.at ∙ at_c) in
-        let low : j < length e.cell.hand.runs = let b = ap (λ rs. length rs) e.way.goes.runs in omega arith in
+        let low : j < length e.cell.hand.runs = let b = ap (λ rs. length rs) e.way.goes.runs ∙ outset.count in omega arith in
         e.later.known.tied.popped j l low
         ∙ ap (λ rs. given_of l (run_at rs j) (visit_at e.cell.hand.visits j)) e.way.goes.runs
         ∙ ap (λ (c : Draining). given_of l run (visit_at c.hand.visits j)) same))
@@ -334,7 +330,7 @@ module _ (a : Question) (ix : IndexParts) (m : ℕ) (best : Best) (searches : Ca
         → is_some (visit_at (all.each i y at).cell.hand.visits j).closed ≡ true
     visit_shut i y at w =
         let e = all.each i y at in
-        e.later.known.tied.closed j (let b = ap (λ rs. length rs) e.way.goes.runs in omega arith) w
+        e.later.known.tied.closed j (let b = ap (λ rs. length rs) e.way.goes.runs ∙ outset.count in omega arith) w
 
     shut : (i : ℕ) (y : RecordedWorker) → slice_get ys i ≡ Some y → WasClosed y.own j
         → (v : ℕ) × (queue.kept ≡ Some v)
@@ -349,7 +345,7 @@ module _ (a : Question) (ix : IndexParts) (m : ℕ) (best : Best) (searches : Ca
         let y = get_some ys r.0 (omega (arith, inside, vs_count, all.count)) in
         let w = all.each r.0 y.0 y.1 in
         let same = same_Some (visit_at w.cell.hand.visits j) r.1 (sym (visit_of r.0 y.0 y.1) ∙ r.2) in
-        let k = w.later.known.tied.kept j v (let b = ap (λ rs. length rs) w.way.goes.runs in omega arith)
+        let k = w.later.known.tied.kept j v (let b = ap (λ rs. length rs) w.way.goes.runs ∙ outset.count in omega arith)
         (ap (λ (x : Visit). x.closed) same ∙ r.3) in
         record { place = r.0; member = y.0; at = y.1; made = k.0; has = k.1; limit = k.3 }
       where
@@ -415,7 +411,7 @@ module _ (a : Question) (ix : IndexParts) (m : ℕ) (best : Best) (searches : Ca
         let e = all.each i y at in
         let s = same_claims c in
         let roots = length-map ix.nodes leaf_numbers in
-        let x = filled.all_claimed i e.way.record_of c e.way.at_record
+        let x = outset.filled.all_claimed i e.way.record_of c e.way.at_record
         (subst (λ os. In None os) e.later.claims ended) (omega arith) in
         omega arith;
     reads = in_range;
@@ -435,25 +431,9 @@ module _ (a : Question) (ix : IndexParts) (m : ℕ) (best : Best) (searches : Ca
 
   pub ends_right : (ws : List Working) (ls : List QueueLine) → ws ≡ map (λ (c : Draining). c.worker) cells
       → ls ≡ map line_of_run closed → EndsRight g ws ls
-  ends_right ws ls ws_are ls_are = record {
-    state = final g ys queues.items;
-    ends = record {
-      workers = record {
-        count = ap (λ l. length l) ws_are ∙ length-map cells (λ (c : Draining). c.worker) ∙ sym all.count
-            ∙ sym (length-map ys (λ (x : RecordedWorker). x.worker));
-        shows = λ i w v at_w at_v.
-            let y = get_map (λ (x : RecordedWorker). x.worker) ys i v at_v in
-            let e = all.each i y.0 y.1 in
-            let there = sym (map_at (λ (c : Draining). c.worker) cells i e.cell e.at)
-            ∙ ap (λ l. slice_get l i) (sym ws_are) ∙ at_w in
-            subst (Shows w) y.2 (subst (λ w. Shows w y.0.worker) (same_Some e.cell.worker w there) e.later.known.shows);
-      };
-      lines = ls_are ∙ sym (maps_same line_of line_of_run queues.items closed (queues.count ∙ sym (lines.count ∙ count))
-          (λ j q l at_q at_l.
-          let s = queues.each j q at_q in
-          ap line_of s.same
-          ∙ ap line_of_run (get_or_from_slice_get closed j l no_line at_l)));
-    };
-    legal = closed_legal g fits ys queues.items closes;
-    straight = closed_straight g fits ys queues.items closes placed_all closes_straight.order;
-  }
+  ends_right ws ls ws_are ls_are = ends_as g fits ys queues.items closes_straight (λ (c : Draining). c.worker) cells all.count
+      (λ i y at. let e = all.each i y at in (e.cell, e.at, e.later.known.shows)) ws ls ws_are
+      (ls_are ∙ sym (maps_same line_of line_of_run queues.items closed (queues.count ∙ sym (lines.count ∙ outset.count))
+      (λ j q l at_q at_l.
+      let s = queues.each j q at_q in
+      ap line_of s.same ∙ ap line_of_run (get_or_from_slice_get closed j l no_line at_l))))

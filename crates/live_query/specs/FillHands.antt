@@ -1,5 +1,5 @@
 -- What the hand of a worker without locks holds in the fill part, what a call did to it, and when it is tied to an own record.
-use Rattle.std.specs.Prelude.{◌≡◌, ℕ, ◌<◌, ◌≤◌, ◌⊎◌, List, [], None, Some, Bool, true, false, length, replicate, slice_get, slice_set}
+use Rattle.std.specs.Prelude.{◌≡◌, ℕ, ◌<◌, ◌≤◌, ◌⊎◌, List, [], Some, Bool, true, false, length, slice_get, slice_set}
 use Rattle.list_totals.specs.Standing.{In}
 use Rattle.best_word.specs.Passes.{Best}
 use Rattle.series_core.specs.declared.queue_words.PutReply.TheVariants.{Placed, Filled}

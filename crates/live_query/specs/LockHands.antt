@@ -1,5 +1,5 @@
 -- What the hand of a worker over locked queues holds, and what a call did to it.
-use Rattle.std.specs.Prelude.{◌≡◌, ℕ, ◌<◌, ◌≤◌, ◌∷◌, ◌++◌, ◌⊎◌, List, [], Option, None, Some, length, true, slice_get, slice_set}
+use Rattle.std.specs.Prelude.{◌≡◌, ℕ, ◌≤◌, ◌∷◌, ◌++◌, ◌⊎◌, List, [], Option, None, Some, length, slice_get, slice_set}
 use Rattle.best_word.specs.Passes.{Best}
 use Rattle.turn_lock.specs.History.{entry}
 use Rattle.turn_lock.specs.Passes.{Pass as TurnPass, Lock, IsPassOf, made_by}

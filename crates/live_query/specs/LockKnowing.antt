@@ -1,5 +1,5 @@
 -- What a worker and its hand over locked queues know together, and what turns make of it.
-use Rattle.std.specs.Prelude.{◌≡◌, ◌≢◌, ℕ, ◌<◌, ◌≤◌, ◌++◌, List, None, Some, length, true, false, slice_get}
+use Rattle.std.specs.Prelude.{◌≡◌, ◌≢◌, ℕ, ◌<◌, ◌≤◌, ◌++◌, List, Some, length, false, slice_get}
 use Rattle.list_totals.specs.Totals.{total}
 use Rattle.list_totals.specs.Standing.{In}
 use Rattle.search_machine.specs.declared.phase.Phase.{Phase}

@@ -1,13 +1,12 @@
 -- The next searcher has its hand, with the next pass.
-use Rattle.std.proofs.Common.{◌≡◌, List, [], ◌∷◌, ◌++◌, All, sym, ap, ◌∙◌, subst, append_assoc, length-append, arith}
-use Rattle.std.specs.Vec.Iter.{into_iter_items}
+use Rattle.std.proofs.Common.{◌≡◌, List, [], ◌∷◌, All, sym, ap, ◌∙◌, subst, length-append, arith}
 use Rattle.best_word.specs.Passes.{Best}
 use Rattle.sealed_runs.specs.Sealing.{fresh_visits}
 use Rattle.sealed_runs.specs.Visits.{IsPass, Visit}
 use Rattle.live_query.specs.DrainHands.{DrainKept, drain_over}
 use Rattle.live_query.specs.Parts.{Draining, Resting, draining}
 use Rattle.live_query.specs.Resting.{Kept}
-use Rattle.live_query.proofs.Places.{all_ends, all_middle, map_more}
+use Rattle.live_query.proofs.Places.{all_ends, all_next, cut_later, map_more}
 use Rattle.live_query.proofs.drain_part.equip.Goals as goal
 
 pub new-requires-clause-pass : goal.new-requires-clause-pass
@@ -20,10 +19,6 @@ loop-searcher-preserved g c =
     let was = c.loop-searcher.invariant in
     let done : List Resting = c.loop-searcher.yielded in
     let searcher : Resting = c.in-Some.searcher in
-    let rest : List Resting = into_iter_items c.next.new.self in
-    let whole : done ++ searcher ∷ rest ≡ c.args.team.items
-    = ap (λ (xs : List Resting). done ++ xs) (sym c.in-Some.ensures.steps.0) ∙ was.whole in
-    let long = length-append done (searcher ∷ []) in
     let runs = c.args.runs.now.runs in
     let P : List Visit → Type 0 = λ p. p ≡ fresh_visits runs in
     let split = all_ends P c.pop.new.self.items c.in-Some-pop.pass
@@ -31,7 +26,7 @@ loop-searcher-preserved g c =
     let own = all_ends (IsPass runs) c.pop.new.self.items c.in-Some-pop.pass
     (subst (All (IsPass runs)) c.in-Some-pop.ensures.items was.own) in
     let word : searcher.hand.best ≡ c.args.word.now
-    = all_middle (λ (s : Resting). s.hand.best ≡ c.args.word.now) done rest c.args.team.items searcher whole c.requires.word in
+    = all_next done c.in-Some.ensures.steps.0 was.whole (λ (s : Resting). s.hand.best ≡ c.args.word.now) c.requires.word in
     let with_word : Best → Kept → List Visit → DrainKept
     = λ b k visits. drain_over b k.floor c.args.roots runs visits in
     let hand : c.new.result ≡ with_word searcher.hand.best searcher.hand (fresh_visits runs)
@@ -45,9 +40,9 @@ loop-searcher-preserved g c =
       turn = searcher.turn;
     } in
     record {
-      whole = append_assoc done (searcher ∷ []) rest ∙ whole;
-      len = omega (arith, c.push_reserved.ensures.len, was.len, long);
-      left = omega (arith, was.left, long, c.in-Some-pop.ensures.len);
+      whole = cut_later done c.in-Some.ensures.steps.0 was.whole;
+      len = omega (arith, c.push_reserved.ensures.len, was.len, length-append done (searcher ∷ []));
+      left = omega (arith, was.left, length-append done (searcher ∷ []), c.in-Some-pop.ensures.len);
       room = omega (arith, c.push_reserved.ensures.capacity, was.room);
       fresh = split.0;
       own = own.0;

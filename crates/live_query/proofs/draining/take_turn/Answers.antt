@@ -2,18 +2,14 @@
 use Rattle.live_query.proofs.DrainKnowing.{drain_serves, drain_on, drain_less, still_drains}
 use Rattle.live_query.proofs.draining.take_turn.Goals as goal
 
-pub returns-clause-serves : goal.returns-clause-serves
-returns-clause-serves g c =
-    drain_serves _ _ _ _ c.requires.serves c.turn.ensures.place c.requires.running c.requires.drains c.turn.ensures.turns
-
-pub returns-clause-drains : goal.returns-clause-drains
-returns-clause-drains g c =
-    still_drains _ _ _ _ c.requires.serves c.turn.ensures.place c.requires.running c.requires.drains c.turn.ensures.turns
-
-pub returns-clause-goes_on : goal.returns-clause-goes_on
-returns-clause-goes_on g c =
-    drain_on _ _ _ _ c.requires.serves c.turn.ensures.place c.requires.running c.requires.drains c.turn.ensures.turns
-
-pub returns-clause-less : goal.returns-clause-less
-returns-clause-less g c =
-    drain_less _ _ _ _ c.requires.serves c.turn.ensures.place c.requires.running c.requires.drains c.turn.ensures.turns
+pub returns : goal.returns
+returns g c =
+    let before = c.requires in
+    let turn = c.turn.ensures in
+    record {
+      serves = drain_serves _ _ _ _ before.serves turn.place before.running before.drains turn.turns;
+      drains = still_drains _ _ _ _ before.serves turn.place before.running before.drains turn.turns;
+      goes_on = drain_on _ _ _ _ before.serves turn.place before.running before.drains turn.turns;
+      less = drain_less _ _ _ _ before.serves turn.place before.running before.drains turn.turns;
+      done = turn.done;
+    }

@@ -1,37 +1,26 @@
 -- The next searcher has its hand, with its draws and fresh marks.
-use Rattle.std.proofs.Common.{◌≡◌, ℕ, Bool, List, [], ◌∷◌, ◌++◌, sym, ap, ◌∙◌, subst, append_assoc, length, length-append, replicate, false, arith}
-use Rattle.std.specs.Vec.Iter.{into_iter_items}
+use Rattle.std.proofs.Common.{◌≡◌, ℕ, Bool, List, [], ◌∷◌, sym, ap, ◌∙◌, subst, length, length-append, replicate, false, arith}
 use Rattle.best_word.specs.Passes.{Best}
 use Rattle.live_query.specs.FillHands.{FillKept}
 use Rattle.live_query.specs.Holding.{Held}
 use Rattle.live_query.specs.Parts.{Between, Filling, filling}
 use Rattle.live_query.specs.RootClaims.{IsOwn}
-use Rattle.live_query.proofs.Places.{all_middle, map_more}
+use Rattle.live_query.proofs.Places.{all_next, cut_later, map_more}
 use Rattle.live_query.proofs.fill_part.equip.Goals as goal
 
 pub new-requires-clause-own : goal.new-requires-clause-own
 new-requires-clause-own g c =
-    let was = c.loop-searcher.invariant in
-    let done : List Between = c.loop-searcher.yielded in
-    let searcher : Between = c.in-Some.searcher in
-    let rest : List Between = into_iter_items c.next.new.self in
-    let whole : done ++ searcher ∷ rest ≡ c.args.team.items
-    = ap (λ (xs : List Between). done ++ xs) (sym c.in-Some.ensures.steps.0) ∙ was.whole in
     subst (λ (h : Held). IsOwn c.args.claims.now h.drawn) (sym c.hand.view_is)
-    (all_middle (λ (s : Between). IsOwn c.args.claims.now s.hand.drawn) done rest c.args.team.items searcher whole
-    c.requires.own)
+    (all_next c.loop-searcher.yielded c.in-Some.ensures.steps.0 c.loop-searcher.invariant.whole
+    (λ (s : Between). IsOwn c.args.claims.now s.hand.drawn) c.requires.own)
 
 pub loop-searcher-preserved : goal.loop-searcher-preserved
 loop-searcher-preserved g c =
     let was = c.loop-searcher.invariant in
     let done : List Between = c.loop-searcher.yielded in
     let searcher : Between = c.in-Some.searcher in
-    let rest : List Between = into_iter_items c.next.new.self in
-    let whole : done ++ searcher ∷ rest ≡ c.args.team.items
-    = ap (λ (xs : List Between). done ++ xs) (sym c.in-Some.ensures.steps.0) ∙ was.whole in
-    let long = length-append done (searcher ∷ []) in
     let word : searcher.hand.best ≡ c.args.word.now
-    = all_middle (λ (s : Between). s.hand.best ≡ c.args.word.now) done rest c.args.team.items searcher whole c.requires.word in
+    = all_next done c.in-Some.ensures.steps.0 was.whole (λ (s : Between). s.hand.best ≡ c.args.word.now) c.requires.word in
     let over : Best → Held → List Bool → FillKept = λ b h marks. record {
       roots = c.args.claims.now;
       drawn = h.drawn;
@@ -47,8 +36,8 @@ loop-searcher-preserved g c =
       turn = searcher.turn;
     } in
     record {
-      whole = append_assoc done (searcher ∷ []) rest ∙ whole;
-      len = omega (arith, c.push_reserved.ensures.len, was.len, long);
+      whole = cut_later done c.in-Some.ensures.steps.0 was.whole;
+      len = omega (arith, c.push_reserved.ensures.len, was.len, length-append done (searcher ∷ []));
       room = omega (arith, c.push_reserved.ensures.capacity, was.room);
       ready = map_more (filling c.args.claims.now c.args.search.now.queues (length c.args.search.now.index.now.leaves)) done searcher
           (with_hand c.new.result) c.loop-searcher.ready.items c.push_reserved.new.self.items c.push_reserved.ensures.items was.ready

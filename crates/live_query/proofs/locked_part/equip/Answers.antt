@@ -1,6 +1,5 @@
 -- The next searcher has its hand, with the next pass of each lock.
-use Rattle.std.proofs.Common.{◌≡◌, ◌+◌, ◌<◌, ℕ, List, [], ◌∷◌, ◌++◌, length, refl, sym, ap, ◌∙◌, subst, append_assoc, length-append, arith}
-use Rattle.std.specs.Vec.Iter.{into_iter_items}
+use Rattle.std.proofs.Common.{◌≡◌, ◌+◌, ℕ, List, [], ◌∷◌, ◌++◌, length, refl, sym, ap, ◌∙◌, subst, length-append, arith}
 use Rattle.std.proofs.lemmas.Option.{slice_get_within}
 use Rattle.best_word.specs.Passes.{Best}
 use Rattle.live_query.specs.Holding.{Held}
@@ -8,38 +7,28 @@ use Rattle.live_query.specs.LockHands.{LockKept, lock_over}
 use Rattle.live_query.specs.RootClaims.{IsOwn}
 use Rattle.live_query.specs.LockParts.{AreDealt, AreEquipped, Locking}
 use Rattle.live_query.specs.Parts.{Between}
-use Rattle.live_query.proofs.LockColumns.{get_middle}
 use Rattle.live_query.proofs.LockGather.{equipped_more}
 use Rattle.live_query.proofs.LockRows.{dealt_less, front_new, fronts_own, rows_some}
-use Rattle.live_query.proofs.Places.{all_middle}
+use Rattle.live_query.proofs.Places.{all_next, at_next, cut_later}
 use Rattle.live_query.proofs.locked_part.equip.Goals as goal
 
 pub take_fronts-requires : goal.take_fronts-requires
 take_fronts-requires g c =
     let was = c.loop-searcher.invariant in
-    let done : List Between = c.loop-searcher.yielded in
-    let whole : done ++ c.in-Some.searcher ∷ into_iter_items c.next.new.self ≡ c.args.team.items
-    = ap (λ (xs : List Between). done ++ xs) (sym c.in-Some.ensures.steps.0) ∙ was.whole in
-    let low = slice_get_within c.args.team.items (length done) c.in-Some.searcher
-    (get_middle done (into_iter_items c.next.new.self) c.args.team.items c.in-Some.searcher whole) in
+    let low = slice_get_within c.args.team.items (length c.loop-searcher.yielded) c.in-Some.searcher
+    (at_next c.loop-searcher.yielded c.in-Some.ensures.steps.0 was.whole) in
     record {
       some = λ j row at.
-          let some = rows_some c.args.locks.now (length done) c.loop-searcher.rows.items was.dealt
+          let some = rows_some c.args.locks.now (length c.loop-searcher.yielded) c.loop-searcher.rows.items was.dealt
           (length c.args.team.items) c.requires.round.1.each low j row at in
           omega (arith, some, row.ok.0);
     }
 
 pub new-requires-clause-drawing : goal.new-requires-clause-drawing
 new-requires-clause-drawing g c =
-    let was = c.loop-searcher.invariant in
-    let done : List Between = c.loop-searcher.yielded in
-    let searcher : Between = c.in-Some.searcher in
-    let rest : List Between = into_iter_items c.next.new.self in
-    let whole : done ++ searcher ∷ rest ≡ c.args.team.items
-    = ap (λ (xs : List Between). done ++ xs) (sym c.in-Some.ensures.steps.0) ∙ was.whole in
     subst (λ (h : Held). IsOwn c.args.claims.now h.drawn) (sym c.hand.view_is)
-    (all_middle (λ (s : Between). IsOwn c.args.claims.now s.hand.drawn) done rest c.args.team.items searcher whole
-    c.requires.claims)
+    (all_next c.loop-searcher.yielded c.in-Some.ensures.steps.0 c.loop-searcher.invariant.whole
+    (λ (s : Between). IsOwn c.args.claims.now s.hand.drawn) c.requires.claims)
 
 pub new-requires-clause-own : goal.new-requires-clause-own
 new-requires-clause-own g c =
@@ -51,23 +40,19 @@ loop-searcher-preserved g c =
     let was = c.loop-searcher.invariant in
     let done : List Between = c.loop-searcher.yielded in
     let searcher : Between = c.in-Some.searcher in
-    let rest : List Between = into_iter_items c.next.new.self in
-    let whole : done ++ searcher ∷ rest ≡ c.args.team.items
-    = ap (λ (xs : List Between). done ++ xs) (sym c.in-Some.ensures.steps.0) ∙ was.whole in
-    let long = length-append done (searcher ∷ []) in
-    let count : length done + 1 ≡ length (done ++ searcher ∷ []) = omega arith in
+    let count : length done + 1 ≡ length (done ++ searcher ∷ []) = omega (arith, length-append done (searcher ∷ [])) in
     let locks = c.args.locks.now in
     let old = c.loop-searcher.rows.items in
     let passes = c.in_ok-passes.passes.items in
     let new = c.take_fronts.new.rows.items in
     let word : searcher.hand.best ≡ c.args.word.now
-    = all_middle (λ (s : Between). s.hand.best ≡ c.args.word.now) done rest c.args.team.items searcher whole c.requires.word in
+    = all_next done c.in-Some.ensures.steps.0 was.whole (λ (s : Between). s.hand.best ≡ c.args.word.now) c.requires.word in
     let over : Best → Held → LockKept = λ b h. lock_over c.args.claims.now h.drawn b h.floor locks passes in
     let cell : Locking
     = record { worker = searcher.worker; hand = c.new.result; number = searcher.number; turn = searcher.turn } in
     record {
-      whole = append_assoc done (searcher ∷ []) rest ∙ whole;
-      len = omega (arith, c.push_reserved.ensures.len, was.len, long);
+      whole = cut_later done c.in-Some.ensures.steps.0 was.whole;
+      len = omega (arith, c.push_reserved.ensures.len, was.len, length-append done (searcher ∷ []));
       room = omega (arith, c.push_reserved.ensures.capacity, was.room);
       dealt = subst (λ (n : ℕ). AreDealt locks n new) count
           (dealt_less locks (length done) old passes new was.dealt c.in_ok-passes.ensures);

@@ -1,6 +1,5 @@
 -- The next searcher, and its passes.
-use Rattle.std.proofs.Common.{◌≡◌, ℕ, List, [], ◌∷◌, ◌++◌, All, map, refl, sym, ap, ◌∙◌, subst, append_assoc, length-append, arith}
-use Rattle.std.specs.Vec.Iter.{into_iter_items}
+use Rattle.std.proofs.Common.{◌≡◌, ℕ, List, [], ◌∷◌, ◌++◌, All, map, sym, ap, ◌∙◌, subst, length-append, arith}
 use Rattle.std.proofs.lemmas.List.{map-append}
 use Rattle.std.proofs.lemmas.List.Elements.{All-push}
 use Rattle.best_word.specs.Passes.{Best}
@@ -8,7 +7,7 @@ use Rattle.live_query.specs.LockHands.{AreOwn, QueueLock, QueuePass}
 use Rattle.live_query.specs.LockParts.{Locking, Row, holding}
 use Rattle.live_query.specs.Parts.{Between}
 use Rattle.live_query.specs.RootClaims.{Drawn}
-use Rattle.live_query.proofs.Places.{all_middle, map_more}
+use Rattle.live_query.proofs.Places.{all_next, cut_later, map_more}
 use Rattle.live_query.proofs.locked_part.unequip.Goals as goal
 
 pub loop-searcher-preserved : goal.loop-searcher-preserved
@@ -16,10 +15,6 @@ loop-searcher-preserved g c =
     let was = c.loop-searcher.invariant in
     let done : List Locking = c.loop-searcher.yielded in
     let searcher : Locking = c.in-Some.searcher in
-    let rest : List Locking = into_iter_items c.next.new.self in
-    let whole : done ++ searcher ∷ rest ≡ c.args.team.items
-    = ap (λ (xs : List Locking). done ++ xs) (sym c.in-Some.ensures.steps.0) ∙ was.whole in
-    let long = length-append done (searcher ∷ []) in
     let parts = c.into_parts-drawing.ensures in
     let told = c.into_parts-drawing.result in
     let held = c.push_reserved-in-loop-searcher in
@@ -33,7 +28,7 @@ loop-searcher-preserved g c =
     let items : Row → List QueuePass = λ row. row.items in
     let own_passes : Locking → List QueuePass = λ c. c.hand.passes in
     record {
-      whole = append_assoc done (searcher ∷ []) rest ∙ whole;
+      whole = cut_later done c.in-Some.ensures.steps.0 was.whole;
       team = map_more holding done searcher (cell told.0 told.1.best told.1.floor) c.loop-searcher.held.items
           held.new.self.items held.ensures.items was.team
           (ap (λ (d : Drawn). cell d told.1.best told.1.floor) parts.drawn
@@ -44,14 +39,14 @@ loop-searcher-preserved g c =
           ∙ ap (λ (l : List (List QueuePass)). l ++ row.items ∷ []) was.passes
           ∙ ap (λ (z : List QueuePass). map own_passes done ++ z ∷ []) parts.passes
           ∙ sym (map-append own_passes done (searcher ∷ []));
-      len = omega (arith, c.push_reserved.ensures.len, was.len, long);
-      long = omega (arith, held.ensures.len, was.long, long);
+      len = omega (arith, c.push_reserved.ensures.len, was.len, length-append done (searcher ∷ []));
+      long = omega (arith, held.ensures.len, was.long, length-append done (searcher ∷ []));
       room = omega (arith, c.push_reserved.ensures.capacity, was.room);
       space = omega (arith, held.ensures.capacity, was.space);
       own = λ locks all.
           subst (All (λ (row : Row). AreOwn locks row.items)) (sym c.push_reserved.ensures.items)
           (All-push (λ (row : Row). AreOwn locks row.items) c.loop-searcher.rows.items row (was.own locks all)
           (subst (λ (ks : List QueueLock). AreOwn ks row.items)
-          (all_middle (λ (s : Locking). s.hand.locks ≡ locks) done rest c.args.team.items searcher whole all)
+          (all_next done c.in-Some.ensures.steps.0 was.whole (λ (s : Locking). s.hand.locks ≡ locks) all)
           parts.own));
     }

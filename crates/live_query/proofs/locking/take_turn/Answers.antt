@@ -2,20 +2,16 @@
 use Rattle.live_query.proofs.LockTurns.{locks_drain, locks_on, locks_pop, locks_put, locks_run, locks_serve}
 use Rattle.live_query.proofs.locking.take_turn.Goals as goal
 
-pub returns-clause-serves : goal.returns-clause-serves
-returns-clause-serves g c = locks_serve _ _ _ _ c.requires.serves c.turn.ensures.place c.turn.ensures.turns
-
-pub returns-clause-goes_on : goal.returns-clause-goes_on
-returns-clause-goes_on g c = locks_on _ _ _ _ c.requires.serves c.turn.ensures.place c.turn.ensures.turns
-
-pub returns-clause-runs : goal.returns-clause-runs
-returns-clause-runs g c = locks_run _ _ _ _ c.requires.serves c.turn.ensures.place c.turn.ensures.turns
-
-pub returns-clause-drains : goal.returns-clause-drains
-returns-clause-drains g c = locks_drain _ _ _ _ c.requires.serves c.turn.ensures.place c.turn.ensures.turns
-
-pub returns-clause-puts : goal.returns-clause-puts
-returns-clause-puts g c = locks_put _ _ _ _ c.requires.serves c.turn.ensures.place c.turn.ensures.turns
-
-pub returns-clause-pops : goal.returns-clause-pops
-returns-clause-pops g c = locks_pop _ _ _ _ c.requires.serves c.turn.ensures.place c.turn.ensures.turns
+pub returns : goal.returns
+returns g c =
+    let serves = c.requires.serves in
+    let turn = c.turn.ensures in
+    record {
+      serves = locks_serve _ _ _ _ serves turn.place turn.turns;
+      goes_on = locks_on _ _ _ _ serves turn.place turn.turns;
+      runs = locks_run _ _ _ _ serves turn.place turn.turns;
+      drains = locks_drain _ _ _ _ serves turn.place turn.turns;
+      puts = locks_put _ _ _ _ serves turn.place turn.turns;
+      pops = locks_pop _ _ _ _ serves turn.place turn.turns;
+      done = turn.done;
+    }

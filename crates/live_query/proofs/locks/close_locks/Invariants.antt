@@ -1,5 +1,5 @@
 -- The queues that came back so far; of each row the passes of the locks behind are left.
-use Rattle.std.proofs.Common.{◌≡◌, ◌≤◌, ℕ, ◌+◌, ◌++◌, List, Some, length, vec_capacity, vec_len}
+use Rattle.std.proofs.Common.{◌≡◌, ◌≤◌, ℕ, ◌++◌, Some, length, vec_capacity, vec_len}
 use Rattle.std.specs.Prelude.{slice_get}
 use Rattle.std.specs.Vec.Iter.{into_iter_items}
 use Rattle.leaf_queues.specs.PlainQueue.{PlainQueue}

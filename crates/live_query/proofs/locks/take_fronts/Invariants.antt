@@ -1,6 +1,5 @@
 -- The first passes of the rows so far; the rows behind them are as they were.
-use Rattle.std.proofs.Common.{◌≡◌, ℕ, ◌≤◌, vec_capacity, vec_len}
-use Rattle.std.specs.Prelude.{slice_get}
+use Rattle.std.proofs.Common.{◌≡◌, ◌≤◌, vec_capacity, vec_len}
 use Rattle.live_query.proofs.Fronts.{FrontsTo}
 use Rattle.live_query.proofs.locks.take_fronts.Given as goal
 

@@ -1,5 +1,5 @@
 -- The pass of the queue made the pop.
-use Rattle.std.proofs.Common.{◌≡◌, ◌<◌, Some, inr, length, sym, ap, ◌∙◌, arith}
+use Rattle.std.proofs.Common.{◌<◌, Some, inr, length, sym, ap, ◌∙◌, arith}
 use Rattle.std.specs.Prelude.{slice_get, slice_set}
 use Rattle.std.proofs.lemmas.Option.{slice_get-get_or}
 use Rattle.live_query.specs.LockHands.{LockKept}

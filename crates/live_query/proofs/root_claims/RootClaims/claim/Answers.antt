@@ -1,5 +1,5 @@
 -- A draw that gave no group ended the pass.
-use Rattle.std.proofs.Common.{◌∙◌, ap, arith, sym}
+use Rattle.std.proofs.Common.{◌∙◌, ap, arith}
 use Rattle.claim_word.specs.Passes.{Pass}
 use Rattle.live_query.specs.RootClaims.{Drawn}
 use Rattle.live_query.proofs.root_claims.RootClaims.claim.Goals as goal
