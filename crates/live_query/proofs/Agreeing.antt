@@ -41,6 +41,10 @@ popped_there : (m n l v : ℕ) (reply : PopReply) → (n ≡ m → ⊥)
 popped_there m n l v reply ne = ap (λ b. cond b (leaf_of l reply) 0) (ne_eqb n m ne)
 
 module _ (m : ℕ) (x y : RecordedWorker) (calls : History) (a : Agrees m x calls) where
+  -- a call that counts nothing leaves a count as it is
+  still : (z : Made QueueCall QueueReply) (f : Made QueueCall QueueReply → ℕ) → f z ≡ 0 → total f (calls ++ z ∷ []) ≡ total f calls
+  still z f none = let more = total_push f calls z in omega arith
+
   -- where the record has no more puts and pops, it agrees with the same calls
   pub agrees_same : y.own.puts ≡ x.own.puts → y.own.pops ≡ x.own.pops → Agrees m y calls
   agrees_same puts pops = record {
@@ -87,12 +91,7 @@ module _ (m : ℕ) (x y : RecordedWorker) (calls : History) (a : Agrees m x call
           let c : placed_at l z ≡ places_leaf l (ToPut e) (PutAnswer reply)
           = ap (λ c. places_leaf l c z.reply) is_call ∙ ap (places_leaf l (ToPut e)) is_reply in
           omega arith;
-      taken = λ l.
-          let s = ap (total (popped_of m l)) pops in
-          let b = a.taken l in
-          let more = total_push (taken_at l) calls z in
-          let c : taken_at l z ≡ 0 = ap (gives_leaf l) is_reply in
-          omega arith;
+      taken = λ l. still z (taken_at l) (ap (gives_leaf l) is_reply) ∙ a.taken l ∙ ap (total (popped_of m l)) (sym pops);
       puts = λ w d i is. in_pushed w z calls i
           (λ (old : In w calls). let p = a.puts w d old is in (p.0, subst (In p.0) (sym puts) (inr p.1), p.2, p.3))
           (λ (same : w ≡ z).
@@ -144,12 +143,8 @@ module _ (m : ℕ) (x y : RecordedWorker) (calls : History) (a : Agrees m x call
     pub agrees_pop_here : (z : Made QueueCall QueueReply) → z.call ≡ ToPop v → z.reply ≡ PopAnswer reply → n ≡ m
         → y.own.puts ≡ x.own.puts → y.own.pops ≡ pop ∷ x.own.pops → Agrees m y (calls ++ z ∷ [])
     agrees_pop_here z is_call is_reply here puts pops = record {
-      placed = λ l.
-          let s = ap (total (placed_of m l)) puts in
-          let b = a.placed l in
-          let more = total_push (placed_at l) calls z in
-          let c : placed_at l z ≡ 0 = ap (λ c. places_leaf l c z.reply) is_call in
-          omega arith;
+      placed = λ l. still z (placed_at l) (ap (λ c. places_leaf l c z.reply) is_call) ∙ a.placed l
+          ∙ ap (total (placed_of m l)) (sym puts);
       taken = λ l.
           let s = ap (total (popped_of m l)) pops in
           let b = a.taken l in

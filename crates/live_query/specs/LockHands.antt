@@ -58,6 +58,12 @@ pub record Called (h : LockKept) (m : ℕ) (call : QueueCall) (reply : QueueRepl
   pub number : pass.number ≡ before.number
   pub made : made_by pass ≡ made_by before ++ entry before.number call reply ∷ []
 
+-- a put is answered as a put, and a pop as a pop
+abbrev pub Answers : QueueCall → QueueReply → Type 0
+Answers (ToPut e) (PutAnswer reply) = Unit {0}
+Answers (ToPop v) (PopAnswer reply) = Unit {0}
+Answers _ _ = ⊥
+
 -- a call that names no queue takes no step
 abbrev pub NamesNone : LockKept → ℕ → LockKept → Type 0
 NamesNone h m k = (length h.passes ≤ m) × (k ≡ h)

@@ -19,7 +19,6 @@ mod locks;
 mod marked;
 mod opening;
 mod part;
-mod queue_calls;
 mod root_claims;
 mod sealed;
 mod search;

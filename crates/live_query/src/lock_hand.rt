@@ -1,13 +1,12 @@
 //! What a worker over locked queues shares: root children to claim, the bound word, and the queues, each under a lock of its own.
 //! It has one pass of each lock, and each put and pop is one call at the queue that it names.
-ghost use Rattle.std.specs.Prelude.{◌≡◌};
+ghost use Rattle.std.specs.Prelude.{◌≡◌, ◌<◌, length};
 ghost use Rattle.live_query.specs.RootClaims.{IsOwn};
-ghost use Rattle.live_query.specs.LockHands.{AreOwn, lock_over};
+ghost use Rattle.live_query.specs.LockHands.{Answers, AreOwn, Called, lock_over};
 
-use crate::queue_calls::{pop_from, put_into};
 use crate::root_claims::{Drawing, RootClaims};
 use best_word::{BestWord, WordPass};
-use leaf_queues::Queue;
+use leaf_queues::{Call, Queue, Reply};
 use query_core::Shared;
 use series_core::{Entry, PopReply, PutReply};
 use std::marker::Model;
@@ -89,6 +88,18 @@ impl<'a, W> LockHand<'a, W> {
     }
 }
 
+impl<'a, W: Wait> LockHand<'a, W> {
+    // One call at a queue, by the pass of its lock.
+    fn call(&mut self, queue: usize, call: Call) -> Reply
+        requires { queue < length self.old.passes }
+        ensures made { Called self.old queue call result self.new }
+        ensures answers { Answers call result }
+    {
+        let locks = self.locks;
+        locks[queue].call(self.rt, &mut self.passes[queue], call)
+    }
+}
+
 impl<'a, W: Wait> Shared for LockHand<'a, W> {
     ghost use Rattle.live_query.specs.LockHands.{LockDid};
 
@@ -116,8 +127,10 @@ impl<'a, W: Wait> Shared for LockHand<'a, W> {
         if queue >= self.passes.len() {
             return PutReply::Filled(0);
         }
-        let locks = self.locks;
-        put_into(self.rt, &locks[queue], &mut self.passes[queue], entry)
+        match self.call(queue, Call::Put(entry)) {
+            Reply::Put(reply) => reply,
+            Reply::Pop(_) => unreachable!(),
+        }
     }
 
     /// A pop that names no queue takes no step.
@@ -126,7 +139,9 @@ impl<'a, W: Wait> Shared for LockHand<'a, W> {
         if queue >= self.passes.len() {
             return PopReply::Closed(limit);
         }
-        let locks = self.locks;
-        pop_from(self.rt, &locks[queue], &mut self.passes[queue], limit)
+        match self.call(queue, Call::Pop(limit)) {
+            Reply::Pop(reply) => reply,
+            Reply::Put(_) => unreachable!(),
+        }
     }
 }
