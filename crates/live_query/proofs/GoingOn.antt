@@ -1,10 +1,18 @@
 -- Turns one after another: the worker keeps its place and the hand its objects, and in the drain part, whatever the record
 -- was, there is a later one.
-use Rattle.std.proofs.Common.{refl, ◌∙◌}
+use Rattle.std.proofs.Common.{◌≡◌, ap, refl, ◌∙◌}
 use Rattle.query_core.specs.Working.{IsOf, Working}
 use Rattle.live_query.specs.FillHands.{FillKept}
 use Rattle.live_query.specs.DrainHands.{DrainKept}
 use Rattle.live_query.specs.Knowing.{FillsOn, DrainsOn}
+use Rattle.live_query.specs.Searchers.{with_hand}
+use Rattle.live_query.specs.declared.searcher.Searcher.{Searcher}
+
+-- a searcher that let its hand go and took another has that one
+pub hand_taken : {W H K : Type 0} (s : Searcher W H) {rest : Searcher W (Unit {0})} {t : Searcher W K} {h k : K}
+    → rest ≡ with_hand s tt → t ≡ with_hand rest h → h ≡ k → t ≡ with_hand s k
+hand_taken {W} {H} {K} s {rest} {t} {h} go take is =
+    take ∙ ap (λ (r : Searcher W (Unit {0})). with_hand r h) go ∙ ap (λ (z : K). with_hand s z) is
 
 -- a worker is where it is
 pub same_place : (w : Working) → IsOf w.question w.index w.queues w.number w

@@ -73,19 +73,9 @@ fn equip<'a, 'b, R: Rows>(
         let Some(pass) = passes.pop() else {
             unreachable!()
         };
-        let Searcher {
-            worker,
-            hand,
-            number,
-            turn,
-        } = searcher;
+        let (hand, rest) = searcher.let_go();
         let Rested { seen, .. } = hand;
-        ready.push_reserved(Searcher {
-            worker,
-            hand: DrainHand::new(word, seen, runs, pass, queues, roots),
-            number,
-            turn,
-        });
+        ready.push_reserved(rest.take(DrainHand::new(word, seen, runs, pass, queues, roots)));
     }
     Ok(ready)
 }

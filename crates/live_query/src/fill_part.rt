@@ -57,19 +57,16 @@ fn equip<'a, 'b, R: Rows>(
     let mut ready = Vec::with_capacity(alloc, team.len())?;
     for searcher in team {
         let marks = no_marks(alloc, leaves)?;
-        let Searcher {
-            worker,
-            hand,
-            number,
-            turn,
-        } = searcher;
+        let (hand, rest) = searcher.let_go();
         let Holding { drawing, seen } = hand;
-        ready.push_reserved(Searcher {
-            worker,
-            hand: FillHand::new(claims, word, drawing, seen, search.queues, marks),
-            number,
-            turn,
-        });
+        ready.push_reserved(rest.take(FillHand::new(
+            claims,
+            word,
+            drawing,
+            seen,
+            search.queues,
+            marks,
+        )));
     }
     Ok(ready)
 }
@@ -92,20 +89,10 @@ fn unequip<'a, 'b, R: Rows>(
     let mut passes = Vec::with_capacity(alloc, team.len())?;
     let mut rested = Vec::with_capacity(alloc, team.len())?;
     for searcher in team {
-        let Searcher {
-            worker,
-            hand,
-            number,
-            turn,
-        } = searcher;
+        let (hand, rest) = searcher.let_go();
         let (drawing, seen, marks) = hand.into_parts();
         passes.push_reserved(drawing.into_pass());
-        rested.push_reserved(Searcher {
-            worker,
-            hand: Rested { seen, marks },
-            number,
-            turn,
-        });
+        rested.push_reserved(rest.take(Rested { seen, marks }));
     }
     Ok((passes, rested))
 }

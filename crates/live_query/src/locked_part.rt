@@ -70,19 +70,11 @@ fn equip<'a, 'b, T, R: Rows>(
     let mut ready = Vec::with_capacity(alloc, team.len())?;
     for searcher in team {
         let passes = take_fronts(alloc, &mut rows)?;
-        let Searcher {
-            worker,
-            hand,
-            number,
-            turn,
-        } = searcher;
+        let (hand, rest) = searcher.let_go();
         let Holding { drawing, seen } = hand;
-        ready.push_reserved(Searcher {
-            worker,
-            hand: LockHand::new(rt, claims, word, drawing, seen, locks, passes),
-            number,
-            turn,
-        });
+        ready.push_reserved(rest.take(LockHand::new(
+            rt, claims, word, drawing, seen, locks, passes,
+        )));
     }
     Ok(ready)
 }
@@ -106,20 +98,10 @@ fn unequip<'a, 'b, T, R: Rows>(
     let mut rows = Vec::with_capacity(alloc, team.len())?;
     let mut held = Vec::with_capacity(alloc, team.len())?;
     for searcher in team {
-        let Searcher {
-            worker,
-            hand,
-            number,
-            turn,
-        } = searcher;
+        let (hand, rest) = searcher.let_go();
         let (drawing, seen, passes) = hand.into_parts();
         rows.push_reserved(passes);
-        held.push_reserved(Searcher {
-            worker,
-            hand: Holding { drawing, seen },
-            number,
-            turn,
-        });
+        held.push_reserved(rest.take(Holding { drawing, seen }));
     }
     Ok((rows, held))
 }

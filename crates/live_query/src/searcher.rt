@@ -1,5 +1,6 @@
 //! A worker with what it shares the search by. It has plain parameters alone, so that it goes to a thread of its own.
 ghost use Rattle.std.specs.Prelude.{◌≡◌, ◌↔◌, Some, true, slice_get};
+ghost use Rattle.live_query.specs.Searchers.{with_hand};
 
 use crate::root_claims::Drawing;
 use best_word::WordPass;
@@ -16,6 +17,42 @@ pub struct Searcher<W, H> {
     pub number: u32,
     /// How many turns it has taken, over both parts.
     pub turn: u64,
+}
+
+impl<W, H> Searcher<W, H> {
+    /// Its hand, and the searcher without one.
+    pub(crate) fn let_go(self) -> (H, Searcher<W, ()>)
+        ensures hand { result.0 ≡ self.hand }
+        ensures rest { result.1 ≡ with_hand self tt }
+    {
+        let Searcher {
+            worker,
+            hand,
+            number,
+            turn,
+        } = self;
+        let rest = Searcher {
+            worker,
+            hand: (),
+            number,
+            turn,
+        };
+        (hand, rest)
+    }
+}
+
+impl<W> Searcher<W, ()> {
+    /// The searcher with this hand.
+    pub(crate) fn take<H>(self, hand: H) -> Searcher<W, H>
+        ensures { result ≡ with_hand self hand }
+    {
+        Searcher {
+            worker: self.worker,
+            hand,
+            number: self.number,
+            turn: self.turn,
+        }
+    }
 }
 
 /// What a searcher keeps before the parts, and over locked queues between them.

@@ -6,6 +6,7 @@ use Rattle.sealed_runs.specs.Visits.{IsPass, Visit}
 use Rattle.live_query.specs.DrainHands.{DrainKept, drain_over}
 use Rattle.live_query.specs.Parts.{Draining, Resting, draining}
 use Rattle.live_query.specs.Resting.{Kept}
+use Rattle.live_query.proofs.GoingOn.{hand_taken}
 use Rattle.live_query.proofs.Places.{all_ends, all_next, cut_later, map_more}
 use Rattle.live_query.proofs.drain_part.equip.Goals as goal
 
@@ -30,15 +31,9 @@ loop-searcher-preserved g c =
     let with_word : Best → Kept → List Visit → DrainKept
     = λ b k visits. drain_over b k.floor c.args.roots runs visits in
     let hand : c.new.result ≡ with_word searcher.hand.best searcher.hand (fresh_visits runs)
-    = c.new.ensures ∙ ap (λ (k : Kept). with_word c.args.word.now k c.in-Some-pop.pass) c.hand.view_is
+    = c.new.ensures ∙ ap (λ (k : Kept). with_word c.args.word.now k c.in-Some-pop.pass) (c.hand.view_is ∙ c.let_go-hand.ensures.hand)
     ∙ ap (with_word c.args.word.now searcher.hand) split.1
     ∙ ap (λ (b : Best). with_word b searcher.hand (fresh_visits runs)) (sym word) in
-    let with_hand : DrainKept → Draining = λ h. record {
-      worker = searcher.worker;
-      hand = h;
-      number = searcher.number;
-      turn = searcher.turn;
-    } in
     record {
       whole = cut_later done c.in-Some.ensures.steps.0 was.whole;
       len = omega (arith, c.push_reserved.ensures.len, was.len, length-append done (searcher ∷ []));
@@ -46,7 +41,7 @@ loop-searcher-preserved g c =
       room = omega (arith, c.push_reserved.ensures.capacity, was.room);
       fresh = split.0;
       own = own.0;
-      ready = map_more (draining runs c.args.roots) done searcher (with_hand c.new.result)
+      ready = map_more (draining runs c.args.roots) done searcher c.take.result
           c.loop-searcher.ready.items c.push_reserved.new.self.items c.push_reserved.ensures.items was.ready
-          (ap with_hand hand);
+          (hand_taken searcher c.let_go-hand.ensures.rest c.take.ensures hand);
     }

@@ -5,12 +5,13 @@ use Rattle.live_query.specs.FillHands.{FillKept}
 use Rattle.live_query.specs.Holding.{Held}
 use Rattle.live_query.specs.Parts.{Between, Filling, filling}
 use Rattle.live_query.specs.RootClaims.{IsOwn}
+use Rattle.live_query.proofs.GoingOn.{hand_taken}
 use Rattle.live_query.proofs.Places.{all_next, cut_later, map_more}
 use Rattle.live_query.proofs.fill_part.equip.Goals as goal
 
 pub new-requires-clause-own : goal.new-requires-clause-own
 new-requires-clause-own g c =
-    subst (λ (h : Held). IsOwn c.args.claims.now h.drawn) (sym c.hand.view_is)
+    subst (λ (h : Held). IsOwn c.args.claims.now h.drawn) (sym (c.hand.view_is ∙ c.let_go-hand.ensures.hand))
     (all_next c.loop-searcher.yielded c.in-Some.ensures.steps.0 c.loop-searcher.invariant.whole
     (λ (s : Between). IsOwn c.args.claims.now s.hand.drawn) c.requires.own)
 
@@ -29,19 +30,15 @@ loop-searcher-preserved g c =
       queues = c.args.search.now.queues;
       marks = marks;
     } in
-    let with_hand : FillKept → Filling = λ h. record {
-      worker = searcher.worker;
-      hand = h;
-      number = searcher.number;
-      turn = searcher.turn;
-    } in
     record {
       whole = cut_later done c.in-Some.ensures.steps.0 was.whole;
       len = omega (arith, c.push_reserved.ensures.len, was.len, length-append done (searcher ∷ []));
       room = omega (arith, c.push_reserved.ensures.capacity, was.room);
       ready = map_more (filling c.args.claims.now c.args.search.now.queues (length c.args.search.now.index.now.leaves)) done searcher
-          (with_hand c.new.result) c.loop-searcher.ready.items c.push_reserved.new.self.items c.push_reserved.ensures.items was.ready
-          (ap with_hand (c.new.ensures ∙ ap (λ (h : Held). over c.args.word.now h c.in_ok-marks.marks.items) c.hand.view_is
+          c.take.result c.loop-searcher.ready.items c.push_reserved.new.self.items c.push_reserved.ensures.items was.ready
+          (hand_taken searcher c.let_go-hand.ensures.rest c.take.ensures
+          (c.new.ensures
+          ∙ ap (λ (h : Held). over c.args.word.now h c.in_ok-marks.marks.items) (c.hand.view_is ∙ c.let_go-hand.ensures.hand)
           ∙ ap (over c.args.word.now searcher.hand)
           (c.in_ok-marks.ensures ∙ ap (λ (n : ℕ). replicate n false) c.leaf_count-leaves.ensures.count)
           ∙ ap (λ (b : Best). over b searcher.hand (replicate (length c.args.search.now.index.now.leaves) false)) (sym word)));

@@ -7,6 +7,8 @@ use Rattle.live_query.specs.LockHands.{LockKept, lock_over}
 use Rattle.live_query.specs.RootClaims.{IsOwn}
 use Rattle.live_query.specs.LockParts.{AreDealt, AreEquipped, Locking}
 use Rattle.live_query.specs.Parts.{Between}
+use Rattle.live_query.specs.Searchers.{with_hand}
+use Rattle.live_query.proofs.GoingOn.{hand_taken}
 use Rattle.live_query.proofs.LockGather.{equipped_more}
 use Rattle.live_query.proofs.LockRows.{dealt_less, front_new, fronts_own, rows_some}
 use Rattle.live_query.proofs.Places.{all_next, at_next, cut_later}
@@ -26,7 +28,7 @@ take_fronts-requires g c =
 
 pub new-requires-clause-drawing : goal.new-requires-clause-drawing
 new-requires-clause-drawing g c =
-    subst (λ (h : Held). IsOwn c.args.claims.now h.drawn) (sym c.hand.view_is)
+    subst (λ (h : Held). IsOwn c.args.claims.now h.drawn) (sym (c.hand.view_is ∙ c.let_go-hand.ensures.hand))
     (all_next c.loop-searcher.yielded c.in-Some.ensures.steps.0 c.loop-searcher.invariant.whole
     (λ (s : Between). IsOwn c.args.claims.now s.hand.drawn) c.requires.claims)
 
@@ -48,8 +50,9 @@ loop-searcher-preserved g c =
     let word : searcher.hand.best ≡ c.args.word.now
     = all_next done c.in-Some.ensures.steps.0 was.whole (λ (s : Between). s.hand.best ≡ c.args.word.now) c.requires.word in
     let over : Best → Held → LockKept = λ b h. lock_over c.args.claims.now h.drawn b h.floor locks passes in
-    let cell : Locking
-    = record { worker = searcher.worker; hand = c.new.result; number = searcher.number; turn = searcher.turn } in
+    let cell : Locking = c.take.result in
+    let taken : cell ≡ with_hand searcher c.new.result
+    = hand_taken searcher c.let_go-hand.ensures.rest c.take.ensures refl in
     record {
       whole = cut_later done c.in-Some.ensures.steps.0 was.whole;
       len = omega (arith, c.push_reserved.ensures.len, was.len, length-append done (searcher ∷ []));
@@ -57,9 +60,11 @@ loop-searcher-preserved g c =
       dealt = subst (λ (n : ℕ). AreDealt locks n new) count
           (dealt_less locks (length done) old passes new was.dealt c.in_ok-passes.ensures);
       equipped = subst (AreEquipped c.args.claims.now locks (done ++ searcher ∷ [])) (sym c.push_reserved.ensures.items)
-          (equipped_more c.args.claims.now locks done c.loop-searcher.ready.items searcher cell was.equipped refl (record {
+          (equipped_more c.args.claims.now locks done c.loop-searcher.ready.items searcher cell was.equipped
+          (ap (λ (d : Locking). d.worker) taken) (record {
             passes = passes;
-            is = c.new.ensures ∙ ap (over c.args.word.now) c.hand.view_is
+            is = ap (λ (d : Locking). d.hand) taken ∙ c.new.ensures
+                ∙ ap (over c.args.word.now) (c.hand.view_is ∙ c.let_go-hand.ensures.hand)
                 ∙ ap (λ (b : Best). over b searcher.hand) (sym word);
             count = c.in_ok-passes.ensures.count ∙ was.dealt.count;
             fresh = front_new locks (length done) old passes new was.dealt c.in_ok-passes.ensures;
