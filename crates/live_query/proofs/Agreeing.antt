@@ -1,5 +1,5 @@
 -- How the calls at a queue and a record that agree grow together, call by call.
-use Rattle.std.proofs.Common.{◌≡◌, ℕ, ◌++◌, [], ◌∷◌, true, false, cond, sym, refl, ap, ◌∙◌, subst, inl, inr, ⊎_elim, arith}
+use Rattle.std.proofs.Common.{◌≡◌, ℕ, ◌++◌, List, [], ◌∷◌, true, false, cond, sym, refl, ap, ◌∙◌, subst, inl, inr, ⊎_elim, arith}
 use Rattle.std.specs.Prelude.{not, ◌&&◌}
 use Rattle.std.proofs.lemmas.Bool.{eq-eqb, ne_eqb}
 use Rattle.list_totals.specs.Totals.{one_if_same, total}
@@ -45,6 +45,11 @@ module _ (m : ℕ) (x y : RecordedWorker) (calls : History) (a : Agrees m x call
   still : (z : Made QueueCall QueueReply) (f : Made QueueCall QueueReply → ℕ) → f z ≡ 0 → total f (calls ++ z ∷ []) ≡ total f calls
   still z f none = let more = total_push f calls z in omega arith
 
+  -- and one that counts as the record's put or pop does counts with it
+  counts : {X : Type 0} (z : Made QueueCall QueueReply) (f : Made QueueCall QueueReply → ℕ) (h : X → ℕ) (w : X) (xs ys : List X)
+      → total f calls ≡ total h xs → ys ≡ w ∷ xs → f z ≡ h w → total f (calls ++ z ∷ []) ≡ total h ys
+  counts z f h w xs ys old more same = let s = ap (total h) more in let t = total_push f calls z in omega arith
+
   -- where the record has no more puts and pops, it agrees with the same calls
   pub agrees_same : y.own.puts ≡ x.own.puts → y.own.pops ≡ x.own.pops → Agrees m y calls
   agrees_same puts pops = record {
@@ -82,15 +87,12 @@ module _ (m : ℕ) (x y : RecordedWorker) (calls : History) (a : Agrees m x call
     pub agrees_put_here : (z : Made QueueCall QueueReply) → z.call ≡ ToPut e → z.reply ≡ PutAnswer reply → n ≡ m
         → y.own.puts ≡ put ∷ x.own.puts → y.own.pops ≡ x.own.pops → Agrees m y (calls ++ z ∷ [])
     agrees_put_here z is_call is_reply here puts pops = record {
-      placed = λ l.
-          let s = ap (total (placed_of m l)) puts in
-          let b = a.placed l in
-          let more = total_push (placed_at l) calls z in
-          let d = placed_here m l e reply in
+      placed = λ l. counts z (placed_at l) (placed_of m l) put x.own.puts y.own.puts (a.placed l) puts
+          (let d = placed_here m l e reply in
           let q = ap (λ k. placed_of m l (record { queue = k; entry = e; reply = reply })) here in
           let c : placed_at l z ≡ places_leaf l (ToPut e) (PutAnswer reply)
           = ap (λ c. places_leaf l c z.reply) is_call ∙ ap (places_leaf l (ToPut e)) is_reply in
-          omega arith;
+          omega arith);
       taken = λ l. still z (taken_at l) (ap (gives_leaf l) is_reply) ∙ a.taken l ∙ ap (total (popped_of m l)) (sym pops);
       puts = λ w d i is. in_pushed w z calls i
           (λ (old : In w calls). let p = a.puts w d old is in (p.0, subst (In p.0) (sym puts) (inr p.1), p.2, p.3))
@@ -145,14 +147,11 @@ module _ (m : ℕ) (x y : RecordedWorker) (calls : History) (a : Agrees m x call
     agrees_pop_here z is_call is_reply here puts pops = record {
       placed = λ l. still z (placed_at l) (ap (λ c. places_leaf l c z.reply) is_call) ∙ a.placed l
           ∙ ap (total (placed_of m l)) (sym puts);
-      taken = λ l.
-          let s = ap (total (popped_of m l)) pops in
-          let b = a.taken l in
-          let more = total_push (taken_at l) calls z in
-          let d = popped_here m l v reply in
+      taken = λ l. counts z (taken_at l) (popped_of m l) pop x.own.pops y.own.pops (a.taken l) pops
+          (let d = popped_here m l v reply in
           let q = ap (λ k. popped_of m l (record { queue = k; limit = v; reply = reply })) here in
           let c : taken_at l z ≡ leaf_of l reply = ap (gives_leaf l) is_reply in
-          omega arith;
+          omega arith);
       puts = λ w d i is. in_pushed w z calls i
           (λ (old : In w calls). let p = a.puts w d old is in (p.0, subst (In p.0) (sym puts) p.1, p.2, p.3))
           (λ (same : w ≡ z).

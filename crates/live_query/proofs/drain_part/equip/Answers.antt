@@ -4,7 +4,7 @@ use Rattle.best_word.specs.Passes.{Best}
 use Rattle.sealed_runs.specs.Sealing.{fresh_visits}
 use Rattle.sealed_runs.specs.Visits.{IsPass, Visit}
 use Rattle.live_query.specs.DrainHands.{DrainKept, drain_over}
-use Rattle.live_query.specs.Parts.{Draining, Resting, draining}
+use Rattle.live_query.specs.Parts.{Resting, draining}
 use Rattle.live_query.specs.Resting.{Kept}
 use Rattle.live_query.proofs.GoingOn.{hand_taken}
 use Rattle.live_query.proofs.Places.{all_ends, all_next, cut_later, map_more}

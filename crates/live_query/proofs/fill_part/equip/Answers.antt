@@ -3,7 +3,7 @@ use Rattle.std.proofs.Common.{◌≡◌, ℕ, Bool, List, [], ◌∷◌, sym, ap
 use Rattle.best_word.specs.Passes.{Best}
 use Rattle.live_query.specs.FillHands.{FillKept}
 use Rattle.live_query.specs.Holding.{Held}
-use Rattle.live_query.specs.Parts.{Between, Filling, filling}
+use Rattle.live_query.specs.Parts.{Between, filling}
 use Rattle.live_query.specs.RootClaims.{IsOwn}
 use Rattle.live_query.proofs.GoingOn.{hand_taken}
 use Rattle.live_query.proofs.Places.{all_next, cut_later, map_more}
