@@ -1,5 +1,5 @@
 -- The last reply of a legal history is one to its call.
-use Rattle.std.proofs.Common.{◌≡◌, ℕ, [], ◌∷◌, ◌++◌, ◌∙◌, subst}
+use Rattle.std.proofs.Common.{◌≡◌, ℕ, [], ◌∷◌, ◌++◌, subst}
 use Rattle.turn_lock.specs.declared.object.Entry.{Entry as Made}
 use Rattle.turn_lock.specs.History.{IsLegal, EndsWith, entry}
 use Rattle.leaf_queues.specs.declared.calls.Call.{Call}

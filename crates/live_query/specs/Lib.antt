@@ -14,10 +14,11 @@ pub mod Holding
 pub mod Marked
 pub mod Parts
 pub mod LockParts
+-- A searcher that takes another hand.
+pub mod Searchers
 -- The definitions of the crates below that the public clauses cite.
 pub use Rattle.search_machine.specs.Closes
 pub use Rattle.search_machine.specs.Legal
 pub use Rattle.series_core.specs.Answer
 pub use Rattle.subtree_build.specs.Fits
 pub use Rattle.query_core.specs.Questions
-pub mod Searchers
