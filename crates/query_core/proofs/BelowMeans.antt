@@ -1,5 +1,5 @@
 -- Bounds by means are at most the distances: that of the box of a leaf's means for each of its members (`box_is_below`), that of
--- the box of leaves in a row (`group_is_far`), and that of a member's finer means (`finer_is_below`).
+-- the box of leaves in a row (`group_passed`), and that of a member's finer means (`finer_is_below`).
 use Rattle.std.proofs.Common.{◌≡◌, ◌+◌, ◌-◌, ◌*◌, ◌<◌, ◌≤◌, ℕ, ℤ, Bool, true, false, cond, List, [], length, map, take, drop, ap, sym, subst, ◌∙◌, arith}
 use Rattle.std.specs.Prelude.{ltb, slice_index_or}
 use Rattle.std.proofs.lemmas.List.{get_or-drop, get_or-map, get_or-take, length-drop, length-map, length-take}
@@ -10,20 +10,22 @@ use Rattle.series_core.specs.declared.rows.TheConstants.{MAX_VALUES}
 use Rattle.mean_bound.proofs.BelowDistances.{mean_bound_below}
 use Rattle.mean_bound.proofs.Boxes.{box_below, wider_below}
 use Rattle.mean_bound.proofs.Parts.{finer_below}
-use Rattle.mean_bound.specs.Boxes.{box_bound, box_of, box_of_boxes}
+use Rattle.mean_bound.specs.Boxes.{Box, box_bound, box_of, box_of_boxes}
 use Rattle.mean_bound.specs.Finer.{finer_bound, finer_means, finer_view}
-use Rattle.mean_bound.specs.MeanBound.{mean_bound, mean_view_of}
+use Rattle.mean_bound.specs.MeanBound.{View, mean_bound, mean_view_of}
 use Rattle.isax_word.specs.declared.member.Member.{Member}
 use Rattle.subtree_build.specs.Index.{IndexParts, leaf_at}
 use Rattle.subtree_build.specs.Means.{all_means, leaf_means, finer_of, finer_points, means_at, means_of}
 use Rattle.subtree_build.specs.Members.{numbers_of, series_at}
 use Rattle.subtree_build.proofs.Meaning.{means_of_leaf}
-use Rattle.query_core.specs.NearLeaves.{IsFar}
+use Rattle.series_core.specs.declared.queue_words.Entry.{Entry}
+use Rattle.query_core.specs.NearLeaves.{AreNearBelow, IsFar}
 use Rattle.query_core.specs.Questions.{CanBeSearched, IsQuestion, Question, leaf_series, search_over}
 use Rattle.query_core.proofs.Homes.{member_is_real}
+use Rattle.query_core.proofs.LeavesNear.{far_up_to}
 
 -- the bound of a series by its means
-means_are_below : (a : Question) (s : ℕ) → IsQuestion a → s < length a.collection.series → (m : Member) → m.number ≡ s
+pub means_are_below : (a : Question) (s : ℕ) → IsQuestion a → s < length a.collection.series → (m : Member) → m.number ≡ s
     → mean_bound (mean_view_of a.layout.cuts a.query) (means_of a.collection a.layout m)
     ≤ squared_distance (series_at a.collection s) a.query
 means_are_below a s is real m number =
@@ -63,7 +65,7 @@ box_is_below a ix l s searched real some =
     (omega (arith, boxed, low))
 
 -- where the box of leaves in a row is above a limit, each of them is far
-pub group_is_far : (a : Question) (ix : IndexParts) (size g v : ℕ) → CanBeSearched a ix
+group_is_far : (a : Question) (ix : IndexParts) (size g v : ℕ) → CanBeSearched a ix
     → v < box_bound (mean_view_of a.layout.cuts a.query) (box_of_boxes (map box_of (take size (drop (g * size) ix.means))))
     → (l : ℕ) → g * size ≤ l → l < g * size + size → l < length ix.leaves → IsFar (search_over a ix 1 1) v l
 group_is_far a ix size g v searched above l from to real s member =
@@ -86,6 +88,16 @@ group_is_far a ix size g v searched above l from to real s member =
     let same = ap (box_bound view) box in
     let below = box_is_below a ix l s searched real member in
     omega arith
+
+-- so the leaves up to its end were looked at where those before it were
+pub group_passed : (a : Question) (ix : IndexParts) (size g v bound : ℕ) (view : View) (box : Box) (es : List Entry)
+    → CanBeSearched a ix → bound ≡ box_bound view box → view ≡ mean_view_of a.layout.cuts a.query
+    → box ≡ box_of_boxes (map box_of (take size (drop (g * size) ix.means))) → v < bound
+    → AreNearBelow (search_over a ix 1 1) v (g * size) es → AreNearBelow (search_over a ix 1 1) v (g * size + size) es
+group_passed a ix size g v bound view box es searched is own whole above are =
+    let same = is ∙ ap (λ (w : View). box_bound w box) own ∙ ap (box_bound (mean_view_of a.layout.cuts a.query)) whole in
+    far_up_to (search_over a ix 1 1) v (g * size) (g * size + size) es (omega arith)
+    (group_is_far a ix size g v searched (omega (arith, same, above))) are
 
 -- the bound by finer means, which may be none
 finer_or_none : (none : Bool) (n d : ℕ) (x q : List ℤ) → finer_bound (finer_view n q) (finer_means n x) ≤ d

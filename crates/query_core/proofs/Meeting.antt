@@ -14,6 +14,7 @@ use Rattle.series_core.specs.Pairs.{smallest}
 use Rattle.series_core.specs.declared.pair.Pair.{Pair}
 use Rattle.mean_bound.proofs.BelowDistances.{mean_bound_below}
 use Rattle.mean_bound.specs.MeanBound.{mean_bound, mean_view_of}
+use Rattle.isax_word.specs.FullWord.{full_word}
 use Rattle.isax_word.specs.declared.member.Member.{Member}
 use Rattle.subtree_build.specs.Index.{IndexParts}
 use Rattle.subtree_build.specs.Means.{means_of}
@@ -40,6 +41,19 @@ pub record MayAdd (a : Question) (best : Best) (limit most : ℕ) : Type 0 where
   pub is_best : IsBest best
   pub wanted : best.k ≡ a.k
   pub most_is : most ≡ min limit (distance_at (best.k - 1) best.pairs)
+
+pub may_add : (a : Question) (best : Best) (limit most : ℕ) → IsQuestion a → IsBest best → best.k ≡ a.k
+    → most ≡ min limit (distance_at (best.k - 1) best.pairs) → MayAdd a best limit most
+may_add a best limit most question is_best wanted most_is = record {
+  question = question;
+  is_best = is_best;
+  wanted = wanted;
+  most_is = most_is;
+}
+
+-- a series as a member, with its own word
+abbrev pub member_of : Question → ℕ → Member
+member_of a s = record { number = s; full = full_word a.layout (series_at a.collection s) }
 
 module _ (a : Question) (m : Member) (best : Best) (limit most : ℕ) (member : IsMemberOf a m)
     (may : MayAdd a best limit most) where

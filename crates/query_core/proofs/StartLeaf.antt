@@ -1,5 +1,5 @@
--- The start leaf of an index is one of its leaves (`start_is_leaf`).
-use Rattle.std.proofs.Common.{◌≡◌, ℕ, zero, suc, ◌+◌, ◌<◌, List, length, Bool, true, false, refl, sym, ◌∙◌, subst, ⊎_elim, arith}
+-- The start leaf of an index is one of its leaves (`start_is_leaf`), and that which the index told is it (`told_start`).
+use Rattle.std.proofs.Common.{◌≡◌, ℕ, zero, suc, ◌+◌, ◌<◌, List, length, Bool, true, false, refl, sym, ap, ◌∙◌, subst, ⊎_elim, arith}
 use Rattle.std.specs.Prelude.{Some, None, Option, find, not, nat_lt, option_map, ◌&&◌, ◌||◌}
 use Rattle.std.specs.List.{range_with_len}
 use Rattle.std.proofs.lemmas.Bool.{cases_Bool, cond_both, cond-true, cond-false}
@@ -14,6 +14,7 @@ use Rattle.subtree_build.specs.Outline.{outline}
 use Rattle.subtree_build.specs.Index.{IndexParts, IsIndex, StandsUnder, root_word_at}
 use Rattle.subtree_build.specs.Start.{takes_high, first_descent, is_nearest, node_at, start_leaf_of}
 use Rattle.subtree_build.proofs.Outlines.{present}
+use Rattle.query_core.specs.Questions.{Question, view_in}
 
 -- where the high child is taken, it is there
 high_there : (a b t : Bool) → (a && b) ≡ false → (a || (not b && t)) ≡ true → b ≡ false
@@ -79,3 +80,8 @@ start_is_leaf view ix l index e = at (find (is_nearest view ix) (range_with_len 
     at (Some i) found e =
         let low = found_in_range (is_nearest view ix) 0 (length ix.roots) i found in
         subst (λ m. m < length ix.leaves) (same_Some _ l e) (reached i (omega arith))
+
+-- the start leaf that an index told for the question's own view
+pub told_start : (a : Question) (ix : IndexParts) (view : View) (told : Option ℕ) (l : ℕ) → view ≡ view_in a
+    → told ≡ start_leaf_of view ix → told ≡ Some l → start_leaf_of (view_in a) ix ≡ Some l
+told_start a ix view told l own is some = sym (ap (λ (v : View). start_leaf_of v ix) own) ∙ sym is ∙ some

@@ -1,6 +1,6 @@
-//! The answer by the leaves that are near: those of least bound are scanned first, which tells a closer limit, and the list that they
-//! gave is handed on to the leaves that are left.
-ghost use Rattle.std.specs.Prelude.{◌≡◌, ℕ, ◌≤◌, ◌++◌, List, IfOk, length};
+//! The answer by the leaves that are near: those of least bound are scanned first, which tells a closer limit. The list that they gave
+//! is handed on where few leaves are left; many are scanned anew, in the order of their numbers.
+ghost use Rattle.std.specs.Prelude.{◌≡◌, ℕ, ◌≤◌, ◌++◌, List, [], IfOk, length};
 ghost use Rattle.std.specs.List.{All};
 ghost use Rattle.list_totals.specs.Totals.{times};
 ghost use Rattle.series_core.specs.Answer.{answer};
@@ -51,8 +51,7 @@ impl<'a, R: Rows> Task<'a, R> {
             return Ok(list);
         }
         let (closest, next, others) = near.select_nth_unstable_by_key(count, |entry| entry.bound);
-        self.scan_within(alloc, index, closest, first, &mut list)?;
-        let limit = distance_of_worst(&list).min(first);
+        let limit = self.scan_closest(alloc, index, closest, first, &mut list)?;
         if !self.means_tell(index, limit, FEW) {
             return self.answer_by_rows(alloc, index, limit);
         }
@@ -69,6 +68,30 @@ impl<'a, R: Rows> Task<'a, R> {
         let leaves = u64::from(index.leaf_count());
         let count = u64::from(self.rows.count()).max(1);
         (CLOSEST_MEMBERS * leaves / count).max(CLOSEST) as usize
+    }
+
+    // Scans the closest leaves into an empty list, and tells the closer limit that they give.
+    fn scan_closest(
+        &self,
+        alloc: Global,
+        index: &Index,
+        closest: &[Entry],
+        first: u64,
+        list: &mut KBest,
+    ) -> Result<u64, NoMemory>
+        requires fits { IndexFits self.now.collection self.now.layout index.now }
+        requires limit { last_of self.now ≤ first }
+        requires leaves { All (IsLeafEntry (search_over self.now index.now 1 1)) closest.now }
+        requires once { (l : ℕ) → times l (leaves_in closest.now) ≤ 1 }
+        requires list { list.old ≡ record { k = self.now.k; pairs = [] } }
+        ensures limit { IfOk result (λ v. last_of self.now ≤ v) }
+        ensures list { IfOk result (λ _. (list.new.k ≡ self.now.k) × (length list.new.pairs ≤ self.now.k)) }
+        ensures met { let g = search_over self.now index.now 1 1 in
+            IfOk result (λ _. ListSound g (leaves_in closest.now) list.new.pairs) }
+    {
+        search_law(self, index);
+        self.scan_within(alloc, index, closest, first, list)?;
+        Ok(distance_of_worst(list).min(first))
     }
 
     // The list of the answer, by all leaves that may have a member within the limit, in the order of their numbers.

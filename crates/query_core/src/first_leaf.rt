@@ -5,6 +5,7 @@ ghost use Rattle.search_machine.specs.Ground.{opening};
 ghost use Rattle.search_machine.specs.Basics.{start_of};
 ghost use Rattle.query_core.specs.Questions.{search_over};
 
+use crate::index_laws::search_law;
 use crate::scan::distance_of_worst;
 use crate::task::Task;
 use outside::NoMemory;
@@ -24,8 +25,7 @@ impl<'a, R: Rows> Task<'a, R> {
           pairs = opening (search_over self.now index.now 1 1);
         }) }
     {
-        // for the fact that the index is one
-        let _leaves = index.leaf_count();
+        search_law(self, index);
         let mut list = KBest::new(alloc, self.k())?;
         let Some(leaf) = index.start_leaf(self.view()) else {
             return Ok((None, list));

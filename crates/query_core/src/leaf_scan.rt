@@ -1,12 +1,14 @@
 //! Scanning a leaf for the answer alone: a member is passed over by its means, or else by its finer means, or else measured.
-ghost use Rattle.std.specs.Prelude.{◌≡◌, ℕ, ◌+◌, ◌-◌, ◌*◌, ◌<◌, ◌≤◌, min, length, take, drop};
+ghost use Rattle.std.specs.Prelude.{◌≡◌, ℕ, ◌+◌, ◌-◌, ◌*◌, ◌<◌, ◌≤◌, false, min, length, take, drop};
 ghost use Rattle.series_core.specs.Best.{IsBest};
+ghost use Rattle.series_core.specs.Distance.{squared_distance};
 ghost use Rattle.series_core.specs.Order.{distance_at};
 ghost use Rattle.subtree_build.specs.Fits.{Fits as IndexFits};
 ghost use Rattle.subtree_build.specs.Index.{IndexParts};
 ghost use Rattle.subtree_build.specs.Means.{finer_of, means_of};
+ghost use Rattle.subtree_build.specs.Members.{series_at};
 ghost use Rattle.search_machine.specs.Ground.{scan, scan_one};
-ghost use Rattle.query_core.specs.Questions.{search_over, IsMemberOf, leaf_series};
+ghost use Rattle.query_core.specs.Questions.{IsQuestion, search_over, IsMemberOf, leaf_series};
 
 use crate::index_laws::search_law;
 use crate::scan::most_to_add;
@@ -61,13 +63,23 @@ impl<'a, R: Rows> Task<'a, R> {
         ensures pairs { (ix : IndexParts) (workers queues : ℕ) → list.new.pairs
             ≡ scan_one (search_over self.now ix workers queues) limit member.now.number list.old.pairs }
     {
-        if self.means().bound(means) > most {
-            return most;
-        }
-        if self.finer().bound(finer) > most {
+        if !self.may_be_within(member, means, finer, most) {
             return most;
         }
         self.measure(member.number, limit, most, list)
+    }
+
+    // Whether neither the member's means nor its finer means lie above the limit. Where one does, so does its distance.
+    fn may_be_within(&self, member: &Member, means: &Means, finer: &[Means], limit: u64) -> bool
+        requires member { IsMemberOf self.now member.now }
+        requires means { means.now ≡ means_of self.now.collection self.now.layout member.now }
+        requires finer { finer.now ≡ finer_of self.now.collection member.now }
+        ensures question { IsQuestion self.now }
+        ensures far { result ≡ false
+            → limit < squared_distance (series_at self.now.collection member.now.number) self.now.query }
+    {
+        let _ = member;
+        self.means().bound(means) <= limit && self.finer().bound(finer) <= limit
     }
 }
 

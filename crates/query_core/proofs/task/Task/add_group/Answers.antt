@@ -1,25 +1,16 @@
 -- The leaves of a group that is far are far; else each of them is looked at.
-use Rattle.std.proofs.Common.{◌+◌, ◌*◌, ◌∙◌, ap, subst, arith}
-use Rattle.mean_bound.specs.Boxes.{box_bound}
-use Rattle.mean_bound.specs.MeanBound.{View, mean_view_of}
+use Rattle.std.proofs.Common.{◌+◌, ◌*◌, subst, arith}
 use Rattle.query_core.specs.NearLeaves.{AreNearBelow}
 use Rattle.query_core.specs.Questions.{search_over}
-use Rattle.query_core.proofs.BelowMeans.{group_is_far}
+use Rattle.query_core.proofs.BelowMeans.{group_passed}
 use Rattle.query_core.proofs.LeavesNear.{far_up_to}
 use Rattle.query_core.proofs.task.Task.add_group.Goals as goal
 
 pub returns-then-bound_box-limit : goal.returns-then-bound_box-limit
-returns-then-bound_box-limit g c are =
-    let a = c.args.self.now in
-    let ix = c.args.index.now in
-    let view = mean_view_of a.layout.cuts a.query in
-    let is = c.bound_box.ensures.value
-    ∙ ap (λ (v : View). box_bound v c.group_box.result.now) c.means.ensures.means
-    ∙ ap (box_bound view) c.group_box.ensures in
-    far_up_to (search_over a ix 1 1) c.args.limit (c.args.group * 16) (c.args.group * 16 + 16) c.args.entries.now.items
-    (omega arith)
-    (group_is_far a ix 16 c.args.group c.args.limit c.search_law.ensures.searches (omega (arith, is, c.if-bound_box-limit.true)))
-    are
+returns-then-bound_box-limit g c =
+    group_passed c.args.self.now c.args.index.now 16 c.args.group c.args.limit c.bound_box.result c.means.result.now
+    c.group_box.result.now c.args.entries.now.items c.search_law.ensures.searches c.bound_box.ensures.value
+    c.means.ensures.means c.group_box.ensures c.if-bound_box-limit.true
 
 pub loop-leaf-init : goal.loop-leaf-init
 loop-leaf-init g c are =

@@ -1,10 +1,10 @@
 -- The leaves that are near were scanned, each once, so the list is the answer.
-use Rattle.std.proofs.Common.{◌≡◌, ◌<◌, ◌≤◌, ◌⊎◌, [], ℕ, length, sym, ap, subst, ◌∙◌, arith}
+use Rattle.std.proofs.Common.{◌≤◌, [], ℕ, length, sym, ap, subst, ◌∙◌, arith}
 use Rattle.list_totals.specs.Totals.{once_below, times}
 use Rattle.list_totals.proofs.Totals.{once_below_most, once_below_yes}
 use Rattle.search_machine.specs.Ground.{last}
 use Rattle.search_machine.specs.Sound.{ListSound}
-use Rattle.query_core.specs.NearLeaves.{AreNear, IsFar, leaves_in}
+use Rattle.query_core.specs.NearLeaves.{AreNear, leaves_in}
 use Rattle.query_core.specs.Questions.{search_over}
 use Rattle.query_core.proofs.Nearest.{answer_met, none_met}
 use Rattle.query_core.proofs.task.Task.answer_in_order.Goals as goal

@@ -1,12 +1,11 @@
 -- The closest leaves, the next one and the others are those that are near, so the list is the answer.
-use Rattle.std.proofs.Common.{◌≡◌, ◌+◌, ◌-◌, ◌<◌, ◌≤◌, ◌++◌, ◌∷◌, [], ℕ, List, length, refl, sym, ap, subst, ◌∙◌, ◌⊎◌, arith}
+use Rattle.std.proofs.Common.{◌≡◌, ◌+◌, ◌<◌, ◌≤◌, ◌++◌, ◌∷◌, [], ℕ, List, length, refl, sym, ap, subst, ◌∙◌, ◌⊎◌, arith}
 use Rattle.std.specs.List.{All}
 use Rattle.std.specs.List.Sorted.{IsPermutation}
 use Rattle.std.proofs.lemmas.List.{append_assoc, map-append}
 use Rattle.std.proofs.lemmas.List.Elements.{All-cons, All-head, All-nil, All-tail}
 use Rattle.list_totals.specs.Totals.{once_below, times}
 use Rattle.list_totals.proofs.Totals.{once_below_most, once_below_yes, times_append}
-use Rattle.series_core.specs.Order.{distance_at}
 use Rattle.series_core.specs.declared.pair.Pair.{Pair}
 use Rattle.series_core.specs.declared.queue_words.Entry.{Entry}
 use Rattle.search_machine.specs.Ground.{Fits, Ground, answer, last}
@@ -15,7 +14,7 @@ use Rattle.search_machine.proofs.Counts.{equal_counts}
 use Rattle.query_core.specs.NearLeaves.{AreNear, IsFar, IsLeafEntry, leaves_in}
 use Rattle.query_core.specs.Questions.{search_over}
 use Rattle.query_core.proofs.LeavesNear.{in_order}
-use Rattle.query_core.proofs.Nearest.{answer_met, none_met, worst_enough}
+use Rattle.query_core.proofs.Nearest.{answer_met, none_met}
 use Rattle.query_core.proofs.task.Task.nearest_by_leaves.Goals as goal
 
 -- what holds of all entries holds of the first of them and of the others
@@ -66,24 +65,6 @@ module _ (g : Ground) (v count : ℕ) where
       whole : (l : ℕ) → l < g.leaves → (0 < times l (leaves_in es)) ⊎ IsFar g v l
       whole l real = let one = once_below_yes l count (omega arith) in near.whole l (omega arith)
 
-  -- the closest were met, by a scan into an empty list
-  closest_met : (es ds : List Entry) (old new : List Pair) → Near (es ++ ds) → old ≡ []
-      → ((met : List ℕ) → ((l : ℕ) → times l (met ++ leaves_in es) ≤ 1) → ListSound g met old
-      → ListSound g (met ++ leaves_in es) new)
-      → ListSound g (leaves_in es) new
-  closest_met es ds old new near empty scanned =
-      scanned [] (once_front es ds near) (subst (ListSound g []) (sym empty) (none_met g))
-
-  -- so the distance of the k-th pair that they gave is not below the last distance
-  closest_enough : (fits : Fits g) (es ds : List Entry) (old new : List Pair) (k : ℕ) → Near (es ++ ds) → old ≡ []
-      → ((met : List ℕ) → ((l : ℕ) → times l (met ++ leaves_in es) ≤ 1) → ListSound g met old
-      → ListSound g (met ++ leaves_in es) new)
-      → k ≡ g.k → last g ≤ distance_at (k - 1) new
-  closest_enough fits es ds old new k near empty scanned same =
-      let least = worst_enough g fits (leaves_in es) new (closest_met es ds old new near empty scanned) in
-      let kth = ap (λ n. distance_at (n - 1) new) same in
-      omega arith
-
 -- the leaves of the closest, of the next and of the others, one behind the other
 leaves_together : (closest others : List Entry) (next : Entry)
     → (leaves_in closest ++ next.leaf ∷ []) ++ leaves_in others ≡ leaves_in (closest ++ next ∷ others)
@@ -108,8 +89,8 @@ returns-then-len-count g c =
     (c.in_ok-scan_within.ensures.met [] (once_in ground c.args.first count es near) begun)
     ∙ c.search_law.ensures.answer 1 1
 
-pub scan_within-requires-2-clause-leaves : goal.scan_within-requires-2-clause-leaves
-scan_within-requires-2-clause-leaves g c =
+pub scan_closest-requires-clause-leaves : goal.scan_closest-requires-clause-leaves
+scan_closest-requires-clause-leaves g c =
     let ground = search_over c.args.self.now c.args.index.now 1 1 in
     let p = c.select_nth_unstable_by_key-closest.result in
     let near = moved ground c.args.first (length c.args.index.now.leaves) c.in_ok-near.near.items c.deref_mut.result.now
@@ -117,50 +98,14 @@ scan_within-requires-2-clause-leaves g c =
     c.in_ok-near.ensures in
     (parts_all ground p.0.now (p.1.now ∷ p.2.now) near.entries).0
 
-pub answer_by_rows-requires-clause-limit : goal.answer_by_rows-requires-clause-limit
-answer_by_rows-requires-clause-limit g c =
-    let ix = c.args.index.now in
-    let ground = search_over c.args.self.now ix 1 1 in
-    let fits = c.search_law.ensures.fits 1 1 (omega arith) (omega arith) in
+pub scan_closest-requires-clause-once : goal.scan_closest-requires-clause-once
+scan_closest-requires-clause-once g c =
+    let ground = search_over c.args.self.now c.args.index.now 1 1 in
     let p = c.select_nth_unstable_by_key-closest.result in
-    let near = moved ground c.args.first (length ix.leaves) c.in_ok-near.near.items c.deref_mut.result.now
+    let near = moved ground c.args.first (length c.args.index.now.leaves) c.in_ok-near.near.items c.deref_mut.result.now
     (p.0.now ++ p.1.now ∷ p.2.now) c.deref_mut.ensures.value c.select_nth_unstable_by_key-closest.ensures.permutation
     c.in_ok-near.ensures in
-    let list = c.scan_within-2.new.list in
-    let least = closest_enough ground c.args.first (length ix.leaves) fits p.0.now (p.1.now ∷ p.2.now)
-    c.in_ok-list.list.pairs list.pairs list.k near (ap (λ b. b.pairs) c.in_ok-list.ensures)
-    c.in_ok-scan_within-2.ensures.met c.in_ok-scan_within-2.ensures.list.0 in
-    omega (arith, least, c.distance_of_worst.ensures, c.search_law.ensures.last 1 1, c.requires.limit)
-
-pub answer_in_order-requires-clause-limit : goal.answer_in_order-requires-clause-limit
-answer_in_order-requires-clause-limit g c =
-    let ix = c.args.index.now in
-    let ground = search_over c.args.self.now ix 1 1 in
-    let fits = c.search_law.ensures.fits 1 1 (omega arith) (omega arith) in
-    let p = c.select_nth_unstable_by_key-closest.result in
-    let near = moved ground c.args.first (length ix.leaves) c.in_ok-near.near.items c.deref_mut.result.now
-    (p.0.now ++ p.1.now ∷ p.2.now) c.deref_mut.ensures.value c.select_nth_unstable_by_key-closest.ensures.permutation
-    c.in_ok-near.ensures in
-    let list = c.scan_within-2.new.list in
-    let least = closest_enough ground c.args.first (length ix.leaves) fits p.0.now (p.1.now ∷ p.2.now)
-    c.in_ok-list.list.pairs list.pairs list.k near (ap (λ b. b.pairs) c.in_ok-list.ensures)
-    c.in_ok-scan_within-2.ensures.met c.in_ok-scan_within-2.ensures.list.0 in
-    omega (arith, least, c.distance_of_worst.ensures, c.search_law.ensures.last 1 1, c.requires.limit)
-
-pub scan_entry-requires-clause-limit : goal.scan_entry-requires-clause-limit
-scan_entry-requires-clause-limit g c =
-    let ix = c.args.index.now in
-    let ground = search_over c.args.self.now ix 1 1 in
-    let fits = c.search_law.ensures.fits 1 1 (omega arith) (omega arith) in
-    let p = c.select_nth_unstable_by_key-closest.result in
-    let near = moved ground c.args.first (length ix.leaves) c.in_ok-near.near.items c.deref_mut.result.now
-    (p.0.now ++ p.1.now ∷ p.2.now) c.deref_mut.ensures.value c.select_nth_unstable_by_key-closest.ensures.permutation
-    c.in_ok-near.ensures in
-    let list = c.scan_within-2.new.list in
-    let least = closest_enough ground c.args.first (length ix.leaves) fits p.0.now (p.1.now ∷ p.2.now)
-    c.in_ok-list.list.pairs list.pairs list.k near (ap (λ b. b.pairs) c.in_ok-list.ensures)
-    c.in_ok-scan_within-2.ensures.met c.in_ok-scan_within-2.ensures.list.0 in
-    omega (arith, least, c.distance_of_worst.ensures, c.search_law.ensures.last 1 1, c.requires.limit)
+    once_front ground c.args.first (length c.args.index.now.leaves) p.0.now (p.1.now ∷ p.2.now) near
 
 pub scan_entry-requires-clause-entry : goal.scan_entry-requires-clause-entry
 scan_entry-requires-clause-entry g c =
@@ -171,23 +116,8 @@ scan_entry-requires-clause-entry g c =
     c.in_ok-near.ensures in
     All-head (IsLeafEntry ground) p.1.now p.2.now (parts_all ground p.0.now (p.1.now ∷ p.2.now) near.entries).1
 
-pub scan_within-requires-3-clause-limit : goal.scan_within-requires-3-clause-limit
-scan_within-requires-3-clause-limit g c =
-    let ix = c.args.index.now in
-    let ground = search_over c.args.self.now ix 1 1 in
-    let fits = c.search_law.ensures.fits 1 1 (omega arith) (omega arith) in
-    let p = c.select_nth_unstable_by_key-closest.result in
-    let near = moved ground c.args.first (length ix.leaves) c.in_ok-near.near.items c.deref_mut.result.now
-    (p.0.now ++ p.1.now ∷ p.2.now) c.deref_mut.ensures.value c.select_nth_unstable_by_key-closest.ensures.permutation
-    c.in_ok-near.ensures in
-    let list = c.scan_within-2.new.list in
-    let least = closest_enough ground c.args.first (length ix.leaves) fits p.0.now (p.1.now ∷ p.2.now)
-    c.in_ok-list.list.pairs list.pairs list.k near (ap (λ b. b.pairs) c.in_ok-list.ensures)
-    c.in_ok-scan_within-2.ensures.met c.in_ok-scan_within-2.ensures.list.0 in
-    omega (arith, least, c.distance_of_worst.ensures, c.search_law.ensures.last 1 1, c.requires.limit)
-
-pub scan_within-requires-3-clause-leaves : goal.scan_within-requires-3-clause-leaves
-scan_within-requires-3-clause-leaves g c =
+pub scan_within-requires-2-clause-leaves : goal.scan_within-requires-2-clause-leaves
+scan_within-requires-2-clause-leaves g c =
     let ground = search_over c.args.self.now c.args.index.now 1 1 in
     let p = c.select_nth_unstable_by_key-closest.result in
     let near = moved ground c.args.first (length c.args.index.now.leaves) c.in_ok-near.near.items c.deref_mut.result.now
@@ -208,17 +138,15 @@ returns g c =
     let near = moved ground c.args.first count c.in_ok-near.near.items c.deref_mut.result.now
     (closest ++ next ∷ others) c.deref_mut.ensures.value c.select_nth_unstable_by_key-closest.ensures.permutation
     c.in_ok-near.ensures in
-    let sound = closest_met ground c.args.first count closest (next ∷ others) c.in_ok-list.list.pairs
-    c.scan_within-2.new.list.pairs near (ap (λ b. b.pairs) c.in_ok-list.ensures) c.in_ok-scan_within-2.ensures.met in
     let after = c.scan_entry.ensures.met (leaves_in closest)
-    (next_unmet ground c.args.first count closest others next near) sound in
+    (next_unmet ground c.args.first count closest others next near) c.in_ok-limit.ensures.met in
     let same = leaves_together closest others next in
     let once : (l : ℕ) → times l ((leaves_in closest ++ next.leaf ∷ []) ++ leaves_in others) ≤ 1
     = λ l. let most = once_in ground c.args.first count (closest ++ next ∷ others) near l in
     let is = ap (times l) same in omega arith in
-    let all = subst (λ (ls : List ℕ). ListSound ground ls c.scan_within-3.new.list.pairs) same
-    (c.in_ok-scan_within-3.ensures.met (leaves_in closest ++ next.leaf ∷ []) once after) in
+    let all = subst (λ (ls : List ℕ). ListSound ground ls c.scan_within-2.new.list.pairs) same
+    (c.in_ok-scan_within-2.ensures.met (leaves_in closest ++ next.leaf ∷ []) once after) in
     let enough : last ground ≤ c.args.first = omega (arith, c.search_law.ensures.last 1 1, c.requires.limit) in
-    met_all ground c.args.first count fits (closest ++ next ∷ others) c.scan_within-3.new.list.pairs refl near
-    c.in_ok-scan_within-3.ensures.list.1 enough all
+    met_all ground c.args.first count fits (closest ++ next ∷ others) c.scan_within-2.new.list.pairs refl near
+    c.in_ok-scan_within-2.ensures.list.1 enough all
     ∙ c.search_law.ensures.answer 1 1
