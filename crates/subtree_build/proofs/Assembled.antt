@@ -251,13 +251,13 @@ pub record IsRow (w : ℕ) (roots : List ℕ) (nodes : List Node) (words : List 
   pub places_are : places ≡ places_from 0 leaves
 
 -- the same of slices that show these lists
-pub a_row : (w : ℕ) (roots rs : List ℕ) (nodes ns : List Node) (words ws : List (List Part)) (firsts : List ℕ)
-    (lists ls : List (List Member)) (leaves lv : List GrownLeaf) (members : List Member) (places : List LeafPlace)
+pub a_row : {w : ℕ} {roots rs : List ℕ} {nodes ns : List Node} {words ws : List (List Part)} {firsts : List ℕ}
+    {lists ls : List (List Member)} {leaves lv : List GrownLeaf} (members : List Member) {places : List LeafPlace}
     → 1 ≤ w → w ≤ 16 → length lists < 2 ^ 32 → MakeIndex w roots nodes (length lists) → rs ≡ roots → ns ≡ nodes
     → ws ≡ words → ls ≡ lists → lv ≡ leaves → words ≡ all_words w rs ns → firsts ≡ tree_firsts 0 (map outline ns)
     → cut_leaves leaves members ≡ leaves_with ws ls → members_in leaves ≡ length members → length members < 2 ^ 32
     → places ≡ places_from 0 lv → IsRow w roots nodes words firsts lists leaves members places
-a_row w roots rs nodes ns words ws firsts lists ls leaves lv members places some few short make rs_is ns_is ws_is ls_is lv_is
+a_row {w = w} {roots = roots} {ns = ns} {words = words} {ls = ls} members some few short make rs_is ns_is ws_is ls_is lv_is
     words_are firsts_are cut whole few_members places_are = record {
       some = some;
       few = few;
@@ -278,22 +278,26 @@ long_words w roots nodes n make =
     length-all_words w roots nodes make.one_node_each ∙ ap (λ (ls : List ℕ). length ls) make.in_order
     ∙ length-range_with_len 0 n
 
-module _ (w : ℕ) (roots : List ℕ) (nodes : List Node) (words : List (List Part)) (firsts : List ℕ)
-    (lists : List (List Member)) (leaves : List GrownLeaf) (members : List Member) (places : List LeafPlace)
+module _ {w : ℕ} {roots : List ℕ} {nodes : List Node} {words : List (List Part)} {firsts : List ℕ}
+    {lists : List (List Member)} {leaves : List GrownLeaf} {members : List Member} {places : List LeafPlace}
     (row : IsRow w roots nodes words firsts lists leaves members places) where
-  -- the leaves at the places
-  pub row_seen : leaves_seen members places ≡ leaves_with words lists
-  row_seen = ap (leaves_seen members) row.places_are ∙ seen_is_cut members 0 leaves ∙ row.cut
-
-  -- make an index
-  pub row_is_index : (means finer : List (List (List ℕ))) → IsIndex (record {
+  -- the parts and the row, with some means
+  abbrev as_parts : (means finer : List (List (List ℕ))) → IndexParts
+  as_parts means finer = record {
     segments = w;
     roots = roots;
     nodes = nodes;
     leaves = leaves_seen members places;
     means = means;
     finer = finer;
-  })
+  }
+
+  -- the leaves at the places
+  pub row_seen : leaves_seen members places ≡ leaves_with words lists
+  row_seen = ap (leaves_seen members) row.places_are ∙ seen_is_cut members 0 leaves ∙ row.cut
+
+  -- make an index
+  pub row_is_index : (means finer : List (List (List ℕ))) → IsIndex (as_parts means finer)
   row_is_index means finer =
       parts_are_index w roots nodes words lists _ row.some row.few row.short row.make row.words_are refl refl refl row_seen
 
@@ -335,14 +339,7 @@ module _ (w : ℕ) (roots : List ℕ) (nodes : List Node) (words : List (List Pa
   )
 
   -- and it is one of these parts
-  pub row_of_parts : (means finer : List (List (List ℕ))) → IsOfParts w roots nodes lists (record {
-    segments = w;
-    roots = roots;
-    nodes = nodes;
-    leaves = leaves_seen members places;
-    means = means;
-    finer = finer;
-  })
+  pub row_of_parts : (means finer : List (List (List ℕ))) → IsOfParts w roots nodes lists (as_parts means finer)
   row_of_parts means finer = record {
     segments = refl;
     roots = refl;

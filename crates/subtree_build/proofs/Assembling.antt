@@ -140,26 +140,6 @@ built_as : (settings : Settings) (found : RootLists) (parts : List Part)
     → All (IsPartAt settings found) parts → All (BuiltAs (child_at settings found)) parts
 built_as settings found parts built k d inside = (built k d inside).built
 
--- the nodes of all parts are those of the tree
-pub nodes_are : (settings : Settings) (c : Collection) (found : RootLists) (parts : List Part)
-    → HoldsRoots settings.layout c found
-    → places_of parts ≡ range_with_len 0 (length found.roots.items)
-    → All (IsPartAt settings found) parts
-    → joined_nodes 0 parts ≡ all_numbered 0 (tree c settings.layout settings.leaf_size)
-nodes_are settings c found parts h places built =
-    joined_is (child_at settings found) 0 parts (built_as settings found parts built)
-    ∙ ap (all_numbered 0) (trees_are settings c found parts h places)
-
--- the numbers of first leaves of all parts are those of the tree
-pub firsts_are : (settings : Settings) (c : Collection) (found : RootLists) (parts : List Part)
-    → HoldsRoots settings.layout c found
-    → places_of parts ≡ range_with_len 0 (length found.roots.items)
-    → All (IsPartAt settings found) parts
-    → part_firsts 0 parts ≡ tree_firsts 0 (tree c settings.layout settings.leaf_size)
-firsts_are settings c found parts h places built =
-    firsts_of (child_at settings found) 0 parts (built_as settings found parts built)
-    ∙ ap (tree_firsts 0) (trees_are settings c found parts h places)
-
 -- all members of parts at their places lie in their leaves
 whole_each : (settings : Settings) (found : RootLists) (parts : List Part)
     → All (IsPartAt settings found) parts → All IsWhole parts
@@ -170,31 +150,39 @@ pub whole_all : (settings : Settings) (found : RootLists) (parts : List Part)
     → All (IsPartAt settings found) parts → members_in (part_leaves parts) ≡ length (part_members parts)
 whole_all settings found parts built = whole_of parts (whole_each settings found parts built)
 
--- the leaves of all parts are those of the tree
-pub leaves_all : (settings : Settings) (c : Collection) (found : RootLists) (parts : List Part)
-    → HoldsRoots settings.layout c found
-    → places_of parts ≡ range_with_len 0 (length found.roots.items)
-    → All (IsPartAt settings found) parts
-    → cut_leaves (part_leaves parts) (part_members parts) ≡ tree_leaves c settings.layout settings.leaf_size
-leaves_all settings c found parts h places built =
-    leaves_are_of (child_at settings found) parts (built_as settings found parts built)
-    (whole_each settings found parts built)
-    ∙ ap (flat_map (λ (t : Tree TreeLeaf). leaves_of t)) (trees_are settings c found parts h places)
+module _ (settings : Settings) (c : Collection) (found : RootLists) (parts : List Part)
+    (h : HoldsRoots settings.layout c found) (places : places_of parts ≡ range_with_len 0 (length found.roots.items))
+    (built : All (IsPartAt settings found) parts) where
+  -- the nodes of all parts are those of the tree
+  pub nodes_are : joined_nodes 0 parts ≡ all_numbered 0 (tree c settings.layout settings.leaf_size)
+  nodes_are =
+      joined_is (child_at settings found) 0 parts (built_as settings found parts built)
+      ∙ ap (all_numbered 0) (trees_are settings c found parts h places)
 
--- all parts together have few leaves
-pub few_parts : (settings : Settings) (c : Collection) (found : RootLists) (parts : List Part)
-    → HoldsRoots settings.layout c found
-    → places_of parts ≡ range_with_len 0 (length found.roots.items)
-    → All (IsPartAt settings found) parts → total leaves_in parts < 2 ^ 32
-few_parts settings c found parts h places built =
-    omega (
-      arith,
-      length-part_leaves parts,
-      length-cut (part_leaves parts) (part_members parts),
-      ap length (leaves_all settings c found parts h places built),
-      few_in_tree c settings.layout settings.leaf_size h.division,
-      h.sound.count_limit,
-    )
+  -- the numbers of first leaves of all parts are those of the tree
+  pub firsts_are : part_firsts 0 parts ≡ tree_firsts 0 (tree c settings.layout settings.leaf_size)
+  firsts_are =
+      firsts_of (child_at settings found) 0 parts (built_as settings found parts built)
+      ∙ ap (tree_firsts 0) (trees_are settings c found parts h places)
+
+  -- the leaves of all parts are those of the tree
+  pub leaves_all : cut_leaves (part_leaves parts) (part_members parts) ≡ tree_leaves c settings.layout settings.leaf_size
+  leaves_all =
+      leaves_are_of (child_at settings found) parts (built_as settings found parts built)
+      (whole_each settings found parts built)
+      ∙ ap (flat_map (λ (t : Tree TreeLeaf). leaves_of t)) (trees_are settings c found parts h places)
+
+  -- all parts together have few leaves
+  pub few_parts : total leaves_in parts < 2 ^ 32
+  few_parts =
+      omega (
+        arith,
+        length-part_leaves parts,
+        length-cut (part_leaves parts) (part_members parts),
+        ap length leaves_all,
+        few_in_tree c settings.layout settings.leaf_size h.division,
+        h.sound.count_limit,
+      )
 
 -- each part has the numbers of its own leaves
 pub within_all : (settings : Settings) (found : RootLists) (parts : List Part)

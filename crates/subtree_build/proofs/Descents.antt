@@ -24,20 +24,16 @@ takes_by_bounds view word j a b =
     by_bounds (is_absent (outline a)) (is_absent (outline b)) (is_high_nearer view word j)
     (present a) (present b)
 
--- to the high child, where it is nearer
-pub to_high : (view : View) (word : List Part) (j : ℕ) (a b : Node)
-    → is_high_nearer view word j ≡ true
-    → first_descent view word (split j (outline a) (outline b))
-    ≡ first_descent view (child_word word j true) (outline b)
-to_high view word j a b nearer =
-    cond-true (takes_high view word j (outline a) (outline b)) _ _
-    (takes_by_bounds view word j a b ∙ nearer)
+module _ (view : View) (word : List Part) (j : ℕ) (a b : Node) where
+  -- how it goes on below a split with both children
+  abbrev GoesOn : Bool → Node → Type 0
+  GoesOn high node =
+      first_descent view word (split j (outline a) (outline b)) ≡ first_descent view (child_word word j high) (outline node)
 
--- to the low child, where the high one is no nearer
-pub to_low : (view : View) (word : List Part) (j : ℕ) (a b : Node)
-    → is_high_nearer view word j ≡ false
-    → first_descent view word (split j (outline a) (outline b))
-    ≡ first_descent view (child_word word j false) (outline a)
-to_low view word j a b far =
-    cond-false (takes_high view word j (outline a) (outline b)) _ _
-    (takes_by_bounds view word j a b ∙ far)
+  -- to the high child, where it is nearer
+  pub to_high : is_high_nearer view word j ≡ true → GoesOn true b
+  to_high nearer = cond-true (takes_high view word j (outline a) (outline b)) _ _ (takes_by_bounds view word j a b ∙ nearer)
+
+  -- to the low child, where the high one is no nearer
+  pub to_low : is_high_nearer view word j ≡ false → GoesOn false a
+  to_low far = cond-false (takes_high view word j (outline a) (outline b)) _ _ (takes_by_bounds view word j a b ∙ far)

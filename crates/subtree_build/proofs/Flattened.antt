@@ -34,11 +34,13 @@ module _ {X Y : Type 0} (f : X → List Y) (n : ℕ) (each : (x : X) → length 
   one_more : (k : ℕ) (x : X) → suc k * n ≡ length (f x) + k * n
   one_more k x = omega (arith, each x)
 
+  -- no pieces are of no length
+  no_piece : zero * n ≡ 0
+  no_piece = omega arith
+
   -- what is left behind some pieces are the other pieces
   pub drop_pieces : (k : ℕ) (xs : List X) → drop (k * n) (flat_map f xs) ≡ flat_map f (drop k xs)
-  drop_pieces zero xs =
-      let none : zero * n ≡ 0 = omega arith in
-      ap (λ m. drop m (flat_map f xs)) none
+  drop_pieces zero xs = ap (λ m. drop m (flat_map f xs)) no_piece
   drop_pieces (suc k) [] = drop-nil (suc k * n)
   drop_pieces (suc k) (x ∷ xs) =
       ap (λ m. drop m (f x ++ flat_map f xs)) (one_more k x)
@@ -46,9 +48,7 @@ module _ {X Y : Type 0} (f : X → List Y) (n : ℕ) (each : (x : X) → length 
 
   -- and some pieces from the front
   pub take_pieces : (k : ℕ) (xs : List X) → take (k * n) (flat_map f xs) ≡ flat_map f (take k xs)
-  take_pieces zero xs =
-      let none : zero * n ≡ 0 = omega arith in
-      ap (λ m. take m (flat_map f xs)) none
+  take_pieces zero xs = ap (λ m. take m (flat_map f xs)) no_piece
   take_pieces (suc k) [] = take-nil (suc k * n)
   take_pieces (suc k) (x ∷ xs) =
       ap (λ m. take m (f x ++ flat_map f xs)) (one_more k x)

@@ -1,6 +1,6 @@
 -- Groups of boxes in a row: one more group is that of the next boxes (`group_more`), and where all boxes are in groups they are the
 -- groups (`all_grouped`). Of what is left the first `size` are taken, or all of it (`front_is`, `back_is`). A group of an index has
--- the box of its leaves' means (`group_is`).
+-- the box of its leaves' means (`group_of_means`).
 use Rattle.std.proofs.Common.{◌≡◌, ℕ, ◌+◌, ◌-◌, ◌*◌, ◌<◌, ◌≤◌, ◌++◌, ◌∷◌, [], List, arith, length, length-append, take, drop, take_all, drop_of_length-le, drop-drop, get_or, map, refl, ap, sym, ◌∙◌, ⊎_elim}
 use Rattle.std.specs.Prelude.{min, Some, slice_get}
 use Rattle.std.proofs.lemmas.Bool.{cases_lt}
@@ -93,9 +93,9 @@ module _ (size g : ℕ) (means : List (List ℕ)) (places : List LeafPlace) (box
   group_inside = slice_get_within groups g (box_of_boxes (take size (drop (g * size) boxes))) there
 
   -- and its box is that of the boxes of its leaves' means
-  pub group_is : (b : Box) → b ≡ get_or groups g b
+  pub group_of_means : (b : Box) → b ≡ get_or groups g b
       → b ≡ box_of_boxes (map box_of (take size (drop (g * size) (means_seen means places))))
-  group_is b at =
+  group_of_means b at =
       let all = means_seen means places in
       at ∙ get_or_from_slice_get groups g (box_of_boxes (take size (drop (g * size) boxes))) b there
       ∙ ap (λ (bs : List Box). box_of_boxes (take size (drop (g * size) bs))) (are_boxes ∙ boxes_of_means means places)

@@ -1,8 +1,10 @@
 -- Parts put together one by one (`joined_nodes_push`), and the numbers of their leaves (`moved_fits`).
-use Rattle.std.proofs.Common.{◌≡◌, ℕ, ◌+◌, ◌^◌, ◌<◌, ◌≤◌, List, [], ◌∷◌, ◌++◌, length, refl, sym, ap, ◌∙◌, subst, arith, append_assoc, append-nil, length-append, add_assoc, zero-add}
+use Rattle.std.proofs.Common.{◌≡◌, ℕ, ◌+◌, ◌^◌, ◌<◌, ◌≤◌, List, [], ◌∷◌, ◌++◌, length, refl, sym, ap, ◌∙◌, subst, arith, length-append, add_assoc, zero-add, All}
 use Rattle.std.specs.Prelude.{flat_map}
+use Rattle.std.proofs.lemmas.List.{flat_map_more}
 use Rattle.list_totals.specs.Totals.{total}
 use Rattle.list_totals.proofs.Totals.{total_append}
+use Rattle.worker_team.proofs.Hiring.{All-middle}
 use Rattle.subtree_build.specs.declared.leaf.TreeLeaf.{TreeLeaf}
 use Rattle.isax_word.specs.declared.member.Member.{Member}
 use Rattle.subtree_build.specs.declared.leaf.GrownLeaf.{GrownLeaf}
@@ -53,18 +55,12 @@ length-part_leaves (p ∷ parts) =
 -- the leaves of one part more
 pub part_leaves_push : (parts : List Part) (p : Part)
     → part_leaves (parts ++ p ∷ []) ≡ part_leaves parts ++ p.leaves.items
-part_leaves_push [] p = append-nil p.leaves.items
-part_leaves_push (q ∷ parts) p =
-    ap (λ xs. q.leaves.items ++ xs) (part_leaves_push parts p)
-    ∙ sym (append_assoc q.leaves.items (part_leaves parts) p.leaves.items)
+part_leaves_push parts p = sym (flat_map_more (λ (q : Part). q.leaves.items) [] parts p)
 
 -- the members of one part more
 pub part_members_push : (parts : List Part) (p : Part)
     → part_members (parts ++ p ∷ []) ≡ part_members parts ++ p.members.items
-part_members_push [] p = append-nil p.members.items
-part_members_push (q ∷ parts) p =
-    ap (λ xs. q.members.items ++ xs) (part_members_push parts p)
-    ∙ sym (append_assoc q.members.items (part_members parts) p.members.items)
+part_members_push parts p = sym (flat_map_more (λ (q : Part). q.members.items) [] parts p)
 
 -- leaf numbers below a count, moved up, fit where the count does
 pub moved_fits : (t : Tree ℕ) (count by room : ℕ) → AllLeaves (λ l. l < count) t → count + by ≤ room
@@ -118,11 +114,21 @@ built_within t p built =
     subst P (sym built.node_is)
     (subst Q (sym long) (subst Q (zero-add (length (leaves_of t))) (numbered_within t 0)))
 
--- a part's leaves fit behind those of the parts before it
-pub fits_behind : (all done rest : List Part) (p : Part) → done ++ p ∷ rest ≡ all
-    → total leaves_in all < 2 ^ 32 → leaves_in p + length (part_leaves done) < 2 ^ 32
-fits_behind all done rest p whole few =
-    let parts : total leaves_in all ≡ total leaves_in done + (leaves_in p + total leaves_in rest)
-    = ap (total leaves_in) (sym whole) ∙ total_append leaves_in done (p ∷ rest) in
-    let long = length-part_leaves done in
-    omega arith
+module _ (all done left rest : List Part) (p : Part) (next : left ≡ p ∷ rest) (whole : done ++ left ≡ all) where
+  -- the next part stands behind the parts before it
+  pub next_is_whole : done ++ p ∷ rest ≡ all
+  next_is_whole = ap (λ xs. done ++ xs) (sym next) ∙ whole
+
+  -- and its leaves fit behind theirs
+  pub next_fits : total leaves_in all < 2 ^ 32 → leaves_in p + length (part_leaves done) < 2 ^ 32
+  next_fits few =
+      let parts : total leaves_in all ≡ total leaves_in done + (leaves_in p + total leaves_in rest)
+      = ap (total leaves_in) (sym next_is_whole) ∙ total_append leaves_in done (p ∷ rest) in
+      let long = length-part_leaves done in
+      omega arith
+
+  -- and it has what each part has
+  pub next_has : (P : Part → Type 0) → All P all → P p
+  next_has P each =
+      let Q : List Part → Type 0 = λ ps. All P ps in
+      All-middle P done rest p (subst Q (sym next_is_whole) each)

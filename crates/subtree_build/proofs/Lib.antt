@@ -13,10 +13,12 @@ pub mod Divisions
 pub mod Children
 pub mod Dividing
 pub mod Grouping
+pub mod Seen
 pub mod Growing
 pub mod LeafWords
 pub mod Standing
 pub mod Joining
+pub mod Passed
 pub mod Partition
 pub mod RootNumbers
 pub mod Contained

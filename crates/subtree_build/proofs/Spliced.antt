@@ -3,7 +3,8 @@
 use Rattle.std.proofs.Common.{◌≡◌, ℕ, zero, suc, ◌+◌, ◌<◌, Bool, true, false, cond, List, [], ◌∷◌, ◌++◌, length, get_or, set, take, drop, map, refl, sym, ap, ◌∙◌, arith, All, append-nil}
 use Rattle.std.specs.Prelude.{filter, slice_index_or}
 use Rattle.std.specs.List.{range_with_len}
-use Rattle.std.proofs.lemmas.List.{map-append, take_more}
+use Rattle.std.proofs.lemmas.List.{map-append, map-id, take_more}
+use Rattle.std.proofs.lemmas.List.FromFn.{map-range_with_len_more}
 use Rattle.std.proofs.lemmas.List.Concat.{flat_map-append}
 use Rattle.std.proofs.lemmas.List.Elements.{filter-append, All-map}
 use Rattle.std.proofs.Math.ListN.{length-set}
@@ -60,13 +61,11 @@ one_emptied root i all now d inside is_now =
     ∙ ap (λ k. map (emptied root) (take k all) ++ drop k all) next
 
 -- the numbers below one more
-range_more : (a n : ℕ) → range_with_len a (n + 1) ≡ range_with_len a n ++ (a + n) ∷ []
-range_more a zero = ap (λ k. k ∷ []) (let e : a ≡ a + 0 = omega arith in e)
-range_more a (suc n) =
-    let more : suc n + 1 ≡ suc (n + 1) = omega arith in
-    let end : a + 1 + n ≡ a + suc n = omega arith in
-    ap (range_with_len a) more
-    ∙ ap (λ xs. a ∷ xs) (range_more (a + 1) n ∙ ap (λ k. range_with_len (a + 1) n ++ k ∷ []) end)
+range_more : (n : ℕ) → range_with_len 0 (n + 1) ≡ range_with_len 0 n ++ n ∷ []
+range_more n =
+    sym (map-id (range_with_len 0 (n + 1)))
+    ∙ map-range_with_len_more (λ k. k) 0 n n (omega arith)
+    ∙ ap (λ xs. xs ++ n ∷ []) (map-id (range_with_len 0 n))
 
 -- a number is kept where it passes
 kept_is : (p : ℕ → Bool) (xs : List ℕ) (x : ℕ) (b : Bool) → p x ≡ b
@@ -82,8 +81,7 @@ roots_grow p root found b h is =
     kept_is p found root b h
     ∙ ap (λ xs. xs ++ filter p (root ∷ [])) is
     ∙ sym (filter-append p (range_with_len 0 root) (root ∷ []))
-    ∙ ap (filter p) (ap (λ k. range_with_len 0 root ++ k ∷ []) (let e : root ≡ 0 + root = omega arith in e)
-    ∙ sym (range_more 0 root))
+    ∙ ap (filter p) (sym (range_more root))
 
 -- and their lists
 pub lists_grow : (f : ℕ → List Member) (root : ℕ) (list : List Member) (found : List ℕ)

@@ -5,12 +5,10 @@ ghost use Rattle.std.specs.Prelude.{◌≡◌, IfOk};
 use crate::tests::{collection, is_leaf};
 use crate::{GROUP, Index, Settings, WIDE_GROUP, build};
 use breakpoints::Table;
-use isax_word::Layout;
 use mean_bound::MeanView;
 use outside::NoGate;
 use rand_xoshiro::SplitMix64;
 use rand_xoshiro::rand_core::{Rng, SeedableRng};
-use segment_sums::Cuts;
 use series_core::{Flat, Rows};
 use std::alloc::Global;
 use std::test::Fail;
@@ -238,11 +236,7 @@ fn compare<H: Threads + Sync>(
     if w < 1 || w > 16 || workers < 1 || workers > 64 {
         return Err(Fail::new("no such layout"));
     }
-    let layout = Layout {
-        cuts: Cuts::new(LENGTH, w),
-        table,
-    };
-    let settings = Settings { layout, leaf_size };
+    let settings = Settings::new(LENGTH, w, table, leaf_size);
     let Ok(index) = build(rt, alloc, rows, &settings, workers, &NoGate) else {
         return Err(Fail::new("no memory for the tree"));
     };
@@ -285,14 +279,7 @@ fn drawn_collections_have_the_plain_tree(rt: HostRuntime) -> Result<(), Fail> {
 #[test]
 fn a_group_is_no_farther_than_its_leaves(rt: HostRuntime) -> Result<(), Fail> {
     let rows = draw(rt.alloc(), 5, 700, 19000)?;
-    let layout = Layout {
-        cuts: Cuts::new(LENGTH, 16),
-        table: Table::Bent,
-    };
-    let settings = Settings {
-        layout,
-        leaf_size: 1,
-    };
+    let settings = Settings::new(LENGTH, 16, Table::Bent, 1);
     let Ok(index) = build(&rt, rt.alloc(), &rows, &settings, 1, &NoGate) else {
         return Err(Fail::new("no memory for the tree"));
     };

@@ -3,10 +3,8 @@ ghost use Rattle.std.specs.Prelude.{◌≡◌, IfOk};
 
 use crate::{Index, Settings, build};
 use breakpoints::Table;
-use isax_word::Layout;
 use lower_bound::QueryView;
 use outside::{Gate, NoGate};
-use segment_sums::Cuts;
 use series_core::{Flat, Rows};
 use std::alloc::Global;
 use std::sync::atomic::{AtomicBool, AtomicU64, Ordering};
@@ -16,9 +14,10 @@ use std::thread::Threads;
 /// How often a thread looks for another before it gives up.
 const LOOKS: u32 = 1_000_000_000;
 
-/// A tree that is known: its collection, its settings, its leaves and where a query starts.
+/// A tree that is known: its name, its collection, its settings, its leaves and where a query starts.
 #[derive(Drop)]
 struct Known<'a> {
+    name: &'a str,
     length: u32,
     values: &'a [i16],
     segments: u32,
@@ -84,39 +83,33 @@ fn has_leaves(index: &Index, tree: &Known) -> bool {
     true
 }
 
-/// Builds a known tree with 1, 2 and 64 workers, and compares its leaves and where the query starts.
-fn grows<H: Threads + Sync>(rt: &H, alloc: Global, tree: &Known) -> Result<(), Fail> {
+/// Whether a known tree that 1, 2 and 64 workers build has its leaves, and the query starts where it is to.
+fn grows<H: Threads + Sync>(rt: &H, alloc: Global, tree: &Known) -> Result<bool, Fail> {
     let rows = collection(alloc, tree.length, tree.values)?;
     let some = 1 <= tree.segments && tree.segments <= 16 && tree.segments <= tree.length;
     if !some || tree.length > 65536 || tree.query.len() != tree.length as usize {
         return Err(Fail::new("no such layout"));
     }
-    let layout = Layout {
-        cuts: Cuts::new(tree.length, tree.segments),
-        table: Table::Flat,
-    };
-    let settings = Settings {
-        layout,
-        leaf_size: tree.leaf_size,
-    };
-    let view = QueryView::new(&layout, tree.query);
+    let settings = Settings::new(tree.length, tree.segments, Table::Flat, tree.leaf_size);
+    let view = QueryView::new(&settings.layout, tree.query);
     for workers in [1u32, 2, 64] {
         let Ok(index) = build(rt, alloc, &rows, &settings, workers, &NoGate) else {
             return Err(Fail::new("no memory for the tree"));
         };
         if !has_leaves(&index, tree) {
-            return Err(Fail::new("other leaves"));
+            return Ok(false);
         }
         if index.segments() == tree.segments && index.start_leaf(&view) != Some(tree.start) {
-            return Err(Fail::new("another start"));
+            return Ok(false);
         }
     }
-    Ok(())
+    Ok(true)
 }
 
-#[test]
-fn two_roots(rt: HostRuntime) -> Result<(), Fail> {
-    let tree = Known {
+/// Trees that are known.
+const KNOWN: [Known; 4] = [
+    Known {
+        name: "two roots",
         length: 4,
         values: &[0, 0, 0, 0, 10, 10, 10, 10, -10, -10, -10, -10, 0, 0, 10, 10],
         segments: 2,
@@ -124,13 +117,9 @@ fn two_roots(rt: HostRuntime) -> Result<(), Fail> {
         leaves: &[(&[(0, 1), (0, 1)], &[2]), (&[(1, 1), (1, 1)], &[0, 1, 3])],
         query: &[1, 1, 1, 1],
         start: 1,
-    };
-    grows(&rt, rt.alloc(), &tree)
-}
-
-#[test]
-fn a_leaf_of_any_size_at_the_end_of_a_chain(rt: HostRuntime) -> Result<(), Fail> {
-    let tree = Known {
+    },
+    Known {
+        name: "a leaf of any size at the end of a chain",
         length: 4,
         values: &[0; 12],
         segments: 2,
@@ -138,13 +127,9 @@ fn a_leaf_of_any_size_at_the_end_of_a_chain(rt: HostRuntime) -> Result<(), Fail>
         leaves: &[(&[(128, 8), (128, 8)], &[0, 1, 2])],
         query: &[0, 0, 0, 0],
         start: 0,
-    };
-    grows(&rt, rt.alloc(), &tree)
-}
-
-#[test]
-fn segments_of_two_lengths(rt: HostRuntime) -> Result<(), Fail> {
-    let tree = Known {
+    },
+    Known {
+        name: "segments of two lengths",
         length: 5,
         values: &[0, 0, 0, 0, 0, -1, 0, 0, 0, -1],
         segments: 2,
@@ -152,13 +137,9 @@ fn segments_of_two_lengths(rt: HostRuntime) -> Result<(), Fail> {
         leaves: &[(&[(0, 1), (0, 1)], &[1]), (&[(1, 1), (1, 1)], &[0])],
         query: &[-1, 0, 0, 0, -1],
         start: 0,
-    };
-    grows(&rt, rt.alloc(), &tree)
-}
-
-#[test]
-fn splits_in_turn(rt: HostRuntime) -> Result<(), Fail> {
-    let tree = Known {
+    },
+    Known {
+        name: "splits in turn",
         length: 2,
         values: &[0, 0, 0, 20000, 300, 0],
         segments: 2,
@@ -170,26 +151,26 @@ fn splits_in_turn(rt: HostRuntime) -> Result<(), Fail> {
         ],
         query: &[0, 0],
         start: 0,
-    };
-    grows(&rt, rt.alloc(), &tree)
+    },
+];
+
+#[test]
+fn known_trees_grow(rt: HostRuntime) -> Result<(), Fail> {
+    for tree in &KNOWN {
+        assert!(rt; grows(&rt, rt.alloc(), tree)?, "{}", tree.name);
+    }
+    Ok(())
 }
 
 #[test]
 fn no_series_has_no_tree(rt: HostRuntime) -> Result<(), Fail> {
     let rows = collection(rt.alloc(), 4, &[])?;
-    let layout = Layout {
-        cuts: Cuts::new(4, 2),
-        table: Table::Bent,
-    };
-    let settings = Settings {
-        layout,
-        leaf_size: 1,
-    };
+    let settings = Settings::new(4, 2, Table::Bent, 1);
     let Ok(index) = build(&rt, rt.alloc(), &rows, &settings, 3, &NoGate) else {
         return Err(Fail::new("no memory for the tree"));
     };
     assert_eq!(rt; (index.root_count(), index.leaf_count()), (0, 0), "nothing");
-    let view = QueryView::new(&layout, &[0, 0, 0, 0]);
+    let view = QueryView::new(&settings.layout, &[0, 0, 0, 0]);
     assert_eq!(rt; index.start_leaf(&view), None, "no start");
     Ok(())
 }
@@ -230,14 +211,7 @@ fn two_workers_meet_at_the_gate(rt: HostRuntime) -> Result<(), Fail> {
         missed: AtomicBool::new(false),
     };
     let rows = collection(rt.alloc(), 1, &[5, -5, 7])?;
-    let layout = Layout {
-        cuts: Cuts::new(1, 1),
-        table: Table::Flat,
-    };
-    let settings = Settings {
-        layout,
-        leaf_size: 10,
-    };
+    let settings = Settings::new(1, 1, Table::Flat, 10);
     if build(&rt, rt.alloc(), &rows, &settings, 2, &gate).is_err() {
         return Err(Fail::new("no memory for the tree"));
     }
@@ -302,14 +276,7 @@ fn two_chunks_are_read_at_once(rt: HostRuntime) -> Result<(), Fail> {
         asked: [AtomicBool::new(false), AtomicBool::new(false)],
         missed: AtomicBool::new(false),
     };
-    let layout = Layout {
-        cuts: Cuts::new(1, 1),
-        table: Table::Flat,
-    };
-    let settings = Settings {
-        layout,
-        leaf_size: 1000,
-    };
+    let settings = Settings::new(1, 1, Table::Flat, 1000);
     let Ok(index) = build(&rt, rt.alloc(), &watched, &settings, 2, &NoGate) else {
         return Err(Fail::new("no memory for the tree"));
     };

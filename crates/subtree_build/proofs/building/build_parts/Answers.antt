@@ -1,10 +1,9 @@
 -- All places were drawn, each once, so the parts in order have one for each place.
-use Rattle.std.proofs.Common.{◌≡◌, ℕ, List, length, sym, ap, subst, arith, All}
-use Rattle.std.proofs.lemmas.List.{length-replicate, length-map}
-use Rattle.std.proofs.lemmas.List.Elements.{All-map}
+use Rattle.std.proofs.Common.{◌≡◌, ℕ, List, length, sym, subst, arith, All}
 use Rattle.std.proofs.lemmas.List.Sorted.{All-permutation}
-use Rattle.claim_word.specs.Passes.{Pass, EachDrawnOnce, fresh_pass}
+use Rattle.claim_word.specs.Passes.{EachDrawnOnce}
 use Rattle.worker_team.proofs.Deeds.{each_did}
+use Rattle.subtree_build.proofs.Passed.{passes_own, some_passes}
 use Rattle.subtree_build.specs.declared.part.Part.{Part}
 use Rattle.subtree_build.specs.Building.{HasBuilt, IsPartAt}
 use Rattle.subtree_build.proofs.Placing.{builders_made, places_are}
@@ -12,10 +11,7 @@ use Rattle.subtree_build.proofs.building.build_parts.Goals as goal
 
 pub close-requires-clause-own : goal.close-requires-clause-own
 close-requires-clause-own g c =
-    let own : Pass → Type 0 = λ p. p.claims ≡ c.in_ok-claims.claims in
-    let P : List Pass → Type 0 = λ ps. All own ps in
-    subst P (sym c.in_ok-passes.ensures.passes)
-    (All-map own (λ w. w.pass) c.run.new.team.items c.run.ensures.own)
+    passes_own c.run.new.team.items _ c.in_ok-passes.ensures.passes (λ p. p.claims ≡ c.in_ok-claims.claims) c.run.ensures.own
 
 pub returns-clause-places : goal.returns-clause-places
 returns-clause-places g c =
@@ -30,18 +26,8 @@ returns-clause-places g c =
     (each_did (λ p m. HasBuilt c.args.settings.now found p m.items) team.items passes c.in_ok-passes.made.items
     c.run.ensures.done c.in_ok-passes.ensures.passes c.in_ok-passes.ensures.made)
     c.in_ok-parts.ensures
-    (omega (
-      arith,
-      c.requires.workers,
-      team.ok.0,
-      c.run.ensures.len,
-      c.in_ok-team.ensures.len,
-      c.in_ok-claims.passes.ok.0,
-      ap length c.in_ok-claims.ensures.passes,
-      length-replicate (length c.args.turns.now) (fresh_pass c.in_ok-claims.claims),
-      ap length c.in_ok-passes.ensures.passes,
-      length-map team.items (λ w. w.pass),
-    ))
+    (some_passes team c.in_ok-team.team c.in_ok-claims.passes passes _ _ c.requires.workers.0 c.in_ok-claims.ensures.passes
+    c.in_ok-team.ensures.len c.run.ensures.len c.in_ok-passes.ensures.passes)
     (subst P count c.close.ensures) c.in_order.ensures.moved c.in_order.ensures.ordered
 
 pub returns-clause-built : goal.returns-clause-built

@@ -1,52 +1,42 @@
 -- Each part goes behind those before it.
-use Rattle.std.proofs.Common.{◌≡◌, ◌+◌, ◌^◌, List, [], ◌∷◌, ◌++◌, length, map, sym, ap, ◌∙◌, subst, arith, append_assoc, All}
+use Rattle.std.proofs.Common.{◌≡◌, ◌+◌, ◌^◌, [], ◌∷◌, ◌++◌, length, map, sym, ap, ◌∙◌, arith, append_assoc}
 use Rattle.std.specs.Vec.Iter.{into_iter_items}
 use Rattle.std.proofs.lemmas.List.{map-append}
 use Rattle.list_totals.specs.Totals.{total}
-use Rattle.worker_team.proofs.Hiring.{All-middle}
-use Rattle.subtree_build.specs.declared.part.Part.{Part}
 use Rattle.subtree_build.specs.Outline.{outline, moved_up}
 use Rattle.subtree_build.specs.Parts.{leaves_in, joined_nodes, part_firsts, NumbersWithin}
-use Rattle.subtree_build.proofs.Joining.{joined_nodes_push, part_firsts_push, length-part_leaves, part_leaves_push, part_members_push, moved_fits, fits_behind}
+use Rattle.subtree_build.proofs.Joining.{joined_nodes_push, part_firsts_push, length-part_leaves, part_leaves_push, part_members_push, moved_fits, next_fits, next_has, next_is_whole}
 use Rattle.subtree_build.proofs.part.join_parts.Goals as goal
 
 pub overflow_cast-first : goal.overflow_cast-first
 overflow_cast-first c =
     let was = c.loop-part.invariant in
-    let done = c.loop-part.yielded in
-    let part = c.in-Some.part in
-    let rest = into_iter_items c.next.new.self in
-    let whole : done ++ part ∷ rest ≡ c.args.parts.items
-    = ap (λ xs. done ++ xs) (sym c.in-Some.ensures.steps.0) ∙ was.whole in
-    let fits = fits_behind c.args.parts.items done rest part whole c.requires.few in
+    let fits = next_fits c.args.parts.items c.loop-part.yielded _ _ c.in-Some.part c.in-Some.ensures.steps.0 was.whole c.requires.few in
     omega (arith, fits, ap length was.leaves, c.loop-part.leaves.ok.0, c.len-first.ensures)
 
 pub renumber-requires : goal.renumber-requires
 renumber-requires c =
     let was = c.loop-part.invariant in
-    let done = c.loop-part.yielded in
     let part = c.in-Some.part in
-    let rest = into_iter_items c.next.new.self in
-    let whole : done ++ part ∷ rest ≡ c.args.parts.items
-    = ap (λ xs. done ++ xs) (sym c.in-Some.ensures.steps.0) ∙ was.whole in
-    let fits = fits_behind c.args.parts.items done rest part whole c.requires.few in
-    let P : List Part → Type 0 = λ ps. All NumbersWithin ps in
+    let parts = c.args.parts.items in
+    let next = c.in-Some.ensures.steps.0 in
     moved_fits (outline part.node) (leaves_in part) c.len-first.result (2 ^ 32)
-    (All-middle NumbersWithin done rest part (subst P (sym whole) c.requires.within))
-    (omega (arith, fits, ap length was.leaves, c.loop-part.leaves.ok.0, c.len-first.ensures))
+    (next_has parts c.loop-part.yielded _ _ part next was.whole NumbersWithin c.requires.within)
+    (omega (
+      arith,
+      next_fits parts c.loop-part.yielded _ _ part next was.whole c.requires.few,
+      ap length was.leaves,
+      c.loop-part.leaves.ok.0,
+      c.len-first.ensures,
+    ))
 
 pub overflow_cast-end : goal.overflow_cast-end
 overflow_cast-end c =
     let was = c.loop-part.invariant in
-    let done = c.loop-part.yielded in
     let part = c.in-Some.part in
-    let rest = into_iter_items c.next.new.self in
-    let whole : done ++ part ∷ rest ≡ c.args.parts.items
-    = ap (λ xs. done ++ xs) (sym c.in-Some.ensures.steps.0) ∙ was.whole in
-    let fits = fits_behind c.args.parts.items done rest part whole c.requires.few in
     omega (
       arith,
-      fits,
+      next_fits c.args.parts.items c.loop-part.yielded _ _ part c.in-Some.ensures.steps.0 was.whole c.requires.few,
       ap length was.leaves,
       c.in_ok-append.ensures.len,
       c.loop-part.leaves.ok.0,
@@ -62,8 +52,6 @@ loop-part-preserved c =
     let rest = into_iter_items c.next.new.self in
     let nodes = c.loop-part.nodes.items in
     let node = c.renumber.new.node in
-    let whole : done ++ part ∷ rest ≡ c.args.parts.items
-    = ap (λ xs. done ++ xs) (sym c.in-Some.ensures.steps.0) ∙ was.whole in
     let by : c.len-first.result ≡ 0 + total leaves_in done
     = omega (arith, ap length was.leaves, length-part_leaves done, c.loop-part.leaves.ok.0, c.len-first.ensures) in
     let behind : c.len-end.result ≡ 0 + (total leaves_in done + leaves_in part)
@@ -93,5 +81,6 @@ loop-part-preserved c =
       members = c.in_ok-append-2.ensures.items
           ∙ ap (λ xs. xs ++ part.members.items) was.members
           ∙ sym (part_members_push done part);
-      whole = append_assoc done (part ∷ []) rest ∙ whole;
+      whole = append_assoc done (part ∷ []) rest
+          ∙ next_is_whole c.args.parts.items done _ rest part c.in-Some.ensures.steps.0 was.whole;
     }

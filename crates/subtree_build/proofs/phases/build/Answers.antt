@@ -25,26 +25,18 @@ join_parts-requires-clause-within g c =
 
 pub join_parts-requires-clause-few : goal.join_parts-requires-clause-few
 join_parts-requires-clause-few g c =
-    few_parts c.args.settings.now (g.R.Rows.collection c.args.rows.now) c.in_ok-found.found
-    c.in_ok-parts.parts.items c.in_ok-found.ensures.roots c.in_ok-parts.ensures.places
-    c.in_ok-parts.ensures.built
+    few_parts _ _ _ c.in_ok-parts.parts.items c.in_ok-found.ensures.roots c.in_ok-parts.ensures.places c.in_ok-parts.ensures.built
 
 pub of_tree-requires-clause-nodes : goal.of_tree-requires-clause-nodes
 of_tree-requires-clause-nodes g c =
-    let nodes =
-    c.in_ok-joined.ensures.nodes
-    ∙ nodes_are c.args.settings.now (g.R.Rows.collection c.args.rows.now) c.in_ok-found.found
-    c.in_ok-parts.parts.items c.in_ok-found.ensures.roots c.in_ok-parts.ensures.places
-    c.in_ok-parts.ensures.built in
+    let own = c.in_ok-parts.ensures in
+    let nodes = c.in_ok-joined.ensures.nodes ∙ nodes_are _ _ _ c.in_ok-parts.parts.items c.in_ok-found.ensures.roots own.places own.built in
     search (rules, nodes)
 
 pub of_tree-requires-clause-firsts : goal.of_tree-requires-clause-firsts
 of_tree-requires-clause-firsts g c =
-    let firsts =
-    c.in_ok-joined.ensures.firsts
-    ∙ firsts_are c.args.settings.now (g.R.Rows.collection c.args.rows.now) c.in_ok-found.found
-    c.in_ok-parts.parts.items c.in_ok-found.ensures.roots c.in_ok-parts.ensures.places
-    c.in_ok-parts.ensures.built in
+    let own = c.in_ok-parts.ensures in
+    let firsts = c.in_ok-joined.ensures.firsts ∙ firsts_are _ _ _ c.in_ok-parts.parts.items c.in_ok-found.ensures.roots own.places own.built in
     search (rules, firsts)
 
 pub of_tree-requires-clause-leaves : goal.of_tree-requires-clause-leaves

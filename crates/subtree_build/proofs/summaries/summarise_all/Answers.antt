@@ -1,20 +1,16 @@
 -- All chunks were drawn, each once, so the buffers together hold all members.
-use Rattle.std.proofs.Common.{◌≡◌, ℕ, length, sym, ap, ◌∙◌, subst, arith, All, List}
-use Rattle.std.proofs.lemmas.List.{length-replicate, length-map}
-use Rattle.std.proofs.lemmas.List.Elements.{All-map}
-use Rattle.claim_word.specs.Passes.{Pass, EachDrawnOnce, fresh_pass}
+use Rattle.std.proofs.Common.{◌≡◌, ℕ, length, ap, ◌∙◌, subst}
+use Rattle.claim_word.specs.Passes.{EachDrawnOnce}
 use Rattle.summary_phase.specs.Chunks.{chunk_count}
 use Rattle.worker_team.proofs.Deeds.{each_did}
+use Rattle.subtree_build.proofs.Passed.{passes_own, some_passes}
 use Rattle.subtree_build.specs.Summaries.{HasSummarised}
 use Rattle.subtree_build.proofs.Gathering.{hold_all}
 use Rattle.subtree_build.proofs.summaries.summarise_all.Goals as goal
 
 pub close-requires-clause-own : goal.close-requires-clause-own
 close-requires-clause-own g c =
-    let own : Pass → Type 0 = λ p. p.claims ≡ c.in_ok-claims.claims in
-    let P : List Pass → Type 0 = λ ps. All own ps in
-    subst P (sym c.in_ok-passes.ensures.passes)
-    (All-map own (λ w. w.pass) c.run.new.team.items c.run.ensures.own)
+    passes_own c.run.new.team.items _ c.in_ok-passes.ensures.passes (λ p. p.claims ≡ c.in_ok-claims.claims) c.run.ensures.own
 
 pub returns-clause-members : goal.returns-clause-members
 returns-clause-members g c =
@@ -27,16 +23,6 @@ returns-clause-members g c =
     hold_all c.args.layout.now rows passes c.in_ok-passes.buffers.items
     (each_did (HasSummarised c.args.layout.now rows) team.items passes c.in_ok-passes.buffers.items
     c.run.ensures.done c.in_ok-passes.ensures.passes c.in_ok-passes.ensures.made)
-    (omega (
-      arith,
-      c.requires.workers,
-      team.ok.0,
-      c.run.ensures.len,
-      c.in_ok-team.ensures.len,
-      c.in_ok-claims.passes.ok.0,
-      ap length c.in_ok-claims.ensures.passes,
-      length-replicate c.args.workers (fresh_pass c.in_ok-claims.claims),
-      ap length c.in_ok-passes.ensures.passes,
-      length-map team.items (λ w. w.pass),
-    ))
+    (some_passes team c.in_ok-team.team c.in_ok-claims.passes passes _ _ c.requires.workers.0 c.in_ok-claims.ensures.passes
+    c.in_ok-team.ensures.len c.run.ensures.len c.in_ok-passes.ensures.passes)
     (subst P count c.close.ensures)

@@ -1,11 +1,12 @@
 -- The box at the number of the leaf.
-use Rattle.std.proofs.Common.{◌∙◌, ◌-◌, ◌<◌, ℕ, List, [], length, take, drop, get_or, ap, sym, arith}
-use Rattle.std.proofs.lemmas.List.{get_or-map, length-map}
+use Rattle.std.proofs.Common.{◌∙◌, ◌-◌, ℕ, List, [], take, drop, get_or, ap, sym}
+use Rattle.std.proofs.lemmas.List.{get_or-map}
 use Rattle.mean_bound.specs.Boxes.{Box, box_of}
 use Rattle.subtree_build.specs.declared.leaf.LeafPlace.{LeafPlace}
 use Rattle.subtree_build.specs.Index.{IndexParts}
 use Rattle.subtree_build.specs.Means.{means_at}
-use Rattle.subtree_build.specs.Places.{leaf_seen, AreTables}
+use Rattle.subtree_build.specs.Places.{AreTables}
+use Rattle.subtree_build.proofs.Seen.{has_place}
 use Rattle.subtree_build.proofs.index.Index.leaf_box.Goals as goal
 
 pub returns : goal.returns
@@ -14,12 +15,7 @@ returns c =
     let l = c.args.l in
     let means = x.tables.means.items in
     let part : LeafPlace → List (List ℕ) = λ p. take (p.end - p.first) (drop p.first means) in
-    let low : l < length x.leaves.items = omega (
-      arith,
-      c.requires,
-      length-map x.leaves.items (leaf_seen x.members.items),
-      ap (λ (ix : IndexParts). length ix.leaves) c.self.view_is,
-    ) in
+    let low = has_place x c.self.view_is l c.requires in
     let tables : AreTables x.members.items x.leaves.items x.tables = c.self.invariant.3 in
     let none : LeafPlace = record { word = []; first = 0; end = 0 } in
     c.index.ensures

@@ -1,11 +1,11 @@
 -- The finer means at the place of the leaf.
-use Rattle.std.proofs.Common.{◌≡◌, ◌∙◌, ◌-◌, ◌*◌, ◌<◌, ℕ, List, [], length, take, drop, ap, sym, arith}
+use Rattle.std.proofs.Common.{◌≡◌, ◌∙◌, ◌-◌, ◌*◌, ℕ, List, [], take, drop, ap, sym, arith}
 use Rattle.std.proofs.Math.Nat.{mul-sub}
-use Rattle.std.proofs.lemmas.List.{get_or-map, length-map}
+use Rattle.std.proofs.lemmas.List.{get_or-map}
 use Rattle.subtree_build.specs.declared.leaf.LeafPlace.{LeafPlace}
 use Rattle.subtree_build.specs.Index.{IndexParts}
 use Rattle.subtree_build.specs.Means.{finer_at}
-use Rattle.subtree_build.specs.Places.{leaf_seen}
+use Rattle.subtree_build.proofs.Seen.{has_place}
 use Rattle.subtree_build.proofs.index.Index.leaf_finer.Goals as goal
 
 pub returns : goal.returns
@@ -15,12 +15,7 @@ returns c =
     let n = x.tables.parts in
     let p = c.index-place.result.now in
     let part : LeafPlace → List (List ℕ) = λ q. take ((q.end - q.first) * n) (drop (q.first * n) x.tables.finer.items) in
-    let low : l < length x.leaves.items = omega (
-      arith,
-      c.requires,
-      length-map x.leaves.items (leaf_seen x.members.items),
-      ap (λ (ix : IndexParts). length ix.leaves) c.self.view_is,
-    ) in
+    let low = has_place x c.self.view_is l c.requires in
     let same : p.end * n - p.first * n ≡ (p.end - p.first) * n = omega (arith, mul-sub n p.end p.first) in
     ap (λ (ms : List (List ℕ)). take (p.end * n - p.first * n) (drop (p.first * n) ms)) c.deref.ensures.value
     ∙ ap (λ k. take k (drop (p.first * n) x.tables.finer.items)) same

@@ -38,49 +38,34 @@ placed-requires c =
 
 pub blank_tables-requires : goal.blank_tables-requires
 blank_tables-requires c =
-    let row = a_row c.args.segments c.args.roots.items c.as_slice.result.now c.args.nodes.items c.as_slice-2.result.now
-    c.in_ok-words.field-0.words.items c.as_slice-3.result.now c.in_ok-words.field-0.firsts.items c.args.leaves.items
-    c.as_slice-4.result.now c.in_ok-own.field-0.leaves.items c.as_slice-5.result.now c.in_ok-own.field-0.members.items
-    c.in_ok-leaves.leaves.items c.requires.some_segments c.requires.few_segments c.requires.few_leaves c.requires.made
+    let row = a_row c.in_ok-own.field-0.members.items c.requires.some_segments c.requires.few_segments c.requires.few_leaves c.requires.made
     c.as_slice.ensures.value c.as_slice-2.ensures.value c.as_slice-3.ensures.value c.as_slice-4.ensures.value
     c.as_slice-5.ensures.value c.in_ok-words.ensures.words c.in_ok-words.ensures.firsts c.in_ok-own.ensures.leaves
     c.in_ok-own.ensures.whole c.in_ok-own.ensures.few c.in_ok-leaves.ensures in
-    let lie = row_lies c.args.segments c.args.roots.items c.args.nodes.items c.in_ok-words.field-0.words.items c.in_ok-words.field-0.firsts.items
-    c.args.leaves.items c.in_ok-own.field-0.leaves.items c.in_ok-own.field-0.members.items c.in_ok-leaves.leaves.items row in
+    let lie = row_lies row in
     let M : List Member → Type 0 = λ ms. ArePlaces ms c.as_slice-7.result.now in
     let L : List LeafPlace → Type 0 = λ ps. ArePlaces c.in_ok-own.field-0.members.items ps in
     subst M (sym c.as_slice-6.ensures.value) (subst L (sym c.as_slice-7.ensures.value) lie)
 
 pub invariant_of-result : goal.invariant_of-result
 invariant_of-result c =
-    let row = a_row c.args.segments c.args.roots.items c.as_slice.result.now c.args.nodes.items c.as_slice-2.result.now
-    c.in_ok-words.field-0.words.items c.as_slice-3.result.now c.in_ok-words.field-0.firsts.items c.args.leaves.items
-    c.as_slice-4.result.now c.in_ok-own.field-0.leaves.items c.as_slice-5.result.now c.in_ok-own.field-0.members.items
-    c.in_ok-leaves.leaves.items c.requires.some_segments c.requires.few_segments c.requires.few_leaves c.requires.made
+    let row = a_row c.in_ok-own.field-0.members.items c.requires.some_segments c.requires.few_segments c.requires.few_leaves c.requires.made
     c.as_slice.ensures.value c.as_slice-2.ensures.value c.as_slice-3.ensures.value c.as_slice-4.ensures.value
     c.as_slice-5.ensures.value c.in_ok-words.ensures.words c.in_ok-words.ensures.firsts c.in_ok-own.ensures.leaves
     c.in_ok-own.ensures.whole c.in_ok-own.ensures.few c.in_ok-leaves.ensures in
     let M : List Member → Type 0 = λ ms. AreTables ms c.as_slice-7.result.now c.in_ok-tables.tables in
     let L : List LeafPlace → Type 0 = λ ps. AreTables c.in_ok-own.field-0.members.items ps c.in_ok-tables.tables in (
-      row_is_index c.args.segments c.args.roots.items c.args.nodes.items c.in_ok-words.field-0.words.items c.in_ok-words.field-0.firsts.items
-          c.args.leaves.items c.in_ok-own.field-0.leaves.items c.in_ok-own.field-0.members.items c.in_ok-leaves.leaves.items row _ _,
-      row_lies c.args.segments c.args.roots.items c.args.nodes.items c.in_ok-words.field-0.words.items c.in_ok-words.field-0.firsts.items
-          c.args.leaves.items c.in_ok-own.field-0.leaves.items c.in_ok-own.field-0.members.items c.in_ok-leaves.leaves.items row,
-      row_ranges c.args.segments c.args.roots.items c.args.nodes.items c.in_ok-words.field-0.words.items c.in_ok-words.field-0.firsts.items
-          c.args.leaves.items c.in_ok-own.field-0.leaves.items c.in_ok-own.field-0.members.items c.in_ok-leaves.leaves.items row,
+      row_is_index row _ _,
+      row_lies row,
+      row_ranges row,
       subst L c.as_slice-7.ensures.value (subst M c.as_slice-6.ensures.value c.in_ok-tables.ensures),
-      row_is_all c.args.segments c.args.roots.items c.args.nodes.items c.in_ok-words.field-0.words.items c.in_ok-words.field-0.firsts.items
-          c.args.leaves.items c.in_ok-own.field-0.leaves.items c.in_ok-own.field-0.members.items c.in_ok-leaves.leaves.items row,
+      row_is_all row,
     )
 
 pub returns : goal.returns
 returns c =
-    let row = a_row c.args.segments c.args.roots.items c.as_slice.result.now c.args.nodes.items c.as_slice-2.result.now
-    c.in_ok-words.field-0.words.items c.as_slice-3.result.now c.in_ok-words.field-0.firsts.items c.args.leaves.items
-    c.as_slice-4.result.now c.in_ok-own.field-0.leaves.items c.as_slice-5.result.now c.in_ok-own.field-0.members.items
-    c.in_ok-leaves.leaves.items c.requires.some_segments c.requires.few_segments c.requires.few_leaves c.requires.made
+    let row = a_row c.in_ok-own.field-0.members.items c.requires.some_segments c.requires.few_segments c.requires.few_leaves c.requires.made
     c.as_slice.ensures.value c.as_slice-2.ensures.value c.as_slice-3.ensures.value c.as_slice-4.ensures.value
     c.as_slice-5.ensures.value c.in_ok-words.ensures.words c.in_ok-words.ensures.firsts c.in_ok-own.ensures.leaves
     c.in_ok-own.ensures.whole c.in_ok-own.ensures.few c.in_ok-leaves.ensures in
-    row_of_parts c.args.segments c.args.roots.items c.args.nodes.items c.in_ok-words.field-0.words.items c.in_ok-words.field-0.firsts.items
-    c.args.leaves.items c.in_ok-own.field-0.leaves.items c.in_ok-own.field-0.members.items c.in_ok-leaves.leaves.items row _ _
+    row_of_parts row _ _
