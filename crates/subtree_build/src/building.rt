@@ -42,25 +42,7 @@ fn built<G: Gate>(
     }
 }
 
-/// Lets a worker build, and keeps what it made.
-fn work<G: Gate>(
-    alloc: Global,
-    settings: &Settings,
-    found: &RootLists,
-    claims: &Claims,
-    gate: &G,
-    worker: &mut TeamWorker<Vec<Part>>,
-)
-    requires count { claims.now.count ≡ length found.now.roots.items }
-    requires found { CanBuild settings.now found.now }
-    requires fresh { worker.old.pass ≡ fresh_pass claims.now }
-    ensures own { worker.new.pass.claims ≡ claims.now }
-    ensures done { IfSome worker.new.made (λ parts. HasBuilt settings.now found.now worker.new.pass parts.items) }
-{
-    worker.made = built(alloc, settings, found, claims, gate, worker).ok();
-}
-
-/// Each worker works in a thread of its own; a worker alone starts none.
+/// Each worker builds in a thread of its own, and keeps what it made; a worker alone starts none.
 fn run<H: Threads + Sync, G: Gate + Sync>(
     rt: &H,
     alloc: Global,
@@ -83,7 +65,7 @@ fn run<H: Threads + Sync, G: Gate + Sync>(
         rt,
         team.as_mut_slice(),
         workers,
-        &|_, worker| work(alloc, settings, found, claims, gate, worker),
+        &|_, worker| worker.made = built(alloc, settings, found, claims, gate, worker).ok(),
     );
 }
 

@@ -62,25 +62,7 @@ fn summarised<R: Rows, G: Gate>(
     Ok(buffers)
 }
 
-/// Lets a worker summarise, and keeps what it made.
-fn work<R: Rows, G: Gate>(
-    alloc: Global,
-    rows: &R,
-    layout: &Layout,
-    claims: &Claims,
-    gate: &G,
-    worker: &mut TeamWorker<Buffers>,
-)
-    requires length { layout.now.cuts.row_length ≡ (R.collection rows.now).points }
-    requires chunks { claims.now.count ≡ chunk_count (length (R.collection rows.now).series) }
-    requires fresh { worker.old.pass ≡ fresh_pass claims.now }
-    ensures own { worker.new.pass.claims ≡ claims.now }
-    ensures done { IfSome worker.new.made (HasSummarised layout.now (R.collection rows.now) worker.new.pass) }
-{
-    worker.made = summarised(alloc, rows, layout, claims, gate, worker).ok();
-}
-
-/// Each worker works in a thread of its own; a worker alone starts none.
+/// Each worker summarises in a thread of its own, and keeps what it made; a worker alone starts none.
 fn run<H: Threads + Sync, R: Rows + Sync, G: Gate + Sync>(
     rt: &H,
     alloc: Global,
@@ -103,7 +85,7 @@ fn run<H: Threads + Sync, R: Rows + Sync, G: Gate + Sync>(
         rt,
         team.as_mut_slice(),
         workers,
-        &|_, worker| work(alloc, rows, layout, claims, gate, worker),
+        &|_, worker| worker.made = summarised(alloc, rows, layout, claims, gate, worker).ok(),
     );
 }
 

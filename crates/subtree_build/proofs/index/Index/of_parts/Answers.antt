@@ -1,5 +1,5 @@
 -- The leaves lie in one row, and make the index of the parts.
-use Rattle.std.proofs.Common.{ℕ, List, length, ap, sym, subst, arith}
+use Rattle.std.proofs.Common.{◌≡◌, ℕ, List, length, ap, sym, subst, arith}
 use Rattle.isax_word.specs.declared.word.Part.{Part}
 use Rattle.isax_word.specs.declared.member.Member.{Member}
 use Rattle.subtree_build.specs.declared.leaf.LeafPlace.{LeafPlace}
@@ -36,16 +36,20 @@ pub placed-requires : goal.placed-requires
 placed-requires c =
     omega (arith, ap members_in c.as_slice-5.ensures.value, c.in_ok-own.ensures.whole, c.in_ok-own.ensures.few)
 
+-- what holds of members and places holds of the same that are shown otherwise
+shown : (P : List Member → List LeafPlace → Type 0) (members ms : List Member) (places ps : List LeafPlace)
+    → members ≡ ms → places ≡ ps → P members places → P ms ps
+shown P members ms places ps as_ms as_ps holds =
+    let M : List Member → Type 0 = λ x. P x ps in
+    subst M as_ms (subst (P members) as_ps holds)
+
 pub blank_tables-requires : goal.blank_tables-requires
 blank_tables-requires c =
     let row = a_row c.in_ok-own.field-0.members.items c.requires.some_segments c.requires.few_segments c.requires.few_leaves c.requires.made
     c.as_slice.ensures.value c.as_slice-2.ensures.value c.as_slice-3.ensures.value c.as_slice-4.ensures.value
     c.as_slice-5.ensures.value c.in_ok-words.ensures.words c.in_ok-words.ensures.firsts c.in_ok-own.ensures.leaves
     c.in_ok-own.ensures.whole c.in_ok-own.ensures.few c.in_ok-leaves.ensures in
-    let lie = row_lies row in
-    let M : List Member → Type 0 = λ ms. ArePlaces ms c.as_slice-7.result.now in
-    let L : List LeafPlace → Type 0 = λ ps. ArePlaces c.in_ok-own.field-0.members.items ps in
-    subst M (sym c.as_slice-6.ensures.value) (subst L (sym c.as_slice-7.ensures.value) lie)
+    shown ArePlaces _ _ _ _ (sym c.as_slice-6.ensures.value) (sym c.as_slice-7.ensures.value) (row_lies row)
 
 pub invariant_of-result : goal.invariant_of-result
 invariant_of-result c =
@@ -53,12 +57,11 @@ invariant_of-result c =
     c.as_slice.ensures.value c.as_slice-2.ensures.value c.as_slice-3.ensures.value c.as_slice-4.ensures.value
     c.as_slice-5.ensures.value c.in_ok-words.ensures.words c.in_ok-words.ensures.firsts c.in_ok-own.ensures.leaves
     c.in_ok-own.ensures.whole c.in_ok-own.ensures.few c.in_ok-leaves.ensures in
-    let M : List Member → Type 0 = λ ms. AreTables ms c.as_slice-7.result.now c.in_ok-tables.tables in
-    let L : List LeafPlace → Type 0 = λ ps. AreTables c.in_ok-own.field-0.members.items ps c.in_ok-tables.tables in (
+    let are : List Member → List LeafPlace → Type 0 = λ ms ps. AreTables ms ps c.in_ok-tables.tables in (
       row_is_index row _ _,
       row_lies row,
       row_ranges row,
-      subst L c.as_slice-7.ensures.value (subst M c.as_slice-6.ensures.value c.in_ok-tables.ensures),
+      shown are _ _ _ _ c.as_slice-6.ensures.value c.as_slice-7.ensures.value c.in_ok-tables.ensures,
       row_is_all row,
     )
 
