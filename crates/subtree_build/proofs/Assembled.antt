@@ -25,7 +25,7 @@ use Rattle.subtree_build.specs.Places.{places_from, leaves_seen, tree_firsts, Ar
 use Rattle.subtree_build.proofs.Growing.{length-cut}
 use Rattle.subtree_build.proofs.Indexing.{numbers_of_outlines}
 use Rattle.subtree_build.proofs.Numbering.{two_rows, nodes_are_numbered}
-use Rattle.subtree_build.proofs.Placed.{are_places, are_ranges, length-places, seen_is_cut}
+use Rattle.subtree_build.proofs.Placed.{are_ranges, length-places, places_lie, seen_is_cut}
 
 -- the words of leaves
 abbrev pub words_of : List TreeLeaf → List (List Part)
@@ -303,9 +303,7 @@ module _ {w : ℕ} {roots : List ℕ} {nodes : List Node} {words : List (List Pa
 
   -- at their places
   pub row_lies : ArePlaces members places
-  row_lies =
-      let P : List LeafPlace → Type 0 = λ ps. ArePlaces members ps in
-      subst P (sym row.places_are) (are_places members 0 leaves (omega (arith, row.whole)))
+  row_lies = places_lie members leaves places row.whole row.places_are
 
   -- there are as many places as lists
   row_long : length places ≡ length lists

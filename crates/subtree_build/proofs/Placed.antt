@@ -77,6 +77,13 @@ are_places members first (l ∷ leaves) inside =
     (record { order = omega arith; inside = omega (arith, inside) })
     (are_places members (first + l.count) leaves (omega (arith, inside)))
 
+-- so do the places of leaves that have all members
+pub places_lie : (members : List Member) (leaves : List GrownLeaf) (places : List LeafPlace)
+    → members_in leaves ≡ length members → places ≡ places_from 0 leaves → ArePlaces members places
+places_lie members leaves places whole are =
+    let P : List LeafPlace → Type 0 = λ ps. ArePlaces members ps in
+    subst P (sym are) (are_places members 0 leaves (omega (arith, whole)))
+
 -- as many numbers of first leaves as trees, and one more
 length-firsts : {A : Type 0} (first : ℕ) (trees : List (Tree A)) → length (tree_firsts first trees) ≡ length trees + 1
 length-firsts first [] = refl

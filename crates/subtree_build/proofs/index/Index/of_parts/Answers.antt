@@ -1,13 +1,14 @@
 -- The leaves lie in one row, and make the index of the parts.
-use Rattle.std.proofs.Common.{◌≡◌, ℕ, List, length, ap, sym, subst, arith}
+use Rattle.std.proofs.Common.{◌≡◌, ◌∙◌, ℕ, List, length, ap, sym, subst, arith}
 use Rattle.isax_word.specs.declared.word.Part.{Part}
 use Rattle.isax_word.specs.declared.member.Member.{Member}
 use Rattle.subtree_build.specs.declared.leaf.LeafPlace.{LeafPlace}
 use Rattle.subtree_build.specs.declared.node.Node.{Node}
 use Rattle.subtree_build.specs.Assembly.{all_words}
 use Rattle.subtree_build.specs.Grown.{members_in}
-use Rattle.subtree_build.specs.Places.{ArePlaces, AreTables}
+use Rattle.subtree_build.specs.Places.{places_from, ArePlaces, AreTables}
 use Rattle.subtree_build.proofs.Assembled.{a_row, long_words, row_is_index, row_lies, row_ranges, row_is_all, row_of_parts}
+use Rattle.subtree_build.proofs.Placed.{places_lie}
 use Rattle.subtree_build.proofs.index.Index.of_parts.Goals as goal
 
 pub words_below-requires-clause-few : goal.words_below-requires-clause-few
@@ -45,11 +46,9 @@ shown P members ms places ps as_ms as_ps holds =
 
 pub blank_tables-requires : goal.blank_tables-requires
 blank_tables-requires c =
-    let row = a_row c.in_ok-own.field-0.members.items c.requires.some_segments c.requires.few_segments c.requires.few_leaves c.requires.made
-    c.as_slice.ensures.value c.as_slice-2.ensures.value c.as_slice-3.ensures.value c.as_slice-4.ensures.value
-    c.as_slice-5.ensures.value c.in_ok-words.ensures.words c.in_ok-words.ensures.firsts c.in_ok-own.ensures.leaves
-    c.in_ok-own.ensures.whole c.in_ok-own.ensures.few c.in_ok-leaves.ensures in
-    shown ArePlaces _ _ _ _ (sym c.as_slice-6.ensures.value) (sym c.as_slice-7.ensures.value) (row_lies row)
+    shown ArePlaces _ _ _ _ (sym c.as_slice-6.ensures.value) (sym c.as_slice-7.ensures.value)
+    (places_lie c.in_ok-own.field-0.members.items c.in_ok-own.field-0.leaves.items c.in_ok-leaves.leaves.items c.in_ok-own.ensures.whole
+    (c.in_ok-leaves.ensures ∙ ap (places_from 0) c.as_slice-5.ensures.value))
 
 pub invariant_of-result : goal.invariant_of-result
 invariant_of-result c =

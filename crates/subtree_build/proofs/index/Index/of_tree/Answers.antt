@@ -20,7 +20,7 @@ use Rattle.subtree_build.proofs.Meaning.{all_cut, means_are_own, finer_are_own, 
 use Rattle.subtree_build.proofs.OfCollection.{IsReal}
 use Rattle.subtree_build.proofs.Growing.{length-cut}
 use Rattle.subtree_build.proofs.Indexing.{length-all_numbered, tree_is_index}
-use Rattle.subtree_build.proofs.Placed.{length-places, seen_is_cut, tree_is_seen, are_places, are_ranges, few_members}
+use Rattle.subtree_build.proofs.Placed.{length-places, seen_is_cut, tree_is_seen, are_ranges, few_members, places_lie}
 use Rattle.subtree_build.proofs.index.Index.of_tree.Goals as goal
 
 pub placed-requires : goal.placed-requires
@@ -58,16 +58,9 @@ tables_of-requires-clause-few g c =
     let whole = c.requires.whole in
     search (rules, few, whole)
 
--- the places of the leaves lie among the members
-places_lie : (joined : Joined) (places : List LeafPlace) → members_in joined.leaves.items ≡ length joined.members.items
-    → places ≡ places_from 0 joined.leaves.items → ArePlaces joined.members.items places
-places_lie joined places whole are =
-    let P : List LeafPlace → Type 0 = λ ps. ArePlaces joined.members.items ps in
-    subst P (sym are) (are_places joined.members.items 0 joined.leaves.items (omega (arith, whole)))
-
 pub tables_of-requires-clause-places : goal.tables_of-requires-clause-places
 tables_of-requires-clause-places g c =
-    let lie = places_lie c.args.joined c.in_ok-leaves.leaves.items c.requires.whole
+    let lie = places_lie c.args.joined.members.items c.args.joined.leaves.items c.in_ok-leaves.leaves.items c.requires.whole
     (c.in_ok-leaves.ensures ∙ ap (places_from 0) c.as_slice.ensures.value) in
     search (rules, lie)
 
@@ -105,7 +98,7 @@ invariant_of-result g c =
     = sym (length-map joined.nodes.items outline) ∙ ap (λ (ts : List (Tree ℕ)). length ts) c.requires.nodes
     ∙ length-all_numbered 0 (tree rows layout size) in (
       tree_is_index rows layout size _ c.segments-segments.ensures.divides c.count-count.ensures.sound seen,
-      places_lie joined c.in_ok-leaves.leaves.items c.requires.whole places,
+      places_lie joined.members.items joined.leaves.items c.in_ok-leaves.leaves.items c.requires.whole places,
       are_ranges (tree rows layout size) joined.nodes.items joined.firsts.items c.in_ok-leaves.leaves.items
           c.requires.nodes c.requires.firsts long many,
       tables_are rows layout joined.members.items c.in_ok-leaves.leaves.items c.in_ok-tables.tables
