@@ -1,89 +1,32 @@
 //! Random small collections: the answer is that of a plain filter over all series, sorted.
-ghost use Rattle.std.specs.Prelude.{◌≡◌, ◌*◌, ◌≤◌, IfOk, vec_len};
-
 use crate::within;
 use breakpoints::Table;
-use isax_word::Layout;
 use outside::{Gate, NoGate, NoMemory};
-use segment_sums::Cuts;
+use plain_search::{Source, Turns, by_distance};
 use series_core::{Flat, Pair, Rows};
 use std::alloc::Global;
-use std::sync::atomic::{AtomicU64, Ordering};
 use std::test::*;
 use std::thread::Threads;
 use subtree_build::{Settings, build};
 
-/// Values by a linear congruence, each from -`spread` to `spread`.
-#[derive(Drop)]
-struct Source {
-    state: u64,
-    spread: u32,
-}
-
-impl Source {
-    fn value(&mut self) -> i16 {
-        self.state = self
-            .state
-            .wrapping_mul(6364136223846793005)
-            .wrapping_add(1442695040888963407);
-        let spread = self.spread.min(30000);
-        let span = u64::from(2 * spread + 1);
-        let above = ((self.state >> 33) % span) as i32;
-        (above - spread as i32) as i16
-    }
-}
-
 /// `count` series of six values, at most 1000 of them.
 fn collection(alloc: Global, source: &mut Source, count: u32) -> Result<Flat, NoMemory> {
-    let values = values(alloc, source, count.min(1000))?;
+    let values = source.values(alloc, 6 * count.min(1000))?;
     Ok(Flat::from_values(6, values))
 }
 
-fn values(alloc: Global, source: &mut Source, count: u32) -> Result<Vec<i16>, NoMemory>
-    requires { count ≤ 1000 }
-    ensures { IfOk result (λ values. vec_len values ≡ count * 6) }
-{
-    let mut values = Vec::new(alloc);
-    for _series in 0..count {
-        let series = [
-            source.value(),
-            source.value(),
-            source.value(),
-            source.value(),
-            source.value(),
-            source.value(),
-        ];
-        values.extend_from_slice(&series)?;
-    }
-    Ok(values)
-}
-
-/// The squared distance, value by value.
-fn plain_distance(x: &[i16], q: &[i16]) -> u64 {
-    let mut sum = 0u64;
-    for (a, b) in x.iter().zip(q) {
-        let difference = i32::from(*a).abs_diff(i32::from(*b));
-        let square = u64::from(difference).wrapping_mul(u64::from(difference));
-        sum = sum.wrapping_add(square);
-    }
-    sum
-}
-
-/// The pairs within the radius, by distance and then by number.
+/// Those of these pairs that are within the radius.
 fn plain_within(
     alloc: Global,
-    rows: &Flat,
-    query: &[i16],
+    pairs: &[(u64, u32)],
     radius: u64,
 ) -> Result<Vec<(u64, u32)>, NoMemory> {
     let mut near = Vec::new(alloc);
-    for number in 0..rows.count() {
-        let distance = plain_distance(rows.row(number), query);
-        if distance <= radius {
-            near.push((distance, number))?;
+    for (distance, number) in pairs {
+        if *distance <= radius {
+            near.push((*distance, *number))?;
         }
     }
-    near.sort_unstable();
     Ok(near)
 }
 
@@ -120,27 +63,30 @@ fn found<T: Threads + Sync, G: Gate + Sync>(
     alloc: Global,
     rows: &Flat,
     shape: Shape,
-    query: &[i16; 6],
+    query: &[i16],
     radius: u64,
     gate: &G,
 ) -> Result<Vec<(u64, u32)>, NoMemory> {
-    let Shape {
-        table,
-        segments,
-        leaf_size,
-        workers,
-    } = shape;
-    if segments < 1 || segments > 6 || workers < 1 || workers > 64 || rows.length() != 6 {
+    let can_cut = shape.segments >= 1 && shape.segments <= 6;
+    if !can_cut || shape.workers < 1 || shape.workers > 64 {
         return Err(NoMemory);
     }
-    let layout = Layout {
-        cuts: Cuts::new(6, segments),
-        table,
-    };
-    let settings = Settings { layout, leaf_size };
+    if rows.length() != 6 || query.len() != 6 {
+        return Err(NoMemory);
+    }
+    let settings = Settings::new(6, shape.segments, shape.table, shape.leaf_size);
+    let layout = &settings.layout;
     let index = build(rt, alloc, rows, &settings, 1, &NoGate)?;
     let pairs = within(
-        rt, alloc, rows, &index, &layout, query, radius, workers, gate,
+        rt,
+        alloc,
+        rows,
+        &index,
+        layout,
+        query,
+        radius,
+        shape.workers,
+        gate,
     )?;
     listed(alloc, &pairs)
 }
@@ -152,9 +98,9 @@ fn wrong_radius<T: Threads + Sync>(
     alloc: Global,
     rows: &Flat,
     shape: Shape,
-    query: &[i16; 6],
+    query: &[i16],
 ) -> Result<Option<u64>, NoMemory> {
-    let all = plain_within(alloc, rows, query, u64::MAX)?;
+    let all = by_distance(alloc, rows, query)?;
     let middle = match all.get(all.len() / 3) {
         Some((distance, _number)) => *distance,
         None => 7,
@@ -166,7 +112,7 @@ fn wrong_radius<T: Threads + Sync>(
         281474976710656,
         u64::MAX,
     ] {
-        let want = plain_within(alloc, rows, query, radius)?;
+        let want = plain_within(alloc, &all, radius)?;
         if found(rt, alloc, rows, shape, query, radius, &NoGate)? != want {
             return Ok(Some(radius));
         }
@@ -186,19 +132,9 @@ fn finds_what_a_plain_filter_finds(rt: HostRuntime) -> Result<(), Fail> {
         (6, 90, 30000, shaped(Table::Flat, 6, 1, 5)),
         (7, 300, 700, shaped(Table::Bent, 5, 4, 5)),
     ] {
-        let mut source = Source {
-            state: seed,
-            spread,
-        };
+        let mut source = Source::new(seed, spread);
         let rows = collection(alloc, &mut source, count)?;
-        let query = [
-            source.value(),
-            source.value(),
-            source.value(),
-            source.value(),
-            source.value(),
-            source.value(),
-        ];
+        let query = source.values(alloc, 6)?;
         assert_eq!(rt;
             wrong_radius(&rt, alloc, &rows, shape, &query)?,
             None,
@@ -208,53 +144,19 @@ fn finds_what_a_plain_filter_finds(rt: HostRuntime) -> Result<(), Fail> {
     Ok(())
 }
 
-/// Counts the turns of two workers, and those that had another number than their place.
-#[derive(Drop)]
-struct Turns {
-    seen: [AtomicU64; 2],
-    wrong: AtomicU64,
-}
-
-impl Gate for Turns {
-    fn pass(&self, worker: u32, turn: u64) {
-        let place = match self.seen.get(worker as usize) {
-            Some(seen) => seen.fetch_add(1, Ordering::SeqCst),
-            None => u64::MAX,
-        };
-        if turn != place {
-            self.wrong.fetch_add(1, Ordering::SeqCst);
-        }
-    }
-}
-
 #[test]
 fn each_worker_passes_the_gate_before_each_draw(rt: HostRuntime) -> Result<(), Fail> {
     let alloc = rt.alloc();
-    let mut source = Source {
-        state: 11,
-        spread: 500,
-    };
+    let mut source = Source::new(11, 500);
     let rows = collection(alloc, &mut source, 200)?;
-    let gate = Turns {
-        seen: [AtomicU64::new(0), AtomicU64::new(0)],
-        wrong: AtomicU64::new(0),
-    };
+    let gate = Turns::of_two();
     let shape = shaped(Table::Flat, 3, 4, 2);
     let pairs = found(&rt, alloc, &rows, shape, &[0; 6], u64::MAX, &gate)?;
     assert_eq!(rt; pairs.len(), 200, "all series");
-    let [first, second] = &gate.seen;
-    let turns = first
-        .load(Ordering::SeqCst)
-        .wrapping_add(second.load(Ordering::SeqCst));
     assert_eq!(rt;
-        turns,
-        8 + 2,
-        "a turn for each of eight root children, and one more for each worker"
-    );
-    assert_eq!(rt;
-        gate.wrong.load(Ordering::SeqCst),
-        0,
-        "turns are counted from 0"
+        gate.told(),
+        (8 + 2, 0),
+        "a turn for each of eight root children, and one more for each worker, counted from 0"
     );
     Ok(())
 }

@@ -2,10 +2,8 @@
 use crate::tests::plain::listed;
 use crate::within;
 use breakpoints::Table;
-use isax_word::Layout;
 use outside::NoGate;
-use segment_sums::Cuts;
-use series_core::{Flat, Rows};
+use series_core::Flat;
 use std::test::*;
 use subtree_build::{Settings, build};
 
@@ -15,14 +13,8 @@ const VALUES: [i16; 16] = [0, 0, 0, 0, 10, 10, 10, 10, -10, -10, -10, -10, 0, 0,
 fn four_series_within_three_radii(rt: HostRuntime) -> Result<(), Fail> {
     let alloc = rt.alloc();
     let rows = Flat::from_values(4, VALUES.to_vec(alloc)?);
-    let layout = Layout {
-        cuts: Cuts::new(4, 4),
-        table: Table::Flat,
-    };
-    let settings = Settings {
-        layout,
-        leaf_size: 1000,
-    };
+    let settings = Settings::new(4, 4, Table::Flat, 1000);
+    let layout = &settings.layout;
     let index = build(&rt, alloc, &rows, &settings, 2, &NoGate)?;
     let near: [(u64, &[(u64, u32)]); 4] = [
         (164, &[(4, 0), (164, 3)]),
@@ -32,7 +24,7 @@ fn four_series_within_three_radii(rt: HostRuntime) -> Result<(), Fail> {
     ];
     for (radius, want) in near {
         let pairs = within(
-            &rt, alloc, &rows, &index, &layout, &[1; 4], radius, 2, &NoGate,
+            &rt, alloc, &rows, &index, layout, &[1; 4], radius, 2, &NoGate,
         )?;
         assert_eq!(rt; listed(alloc, &pairs)?.as_slice(), want, "radius {radius}");
     }
