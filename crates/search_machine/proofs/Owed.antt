@@ -1,15 +1,15 @@
 -- What a turn owes, so that a worker that stands for its record stands for the longer one.
-use Rattle.std.proofs.Common.{List, Some, ap, arith, inl, inr, length, subst, ℕ, ⊎_elim, ◌<◌, ◌≡◌, ◌≢◌, ◌≤◌, ◌⊎◌}
+use Rattle.std.proofs.Common.{List, Some, ap, arith, inl, inr, length, subst, ℕ, ⊎_elim, ◌+◌, ◌<◌, ◌≡◌, ◌≢◌, ◌≤◌, ◌⊎◌}
 use Rattle.list_totals.specs.Totals.{times, total}
 use Rattle.search_machine.specs.declared.phase.Phase.{Phase}
 use Rattle.search_machine.specs.declared.phase.Phase.TheVariants.{Aim, Claim, Done, Give, Late, Look, Offer, Pop}
 use Rattle.search_machine.specs.Ground.{Ground}
 use Rattle.search_machine.specs.Workers.{Worker, in_phase}
 use Rattle.list_totals.specs.Standing.{In}
-use Rattle.search_machine.specs.OwnRecord.{Below, Different, Far, Floored, OwnRecord, PopMade, PutMade, PutRight, WasPut, WasRefused, WasTaken, put_of}
+use Rattle.search_machine.specs.OwnRecord.{Below, Different, Far, Floored, OwnRecord, PopMade, PutMade, PutRight, WasPut, WasRefused, WasTaken, put_of, with_read}
 use Rattle.search_machine.specs.Sound.{ListUnder, held, in_hand}
 use Rattle.search_machine.specs.Stands.{OwnPhase, Stands, in_give, in_late, stands_in}
-use Rattle.search_machine.proofs.RecordsGrow.{Grows, below_still, far_still, put_still, refused_still, right_still, taken_still, under_still}
+use Rattle.search_machine.proofs.RecordsGrow.{Grows, below_still, far_still, put_still, refused_still, grows_read, right_still, taken_still, under_still}
 
 -- what a turn owes, where w becomes x and r becomes t
 pub record Owned (g : Ground) (i : ℕ) (w x : Worker) (r t : OwnRecord) : Type 0 where
@@ -97,27 +97,56 @@ owned g i w x r t s o = record {
   phase = o.phase;
 }
 
--- what is in the hand in Give is in the hand
-pub in_give_hand : (l : ℕ) (phase : Phase) → in_give l phase ≤ in_hand l phase
-in_give_hand l Claim = omega arith
-in_give_hand l Look = omega arith
-in_give_hand l (Give m) = omega arith
-in_give_hand l (Late m) = omega arith
-in_give_hand l (Aim j) = omega arith
-in_give_hand l (Pop j v) = omega arith
-in_give_hand l (Offer next) = omega arith
-in_give_hand l Done = omega arith
+-- what is in the hand in Give or in Late is in the hand
+both_in_hand : (l : ℕ) (phase : Phase) → in_give l phase + in_late l phase ≤ in_hand l phase
+both_in_hand l Claim = omega arith
+both_in_hand l Look = omega arith
+both_in_hand l (Give m) = omega arith
+both_in_hand l (Late m) = omega arith
+both_in_hand l (Aim j) = omega arith
+both_in_hand l (Pop j v) = omega arith
+both_in_hand l (Offer next) = omega arith
+both_in_hand l Done = omega arith
 
--- what is in the hand in Late is in the hand
+-- in Give
+pub in_give_hand : (l : ℕ) (phase : Phase) → in_give l phase ≤ in_hand l phase
+in_give_hand l phase = let a = both_in_hand l phase in omega arith
+
+-- in Late
 pub late_in_hand : (l : ℕ) (phase : Phase) → in_late l phase ≤ in_hand l phase
-late_in_hand l Claim = omega arith
-late_in_hand l Look = omega arith
-late_in_hand l (Give m) = omega arith
-late_in_hand l (Late m) = omega arith
-late_in_hand l (Aim j) = omega arith
-late_in_hand l (Pop j v) = omega arith
-late_in_hand l (Offer next) = omega arith
-late_in_hand l Done = omega arith
+late_in_hand l phase = let a = both_in_hand l phase in omega arith
+
+-- what a read owes, where no leaf is scanned
+pub record Reads (g : Ground) (i : ℕ) (w x : Worker) (r t : OwnRecord) : Type 0 where
+  pub keeps : (l : ℕ) → 0 < held l w → (0 < held l x) ⊎ WasPut t l ⊎ Far g t l
+  pub hand : (l : ℕ) → 0 < in_late l w.phase
+      → (0 < times l w.scanned) ⊎ (0 < in_late l x.phase) ⊎ Far g t l
+  pub once : Different t → (l : ℕ) → stands_in t x l ≤ 1
+  pub held : (l : ℕ) → 0 < held l x → (0 < held l w) ⊎ ((g.start ≢ Some l) × Below g t l)
+  pub phase : OwnPhase g t i x.rest x.list x.phase
+
+-- such a read takes a worker that stands for r to one that stands with the read
+pub owned_by_read : (g : Ground) (i : ℕ) (w : Worker) (rest : List ℕ) (phase : Phase) (r : OwnRecord) (v : ℕ) → Stands g i w r
+    → Reads g i w (record w { phase = phase; rest = rest }) r (with_read v r)
+    → Stands g i (record w { phase = phase; rest = rest }) (with_read v r)
+owned_by_read g i w rest phase r v s o = owned g i w (record w { phase = phase; rest = rest }) r (with_read v r) s (record {
+  more = grows_read v r;
+  puts = λ p h. inl h;
+  pops = λ p h. inl h;
+  claims = λ c h. inl h;
+  news = λ l h. inl h;
+  refused = λ l h. inl h;
+  taken = λ l low h. inl h;
+  single = s.single;
+  scanned = λ l h. inl h;
+  kept_scans = λ l h. h;
+  list = under_still g r (with_read v r) (grows_read v r) w.scanned w.list s.list;
+  keeps = o.keeps;
+  hand = o.hand;
+  once = o.once;
+  held = o.held;
+  phase = o.phase;
+})
 
 -- a turn that leaves the rest, the hand, the list and the scanned leaves, and makes no put
 pub record Quiet (g : Ground) (i : ℕ) (w : Worker) (ph : Phase) (r t : OwnRecord) : Type 0 where

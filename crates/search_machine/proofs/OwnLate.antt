@@ -13,7 +13,7 @@ use Rattle.search_machine.specs.Sound.{held, in_hand}
 use Rattle.search_machine.specs.Stands.{OwnOnward, OwnPhase, Stands, in_late}
 use Rattle.search_machine.proofs.Counts.{counts_or_not, same_counts, times_cons}
 use Rattle.search_machine.proofs.HandsAndScans.{scan_hand}
-use Rattle.search_machine.proofs.Owed.{in_give_hand, owned}
+use Rattle.search_machine.proofs.Owed.{in_give_hand, owned, owned_by_read}
 use Rattle.search_machine.proofs.OwnClaims.{own_onward}
 use Rattle.search_machine.proofs.Places.{total_at}
 use Rattle.search_machine.proofs.RecordsGrow.{grows_read, phase_of, refused_still, under_still}
@@ -117,25 +117,14 @@ module _ (g : Ground) (fits : Fits g) (i : ℕ) (w : Worker) (r : OwnRecord) (l 
   -- the leaf is cut or passed over
   late_passes : (0 < times l w.scanned) ⊎ Far g (with_read v r) l
       → Stands g i (in_phase Look w) (with_read v r)
-  late_passes why = owned g i w (in_phase Look w) r (with_read v r) s (record {
-    more = grows_read v r;
-    news = λ m h. inl h;
+  late_passes why = owned_by_read g i w w.rest Look r v s (record {
     keeps = keeps_late (in_phase Look w) (λ m. omega arith);
-    puts = λ p h. inl h;
-    pops = λ p h. inl h;
-    claims = λ c h. inl h;
-    scanned = λ m h. inl h;
-    kept_scans = λ m h. h;
-    taken = λ m low h. inl h;
-    single = s.single;
-    refused = λ m h. inl h;
     hand = λ m h. ⊎_elim
         (λ (a : 0 < times l w.scanned). inl
         (subst (λ (n : ℕ). 0 < times n w.scanned) (sym (at_hand m h)) a))
         (λ (a : Far g (with_read v r) l). inr
         (inr (subst (Far g (with_read v r)) (sym (at_hand m h)) a)))
         why;
-    list = under_still g r (with_read v r) (grows_read v r) w.scanned w.list s.list;
     once = λ d m. let a = s.once d m in omega arith;
     held = λ m h. inl (omega arith);
     phase = tt;

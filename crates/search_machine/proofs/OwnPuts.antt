@@ -5,7 +5,7 @@ use Rattle.list_totals.specs.Totals.{one_if_same, times}
 use Rattle.series_core.specs.declared.queue_words.PutReply.{PutReply}
 use Rattle.series_core.specs.declared.queue_words.PutReply.TheVariants.{Filled, Placed, Shut}
 use Rattle.search_machine.specs.declared.phase.Phase.{Phase}
-use Rattle.search_machine.specs.declared.phase.Phase.TheVariants.{Give, Late, Look}
+use Rattle.search_machine.specs.declared.phase.Phase.TheVariants.{Claim, Give, Late, Look}
 use Rattle.search_machine.specs.Ground.{Ground, entry_of}
 use Rattle.search_machine.specs.Workers.{Worker, after_look, after_put, in_phase, skip, stopped}
 use Rattle.list_totals.specs.Standing.{In}
@@ -14,51 +14,29 @@ use Rattle.search_machine.specs.Sound.{held, in_hand}
 use Rattle.search_machine.specs.Stands.{OwnPhase, Stands, in_give, in_late}
 use Rattle.search_machine.proofs.Counts.{counts_or_not, same_counts}
 use Rattle.search_machine.proofs.HandsAndScans.{skip_cut, skip_fewer, skip_head}
-use Rattle.search_machine.proofs.Owed.{owned}
-use Rattle.search_machine.proofs.RecordsGrow.{below_still, grows_put, grows_read, near_still, phase_of, under_still}
+use Rattle.search_machine.proofs.Owed.{owned, owned_by_read}
+use Rattle.search_machine.proofs.RecordsGrow.{below_still, grows_put, near_still, phase_of, under_still}
 
 -- stopping at the first leaf that is left
 own_stopped : (g : Ground) (i : ℕ) (w : Worker) (r : OwnRecord) (v : ℕ) → Stands g i w r
     → w.phase ≡ Look → (ls : List ℕ) → skip g v w.rest ≡ ls
     → Stands g i (stopped w ls) (with_read v r)
-own_stopped g i w r v s e [] is = owned g i w (stopped w []) r (with_read v r) s (record {
-  more = grows_read v r;
-  news = λ l h. inl h;
+own_stopped g i w r v s e [] is = owned_by_read g i w [] Claim r v s (record {
   keeps = λ l h. let a = ap (in_hand l) e in
       let b = ap (times l) is in inr (inr (v, inl refl, skip_cut g v l w.rest (omega arith)));
-  puts = λ p h. inl h;
-  pops = λ p h. inl h;
-  claims = λ c h. inl h;
-  scanned = λ l h. inl h;
-  kept_scans = λ l h. h;
-  taken = λ l low h. inl h;
-  single = s.single;
-  refused = λ l h. inl h;
   hand = λ l h. let a = ap (in_late l) e in absurd (omega arith);
-  list = under_still g r (with_read v r) (grows_read v r) w.scanned w.list s.list;
   once = λ d l. let a = s.once d l in omega arith;
   held = λ l h. absurd (omega arith);
   phase = refl;
 })
 own_stopped g i w r v s e (m ∷ ms) is =
-    owned g i w (stopped w (m ∷ ms)) r (with_read v r) s (record {
-      more = grows_read v r;
-      news = λ l h. inl h;
+    owned_by_read g i w ms (Give m) r v s (record {
       keeps = λ l h. ⊎_elim
           (λ (a : 0 < times l (skip g v w.rest)). let b = ap (times l) is in inl (omega arith))
           (λ (a : times l (skip g v w.rest) ≤ 0). let b = ap (in_hand l) e in
           inr (inr (v, inl refl, skip_cut g v l w.rest (omega arith))))
           (cases_lt 0 (times l (skip g v w.rest)));
-      puts = λ p h. inl h;
-      pops = λ p h. inl h;
-      claims = λ c h. inl h;
-      scanned = λ l h. inl h;
-      kept_scans = λ l h. h;
-      taken = λ l low h. inl h;
-      single = s.single;
-      refused = λ l h. inl h;
       hand = λ l h. let a = ap (in_late l) e in absurd (omega arith);
-      list = under_still g r (with_read v r) (grows_read v r) w.scanned w.list s.list;
       once = λ d l. let a = s.once d l in
           let b = ap (times l) is in let c = skip_fewer g v l w.rest in omega arith;
       held = λ l h. let b = ap (times l) is in let c = skip_fewer g v l w.rest in inl (omega arith);
