@@ -211,6 +211,34 @@ pub same_child : (there : Bool) (count : ℕ) (word other : List Part) (bytes : 
 same_child there count word other bytes is =
     ap (λ (w : List Part). child_in there (node_in (bits_left w) count w) bytes) is
 
+module _ (count : ℕ) (word low_word : List Part) (bytes : List ℕ) (at j : ℕ) (inside : at + 2 ≤ length bytes)
+    (some : 1 ≤ get_or bytes at 0) (few : get_or bytes at 0 ≤ 3) (is : j ≡ get_or bytes (at + 1) 0) (used : j < length word)
+    (divisible : (part_at word j).bits < 8) (low_is : low_word ≡ child_word word j false) where
+  -- what the low child is read as
+  abbrev low_read : Read (Tree (List ℕ))
+  low_read = child_in (not (get_or bytes at 0 == 2)) (node_in (bits_left low_word) count low_word) (drop (at + 2) bytes)
+
+  -- which is the low child of the word
+  low_same : low_read ≡ child_in (not (get_or bytes at 0 == 2)) (node_in (bits_left (child_word word j false)) count (child_word word j false))
+      (drop (at + 2) bytes)
+  low_same = same_child (not (get_or bytes at 0 == 2)) count low_word (child_word word j false) (drop (at + 2) bytes) low_is
+
+  -- a split whose low child cannot be read is none
+  pub low_child_unread : low_read ≡ None → node_in (bits_left word) count word (drop at bytes) ≡ None
+  low_child_unread none =
+      split_read count word bytes at j inside some few is used divisible
+      ∙ low_unread count word (get_or bytes at 0) j (drop (at + 2) bytes) (sym low_same ∙ none)
+
+  -- nor is one whose high child cannot be read
+  pub high_child_unread : (high_word : List Part) (middle : ℕ) (low : Tree (List ℕ)) → high_word ≡ child_word word j true
+      → low_read ≡ Some (low, drop middle bytes)
+      → child_in (not (get_or bytes at 0 == 1)) (node_in (bits_left high_word) count high_word) (drop middle bytes) ≡ None
+      → node_in (bits_left word) count word (drop at bytes) ≡ None
+  high_child_unread high_word middle low high_is first none =
+      split_read count word bytes at j inside some few is used divisible
+      ∙ high_unread count word (get_or bytes at 0) j (drop (at + 2) bytes) (drop middle bytes) low (sym low_same ∙ first)
+      (sym (same_child (not (get_or bytes at 0 == 1)) count high_word (child_word word j true) (drop middle bytes) high_is) ∙ none)
+
 -- a split was read with its children
 pub split_is_read : (bytes : List ℕ) (count : ℕ) (word low_word high_word : List Part) (at j middle to : ℕ)
     (before between after : List (List ℕ)) (low high : Tree ℕ)

@@ -5,9 +5,10 @@ use Rattle.std.specs.Prelude.{◌&&◌, nat_le, nat_lt}
 use Rattle.std.specs.List.{flat_map}
 use Rattle.std.proofs.lemmas.Bool.{cond-true, cond-false}
 use Rattle.std.proofs.lemmas.Bool.Decides.{nat_tests}
-use Rattle.std.proofs.lemmas.List.{map-append}
+use Rattle.std.proofs.lemmas.List.{drop-drop, map-append}
 use Rattle.std.proofs.lemmas.Grind.{flat_map-append}
 use Rattle.byteorder.specs.Endian.{little_number}
+use Rattle.isax_word.specs.declared.word.Part.{Part}
 use Rattle.isax_word.specs.Word.{one_bit_word}
 use Rattle.subtree_build.specs.declared.node.Node.{Node}
 use Rattle.subtree_build.specs.Division.{bits_left}
@@ -87,6 +88,16 @@ push_root None roots trees root t = refl
 push_root (Some p) roots trees root t =
     ap (λ (xs : List ℕ). Some ((xs, trees ++ t ∷ p.0.1), p.1)) (sym (append_assoc roots (root ∷ []) p.0.0))
     ∙ ap (λ (ts : List (Tree (List ℕ))). Some (((roots ++ root ∷ []) ++ p.0.0, ts), p.1)) (sym (append_assoc trees (t ∷ []) p.0.1))
+
+-- the node behind a root number is that of its word
+pub node_behind : (count w root at : ℕ) (word : List Part) (bytes : List ℕ) → word ≡ one_bit_word root w
+    → node_in (bits_left word) count word (drop (at + 4) bytes)
+    ≡ node_in (bits_left (one_bit_word root w)) count (one_bit_word root w) (drop 4 (drop at bytes))
+node_behind count w root at word bytes is =
+    let next : drop (at + 4) bytes ≡ drop 4 (drop at bytes)
+    = ap (λ k. drop k bytes) (omega arith) ∙ sym (drop-drop 4 at bytes) in
+    ap (node_in (bits_left word) count word) next
+    ∙ ap (λ (x : List Part). node_in (bits_left x) count x (drop 4 (drop at bytes))) is
 
 -- one tree more is numbered on
 numbered_push : (first : ℕ) (trees : List (Tree (List ℕ))) (t : Tree (List ℕ))

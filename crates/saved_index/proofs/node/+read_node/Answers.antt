@@ -1,8 +1,7 @@
 -- A node is a leaf behind 0, and else a split with the children that are read behind one another.
 use Rattle.std.proofs.Common.{ℕ, ◌+◌, ◌<◌, true, false, length, drop, get_or, ap, sym, ◌∙◌, subst, arith}
 use Rattle.std.proofs.lemmas.Result.{IfOk-weaker}
-use Rattle.std.specs.Prelude.{◌==◌, not}
-use Rattle.isax_word.specs.Word.{part_at, child_word}
+use Rattle.isax_word.specs.Word.{part_at}
 use Rattle.subtree_build.specs.Division.{bits_left}
 use Rattle.subtree_build.specs.Outline.{outline, child_outline}
 use Rattle.subtree_build.specs.Tree.{Tree}
@@ -12,7 +11,7 @@ use Rattle.saved_index.specs.declared.node.NodeAt.{NodeAt}
 use Rattle.saved_index.specs.declared.error.IndexFault.TheVariants.{NotIndex}
 use Rattle.saved_index.specs.Parsed.{IsNodeRead}
 use Rattle.saved_index.specs.Reading.{node_in}
-use Rattle.saved_index.proofs.NodesRead.{end_read, leaf_read, short_read, unsplit_read, split_read, split_kind, split_segment_past, split_full, node_from, same_child, split_is_read, low_unread, high_unread, err_again}
+use Rattle.saved_index.proofs.NodesRead.{end_read, leaf_read, short_read, unsplit_read, split_read, split_kind, split_segment_past, split_full, node_from, split_is_read, low_child_unread, high_child_unread, err_again}
 use Rattle.saved_index.proofs.node.+read_node.Goals as goal
 use Rattle.saved_index.proofs.node.+read_node.Goals.{read_node-then-bytes-at-lt2-via-then-bytes-at-lt2, read_node-then-bytes-at-lt2-via-else-bytes-at-lt2+then-kind-gt3, read_node-then-segment-segments-via-then-segment-segments, read_node-then-segment-segments-via-else-segment-segments+then-bits-ge8}
 
@@ -75,18 +74,9 @@ read_node-read_child-requires t c =
 
 pub read_node-returns-in-Err-clause-refused : goal.read_node-returns-in-Err-clause-refused
 read_node-returns-in-Err-clause-refused t c = λ refused.
-    let word = c.args.word.now in
-    let bytes = c.args.bytes.now in
-    let at = c.args.at in
-    let count = c.args.count in
-    let j = c.from-segment.result in
-    let kind = get_or bytes at 0 in
-    let used : j < length word = omega arith in
-    let divisible : (part_at word j).bits < 8 = omega arith in
-    split_read c.args.count word bytes at j (omega arith) (omega arith) (omega arith) c.from-segment.ensures used divisible
-    ∙ low_unread count word kind j (drop (at + 2) bytes)
-    (sym (same_child (not (kind == 2)) count c.child-low_word.result (child_word word j false) (drop (at + 2) bytes)
-    c.child-low_word.ensures) ∙ c.in-Err.ensures.refused (err_again c.in-Err.e NotIndex refused))
+    low_child_unread c.args.count c.args.word.now c.child-low_word.result c.args.bytes.now c.args.at c.from-segment.result
+    (omega arith) (omega arith) (omega arith) c.from-segment.ensures (omega arith) (omega arith) c.child-low_word.ensures
+    (c.in-Err.ensures.refused (err_again c.in-Err.e NotIndex refused))
 
 pub read_node-read_child-requires-2 : goal.read_node-read_child-requires-2
 read_node-read_child-requires-2 t c =
@@ -108,21 +98,11 @@ read_node-read_child-requires-2 t c =
 
 pub read_node-returns-in-Err-read_child-clause-refused : goal.read_node-returns-in-Err-read_child-clause-refused
 read_node-returns-in-Err-read_child-clause-refused t c = λ refused.
-    let word = c.args.word.now in
-    let bytes = c.args.bytes.now in
-    let at = c.args.at in
-    let count = c.args.count in
-    let j = c.from-segment.result in
-    let kind = get_or bytes at 0 in
-    let used : j < length word = omega arith in
-    let divisible : (part_at word j).bits < 8 = omega arith in
     let read = c.in-Ok.ensures.read in
-    split_read c.args.count word bytes at j (omega arith) (omega arith) (omega arith) c.from-segment.ensures used divisible
-    ∙ high_unread count word kind j (drop (at + 2) bytes) (drop c.in-Ok.low.at bytes) read.tree
-    (sym (same_child (not (kind == 2)) count c.child-low_word.result (child_word word j false) (drop (at + 2) bytes)
-    c.child-low_word.ensures) ∙ read.is)
-    (sym (same_child (not (kind == 1)) count c.child-high_word.result (child_word word j true) (drop c.in-Ok.low.at bytes)
-    c.child-high_word.ensures) ∙ c.in-Err-read_child.ensures.refused (err_again c.in-Err-read_child.e NotIndex refused))
+    high_child_unread c.args.count c.args.word.now c.child-low_word.result c.args.bytes.now c.args.at c.from-segment.result
+    (omega arith) (omega arith) (omega arith) c.from-segment.ensures (omega arith) (omega arith) c.child-low_word.ensures
+    c.child-high_word.result c.in-Ok.low.at read.tree c.child-high_word.ensures read.is
+    (c.in-Err-read_child.ensures.refused (err_again c.in-Err-read_child.e NotIndex refused))
 
 pub read_node-returns-clause-read : goal.read_node-returns-clause-read
 read_node-returns-clause-read t c =
