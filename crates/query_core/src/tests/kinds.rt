@@ -1,12 +1,10 @@
 //! Small collections of every kind of data, of lengths below and above 128: the answer alone is that of a plain sort.
-use crate::tests::drawn::{are_same, plain_nearest};
 use crate::{Task, one_worker_answer};
 use breakpoints::Table;
-use isax_word::Layout;
 use outside::{NoGate, NoMemory};
+use plain_search::{are_same, plain_nearest};
 use rand_xoshiro::SplitMix64;
 use rand_xoshiro::rand_core::{Rng, SeedableRng};
-use segment_sums::Cuts;
 use series_core::{Flat, Rows};
 use std::alloc::Global;
 use std::test::*;
@@ -77,14 +75,7 @@ fn agree<T: Threads + Sync>(
         return Err(NoMemory);
     }
     let rows = Flat::from_values(length, values);
-    let layout = Layout {
-        cuts: Cuts::new(length, length.min(16)),
-        table: Table::Bent,
-    };
-    let settings = Settings {
-        layout,
-        leaf_size: 8,
-    };
+    let settings = Settings::new(length, length.min(16), Table::Bent, 8);
     let index = build(rt, alloc, &rows, &settings, 1, &NoGate)?;
     for number in 0..rows.count().min(3) {
         let mut query = rows.row(number).to_vec(alloc)?;
@@ -94,7 +85,7 @@ fn agree<T: Threads + Sync>(
         if query.len() != n {
             return Err(NoMemory);
         }
-        let task = Task::new(&rows, &query, k, &layout);
+        let task = Task::new(&rows, &query, k, &settings.layout);
         let found = one_worker_answer(alloc, &task, &index, 1)?;
         if !are_same(&found.items, &plain_nearest(alloc, &rows, &query, k)?) {
             return Ok(false);

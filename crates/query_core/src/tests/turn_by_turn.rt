@@ -2,13 +2,9 @@
 use crate::Task;
 use crate::stage::Stage;
 use crate::team::Team;
-use breakpoints::Table;
-use isax_word::Layout;
-use outside::NoGate;
-use segment_sums::Cuts;
-use series_core::{Entry, Flat, Pair};
+use plain_search::two_points;
+use series_core::{Entry, Pair};
 use std::test::*;
-use subtree_build::{Settings, build};
 
 // The stage after each of eleven turns, and the number of the nearest series that is known then.
 const STAGES: [(Stage, u32); 12] = [
@@ -29,17 +25,8 @@ const STAGES: [(Stage, u32); 12] = [
 #[test]
 fn eleven_turns_of_one_worker(rt: HostRuntime) -> Result<(), Fail> {
     let alloc = rt.alloc();
-    let rows = Flat::from_values(1, [-1, 1].to_vec(alloc)?);
-    let layout = Layout {
-        cuts: Cuts::new(1, 1),
-        table: Table::Flat,
-    };
-    let settings = Settings {
-        layout,
-        leaf_size: 1000,
-    };
-    let index = build(&rt, alloc, &rows, &settings, 1, &NoGate)?;
-    let task = Task::new(&rows, &[0], 1, &layout);
+    let (rows, settings, index) = two_points(&rt, alloc, 1)?;
+    let task = Task::new(&rows, &[0], 1, &settings.layout);
     let mut team = Team::open(alloc, &task, &index, 1, 1)?;
     for (turn, (stage, nearest)) in STAGES.iter().enumerate() {
         for worker in &team.workers {

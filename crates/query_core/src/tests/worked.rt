@@ -1,14 +1,10 @@
 //! Small searches as worked by hand, turn by turn on paper: their outcomes, and schedules that give none.
 use crate::{Fate, Outcome, ReplayError, Start, Task, replay};
-use breakpoints::Table;
-use isax_word::Layout;
-use outside::NoGate;
-use segment_sums::Cuts;
-use series_core::{Entry, Flat, NONE, Pair};
+use plain_search::{three_points, two_points};
+use series_core::{Entry, NONE, Pair};
 use std::alloc::Global;
 use std::test::*;
 use std::thread::Threads;
-use subtree_build::{Settings, build};
 
 const fn pair(distance: u64, number: u32) -> Pair {
     Pair { distance, number }
@@ -23,7 +19,7 @@ fn is_line(outcome: &Outcome, number: usize, taken: &[Entry], kept: u64) -> bool
 }
 
 /// The search for the series nearest to 0 of -1 and 1, over one queue, by a schedule.
-fn two_points<T: Threads + Sync>(
+fn nearest_of_two<T: Threads + Sync>(
     rt: &T,
     alloc: Global,
     workers: u32,
@@ -32,24 +28,15 @@ fn two_points<T: Threads + Sync>(
     if workers < 1 || workers > 64 {
         return Err(Fail::new("no such number of workers"));
     }
-    let rows = Flat::from_values(1, [-1, 1].to_vec(alloc)?);
-    let layout = Layout {
-        cuts: Cuts::new(1, 1),
-        table: Table::Flat,
-    };
-    let settings = Settings {
-        layout,
-        leaf_size: 1000,
-    };
-    let index = build(rt, alloc, &rows, &settings, 1, &NoGate)?;
+    let (rows, settings, index) = two_points(rt, alloc, 1)?;
     let query = [0];
-    let task = Task::new(&rows, &query, 1, &layout);
+    let task = Task::new(&rows, &query, 1, &settings.layout);
     Ok(replay(alloc, &task, &index, workers, 1, schedule))
 }
 
 #[test]
 fn eleven_turns_of_one_worker(rt: HostRuntime) -> Result<(), Fail> {
-    let Ok(outcome) = two_points(&rt, rt.alloc(), 1, &[0; 11])? else {
+    let Ok(outcome) = nearest_of_two(&rt, rt.alloc(), 1, &[0; 11])? else {
         return Err(Fail::new("no outcome"));
     };
     let taken = [Entry { bound: 1, leaf: 0 }];
@@ -65,7 +52,7 @@ fn eleven_turns_of_one_worker(rt: HostRuntime) -> Result<(), Fail> {
 #[test]
 fn a_leaf_that_comes_late(rt: HostRuntime) -> Result<(), Fail> {
     let schedule = [0, 0, 1, 1, 1, 1, 1, 0, 0, 0, 0, 0, 0, 0];
-    let Ok(outcome) = two_points(&rt, rt.alloc(), 2, &schedule)? else {
+    let Ok(outcome) = nearest_of_two(&rt, rt.alloc(), 2, &schedule)? else {
         return Err(Fail::new("no outcome"));
     };
     let fates = [Fate::Late(0), Fate::Start];
@@ -89,10 +76,10 @@ fn schedules_without_an_outcome(rt: HostRuntime) -> Result<(), Fail> {
         ),
     ];
     for (schedule, error) in cases {
-        let played = two_points(&rt, rt.alloc(), 1, schedule)?;
+        let played = nearest_of_two(&rt, rt.alloc(), 1, schedule)?;
         assert_eq!(rt; played.err(), Some(error), "{schedule:?}");
     }
-    let played = two_points(&rt, rt.alloc(), 3, &[0; 11])?;
+    let played = nearest_of_two(&rt, rt.alloc(), 3, &[0; 11])?;
     assert_eq!(rt;
         played.err(),
         Some(ReplayError::Unfinished(1)),
@@ -115,18 +102,9 @@ fn shut_schedule(alloc: Global) -> Result<Vec<u32>, Fail> {
 #[test]
 fn queues_that_are_shut_before_the_first_put(rt: HostRuntime) -> Result<(), Fail> {
     let alloc = rt.alloc();
-    let rows = Flat::from_values(2, [0, 0, 0, 20000, 300, 0].to_vec(alloc)?);
-    let layout = Layout {
-        cuts: Cuts::new(2, 2),
-        table: Table::Flat,
-    };
-    let settings = Settings {
-        layout,
-        leaf_size: 1,
-    };
-    let index = build(&rt, alloc, &rows, &settings, 1, &NoGate)?;
+    let (rows, settings, index) = three_points(&rt, alloc, 1)?;
     let query = [0, 0];
-    let task = Task::new(&rows, &query, 3, &layout);
+    let task = Task::new(&rows, &query, 3, &settings.layout);
     let schedule = shut_schedule(alloc)?;
     let Ok(outcome) = replay(alloc, &task, &index, 3, 2, &schedule) else {
         return Err(Fail::new("no outcome"));
