@@ -1,39 +1,11 @@
 //! Rows that count how often one of them is asked for: series that are near to another are given up before all pairs are measured.
-ghost use Rattle.std.specs.Prelude.{◌≡◌};
-
 use crate::discord;
 use breakpoints::Table;
-use isax_word::Layout;
 use outside::NoGate;
-use segment_sums::Cuts;
-use series_core::{Flat, Rows};
-use std::sync::atomic::{AtomicU64, Ordering};
+use plain_search::Watched;
+use series_core::Flat;
 use std::test::*;
 use subtree_build::{Settings, build};
-
-/// Rows that are watched.
-#[derive(Drop)]
-struct Watched {
-    flat: Flat,
-    asked: AtomicU64,
-}
-
-impl Rows for Watched {
-    ghost collection = { λ w. w.flat };
-
-    fn count(&self) -> u32 {
-        self.flat.count()
-    }
-
-    fn length(&self) -> u32 {
-        self.flat.length()
-    }
-
-    fn row(&self, i: u32) -> &[i16] {
-        self.asked.fetch_add(1, Ordering::SeqCst);
-        self.flat.row(i)
-    }
-}
 
 // Series of one value: one alone, twenty in steps of ten, and two equal ones far from all others.
 const VALUES: [i16; 23] = [
@@ -45,27 +17,18 @@ const VALUES: [i16; 23] = [
 fn fewer_rows_are_asked_for_than_there_are_pairs(rt: HostRuntime) -> Result<(), Fail> {
     let alloc = rt.alloc();
     let flat = Flat::from_values(1, VALUES.to_vec(alloc)?);
-    let layout = Layout {
-        cuts: Cuts::new(1, 1),
-        table: Table::Flat,
-    };
-    let settings = Settings {
-        layout,
-        leaf_size: 1,
-    };
+    let settings = Settings::new(1, 1, Table::Flat, 1);
+    let layout = &settings.layout;
     let index = build(&rt, alloc, &flat, &settings, 1, &NoGate)?;
-    let rows = Watched {
-        flat,
-        asked: AtomicU64::new(0),
-    };
-    let found = discord(&rt, alloc, &rows, &index, &layout, 1, 1, &NoGate)?;
+    let rows = Watched::over(flat, None);
+    let found = discord(&rt, alloc, &rows, &index, layout, 1, 1, &NoGate)?;
     let mut numbers = Vec::new(alloc);
     for discord in &found.items {
         numbers.push((discord.number, discord.distance, discord.neighbour))?;
     }
     assert_eq!(rt; numbers.as_slice(), [(0, 25000000, 1)].as_slice());
     // Each series with each other, counted once, are 253 pairs.
-    let asked = rows.asked.load(Ordering::SeqCst);
+    let asked = rows.all_times();
     assert!(rt; asked < 253, "{asked} rows were asked for");
     Ok(())
 }

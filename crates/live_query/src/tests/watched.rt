@@ -1,82 +1,13 @@
-//! Rows that count how often each of them is asked for, and hold those who ask for one of two until the other is asked
-//! for too: cut series are never asked for, and two workers really search side by side.
-ghost use Rattle.std.specs.Prelude.{◌≡◌};
-
+//! Rows that are watched: cut series are never asked for, and two workers really search side by side.
 use super::forms::{Form, searched};
 use super::points::{BY_DISTANCE, index_of, three_points, two_segments};
 use outside::NoGate;
+use plain_search::Watched;
 use query_core::{Outcome, Task};
-use series_core::{Flat, Rows};
 use std::alloc::Global;
 use std::sync::Wait;
-use std::sync::atomic::{AtomicU64, Ordering};
 use std::test::*;
 use std::thread::Threads;
-
-/// How often one hold looks for the other.
-const LOOKS: u32 = 1_000_000_000;
-
-/// Rows of at most three series that are watched.
-#[derive(Drop)]
-struct Watched {
-    flat: Flat,
-    asked: [AtomicU64; 3],
-    held: bool,
-    ran_out: AtomicU64,
-}
-
-impl Watched {
-    fn over(flat: Flat, held: bool) -> Watched
-        ensures { result.flat ≡ flat }
-    {
-        Watched {
-            flat,
-            asked: [AtomicU64::new(0), AtomicU64::new(0), AtomicU64::new(0)],
-            held,
-            ran_out: AtomicU64::new(0),
-        }
-    }
-
-    fn times(&self, i: usize) -> u64 {
-        match self.asked.get(i) {
-            Some(asked) => asked.load(Ordering::SeqCst),
-            None => 0,
-        }
-    }
-
-    /// Counts that row `i` is asked for, and waits for the other of rows 1 and 2 where these are held.
-    fn note(&self, i: usize) {
-        if let Some(asked) = self.asked.get(i) {
-            asked.fetch_add(1, Ordering::SeqCst);
-        }
-        if !self.held || i < 1 || i > 2 {
-            return;
-        }
-        for _look in 0..LOOKS {
-            if self.times(3 - i) > 0 {
-                return;
-            }
-        }
-        self.ran_out.fetch_add(1, Ordering::SeqCst);
-    }
-}
-
-impl Rows for Watched {
-    ghost collection = { λ w. w.flat };
-
-    fn count(&self) -> u32 {
-        self.flat.count()
-    }
-
-    fn length(&self) -> u32 {
-        self.flat.length()
-    }
-
-    fn row(&self, i: u32) -> &[i16] {
-        self.note(i as usize);
-        self.flat.row(i)
-    }
-}
 
 /// The search by two workers over two queues for the k nearest to (0,0) among three watched series of two values, and the rows
 /// that were watched. With `held`, those who ask for one of two rows wait for those who ask for the other.
@@ -93,7 +24,7 @@ fn watched_search<T: Threads + Wait + Sync>(
     let flat = three_points(alloc)?;
     let layout = two_segments();
     let index = index_of(rt, alloc, &flat, &layout)?;
-    let rows = Watched::over(flat, held);
+    let rows = Watched::over(flat, held.then_some((1, 2)));
     let task = Task::new(&rows, &[0, 0], k, &layout);
     let form = Form {
         workers: 2,
@@ -130,7 +61,7 @@ fn two_workers_search_side_by_side(rt: HostRuntime) -> Result<(), Fail> {
             "locked {locked}"
         );
         assert_eq!(rt;
-            rows.ran_out.load(Ordering::SeqCst),
+            rows.ran_out(),
             0,
             "each row waited for the other, locked {locked}"
         );

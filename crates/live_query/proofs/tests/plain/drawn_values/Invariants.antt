@@ -1,5 +1,0 @@
-use Rattle.std.proofs.Common.{◌≡◌, ◌*◌, vec_len}
-use Rattle.live_query.proofs.tests.plain.drawn_values.Given as goal
-
-abbrev pub invariant-loop-series : goal.invariant-loop-series
-invariant-loop-series l = vec_len l.values ≡ l._series * 4
