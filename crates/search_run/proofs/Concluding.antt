@@ -1,5 +1,5 @@
 -- How a command ends, from what it did: its clauses of completeness and of causes follow from `Concludes`.
-use Rattle.std.proofs.Common.{◌≢◌, ℕ, ◌++◌, List, inl, inr, refl, subst, arith, ⊎_elim, length-append}
+use Rattle.std.proofs.Common.{◌≡◌, ◌≢◌, ℕ, ◌++◌, List, inl, inr, refl, subst, sym, arith, ⊎_elim, length-append}
 use Rattle.outside.specs.Sink.{AppendsPrefix}
 use Rattle.search_run.specs.Ends.{Answers, Concludes, ConcludesBy, Ends, Finishes, IsAnswered, IsFaultless, TellsCause, TellsFault, WroteNothing}
 use Rattle.search_run.specs.Commands.{CanAnswer, plan_of}
@@ -66,6 +66,11 @@ concludes_map A B C R Q writing status whole begun refused = by_status status
     by_status (Invalid e) x = (refused (Invalid e) x.0, x.1)
     by_status (Index e) x = (refused (Index e) x.0, x.1)
 
+-- what was answered of a command was answered of the same by another name
+pub answers_as : (reading : Reading) (writing : Writing) (command same : Command) (status : Status) → command ≡ same
+    → Answers reading writing same status → Answers reading writing command status
+answers_as reading writing command same status is = subst (λ c. Answers reading writing c status) (sym is)
+
 -- no command ends as words that are none
 pub answers_not_usage : (reading : Reading) (writing : Writing) (command : Command) (status : Status)
     → Answers reading writing command status → status ≢ Usage
@@ -120,23 +125,23 @@ pub answers_exactly : (reading : Reading) (writing : Writing) (command : Command
     → Answers reading writing command status → CanAnswer reading.held command
     → (told : Status) → HasFault reading.held (plan_of command) told
     → TellsFault reading.faults reading.later told status
-answers_exactly reading writing command status answered can told has = by_status status answered
+answers_exactly reading writing command status answered can told has =
+    by_status status answered (answers_finish reading writing command status answered can)
   where
     by_status : (status : Status) → Answers reading writing command status
+        → Finishes reading.held command reading.faults reading.later writing.faults writing.later status
         → TellsFault reading.faults reading.later told status
-    by_status Done x = absurd (right_without reading.held (plan_of command) x.0 told can x.1 has)
-    by_status WriteFault x = absurd (right_without reading.held (plan_of command) x.0 told can x.1 has)
-    by_status Memory x = tt
-    by_status (Invalid e) x = one_told reading.held (plan_of command) (Invalid e) told can
-        (told_has_fault reading (plan_of command) (Invalid e) tt x.0) has
-    by_status (Index e) x = one_told reading.held (plan_of command) (Index e) told can
-        (told_has_fault reading (plan_of command) (Index e) tt x.0) has
-    by_status (ReadFault w) x = only_reading reading (plan_of command) (ReadFault w) can x.0
-    by_status Usage x = absurd (only_reading reading (plan_of command) Usage can x.0)
-    by_status (Missing w) x = absurd (only_reading reading (plan_of command) (Missing w) can x.0)
-    by_status (Format w e) x = absurd (only_reading reading (plan_of command) (Format w e) can x.0)
-    by_status (Mismatch a b) x = absurd (only_reading reading (plan_of command) (Mismatch a b) can x.0)
-    by_status (Settings w n) x = absurd (only_reading reading (plan_of command) (Settings w n) can x.0)
+    by_status Done x ends = absurd (right_without reading.held (plan_of command) x.0 told can x.1 has)
+    by_status WriteFault x ends = absurd (right_without reading.held (plan_of command) x.0 told can x.1 has)
+    by_status (Invalid e) x ends = one_told reading.held (plan_of command) (Invalid e) told can ends has
+    by_status (Index e) x ends = one_told reading.held (plan_of command) (Index e) told can ends has
+    by_status Memory x ends = ends
+    by_status (ReadFault w) x ends = ends
+    by_status Usage x ends = absurd ends
+    by_status (Missing w) x ends = absurd ends
+    by_status (Format w e) x ends = absurd ends
+    by_status (Mismatch a b) x ends = absurd ends
+    by_status (Settings w n) x ends = absurd ends
 
 -- a status tells a cause
 pub answers_cause : (reading : Reading) (writing : Writing) (command : Command) (status : Status)

@@ -65,3 +65,9 @@ pub one_loaded : (held : Option Held) (name : List ℕ) (form : Form) (file othe
 one_loaded held name form file other is holds =
     let both = known_bytes held name (Spells form file) (Spells form other) is holds in
     same_loaded form both.0 file other both.1 both.2
+
+-- what the bytes of a name that was lent are, those of the name are, in files that are still the same
+pub lent_holds : (now held : Option Held) (lent name : List ℕ) (P : List ℕ → Type 0) → now ≡ held → lent ≡ name
+    → HoldsBytes now lent P → HoldsBytes held name P
+lent_holds now held lent name P kept same holds =
+    subst (λ n. HoldsBytes held n P) same (subst (λ h. HoldsBytes h lent P) kept holds)

@@ -6,6 +6,7 @@ pub mod Short
 pub mod Summing
 pub mod Loading
 pub mod Writing
+pub mod Piecewise
 pub mod Held
 pub mod Refusing
 pub mod Passing
@@ -13,6 +14,7 @@ pub mod OneFault
 pub mod Exactly
 pub mod Concluding
 pub mod Both
+pub mod Stopped
 pub mod Searching
 pub mod Windowed
 pub mod Converting

@@ -136,6 +136,34 @@ index_wider whole part c name status kept less fewer later more blames =
     named_wider IndexFile whole part name (ShowsIndexFault c part.held name) (ShowsIndexFault c whole.held name) status
     kept less fewer later more blames (λ s x. subst (λ held. ShowsIndexFault c held name s) kept x)
 
+-- so are they where the name was lent
+pub lent_certificate_wider : (whole part : Reading) (IsFaulty : CertFault → List ℕ → Type 0) (lent name : List ℕ)
+    (status : Status) → RefusesCertificate IsFaulty part lent status → lent ≡ name
+    → part.held ≡ whole.held → whole.faults ≤ part.faults → whole.misses ≤ part.misses
+    → part.later ≡ whole.later → part.more ≡ whole.more → part.blamed ≡ whole.blamed
+    → RefusesCertificate IsFaulty whole name status
+lent_certificate_wider whole part IsFaulty lent name status refused same kept less fewer later more blames =
+    subst (λ n. RefusesCertificate IsFaulty whole n status) same
+    (certificate_wider whole part IsFaulty lent status kept less fewer later more blames refused)
+
+pub lent_index_wider : (whole part : Reading) (c : Collection) (lent name : List ℕ) (status : Status)
+    → RefusesIndex c part lent status → lent ≡ name
+    → part.held ≡ whole.held → whole.faults ≤ part.faults → whole.misses ≤ part.misses
+    → part.later ≡ whole.later → part.more ≡ whole.more → part.blamed ≡ whole.blamed → RefusesIndex c whole name status
+lent_index_wider whole part c lent name status refused same kept less fewer later more blames =
+    subst (λ n. RefusesIndex c whole n status) same
+    (index_wider whole part c lent status kept less fewer later more blames refused)
+
+-- and of a series file, where its form is computed too
+pub lent_file_wider : (w : Which) (whole part : Reading) (lent name : List ℕ) (made form : Form) (status : Status)
+    → RefusesFile w part lent made status → lent ≡ name → made ≡ form
+    → part.held ≡ whole.held → whole.faults ≤ part.faults → whole.misses ≤ part.misses
+    → part.later ≡ whole.later → part.more ≡ whole.more → part.blamed ≡ whole.blamed → RefusesFile w whole name form status
+lent_file_wider w whole part lent name made form status refused same formed kept less fewer later more blames =
+    subst (λ f. RefusesFile w whole name f status) formed
+    (subst (λ n. RefusesFile w whole n made status) same
+    (file_wider w whole part lent made status kept less fewer later more blames refused))
+
 -- the first of two facts of what is left
 pub first_part : (left : Option (List ℕ)) (P Q : List ℕ → Type 0)
     → IfSome left (λ rest. P rest × Q rest) → IfSome left P

@@ -6,12 +6,13 @@ use Rattle.series_file.specs.declared.error.Form.{Form}
 use Rattle.search_run.specs.Certificates.{IsFault, RefusesCertificate, ShowsInvalid, Subject}
 use Rattle.search_run.specs.Ends.{TellsCause}
 use Rattle.search_run.specs.Indexes.{RefusesIndex, ShowsIndexFault}
-use Rattle.search_run.specs.Loads.{RefusesFile}
+use Rattle.search_run.specs.Loads.{RefusesFile, RefusesNamed, ShowsFault}
 use Rattle.search_run.specs.Plans.{Differs, HasFault, Plan, Load, Compare, Divide, LoadIndex, Check, Write, Refuses, TooMany}
 use Rattle.search_run.specs.Traffic.{Reading}
 use Rattle.search_run.specs.declared.status.Status.{Status}
 use Rattle.search_run.specs.declared.status.Status.TheVariants.{Done, Usage, Missing, ReadFault, Format, Mismatch, Settings, WriteFault, Memory, Invalid, Index}
 use Rattle.search_run.specs.declared.status.Which.{Which}
+use Rattle.search_run.specs.declared.status.Which.TheVariants.{Certificate, Index as IndexFile}
 
 -- a status that a refusal can have, which tells a cause
 abbrev pub IsRefusal : Status → Type 0
@@ -20,19 +21,28 @@ IsRefusal Usage = ⊥
 IsRefusal WriteFault = ⊥
 IsRefusal status = TellsCause status
 
+-- a name is refused with such a status, where what its bytes show is one
+named_is : (w : Which) (Shows : Status → Type 0) (reading : Reading) (name : List ℕ) (status : Status)
+    → ((s : Status) → Shows s → IsRefusal s) → RefusesNamed w Shows reading name status → IsRefusal status
+named_is w Shows reading name (Missing v) shown x = tt
+named_is w Shows reading name (ReadFault v) shown x = tt
+named_is w Shows reading name Memory shown x = tt
+named_is w Shows reading name Done shown x = shown Done x
+named_is w Shows reading name Usage shown x = shown Usage x
+named_is w Shows reading name (Format v e) shown x = shown (Format v e) x
+named_is w Shows reading name (Mismatch a b) shown x = shown (Mismatch a b) x
+named_is w Shows reading name (Settings v n) shown x = shown (Settings v n) x
+named_is w Shows reading name WriteFault shown x = shown WriteFault x
+named_is w Shows reading name (Invalid e) shown x = shown (Invalid e) x
+named_is w Shows reading name (Index e) shown x = shown (Index e) x
+
 file_is : (w : Which) (reading : Reading) (name : List ℕ) (form : Form) (status : Status)
     → RefusesFile w reading name form status → IsRefusal status
-file_is w reading name form Done x = x
-file_is w reading name form Usage x = x
-file_is w reading name form (Missing v) x = tt
-file_is w reading name form (ReadFault v) x = tt
-file_is w reading name form (Format v e) x = x.1
-file_is w reading name form (Mismatch a b) x = tt
-file_is w reading name form (Settings v n) x = tt
-file_is w reading name form WriteFault x = x
-file_is w reading name form Memory x = tt
-file_is w reading name form (Invalid e) x = absurd x
-file_is w reading name form (Index e) x = absurd x
+file_is w reading name form status = named_is w (ShowsFault w reading.held name form) reading name status shown
+  where
+    shown : (s : Status) → ShowsFault w reading.held name form s → IsRefusal s
+    shown (Format v e) x = x.1
+    shown s x = absurd x
 
 lengths_are : (a b : ℕ) (status : Status) → Differs a b status → IsRefusal status
 lengths_are a b (Mismatch c d) x = tt
@@ -45,31 +55,20 @@ segments_are None n status x = absurd x
 
 certificate_is : (s : Subject) (reading : Reading) (name : List ℕ) (status : Status)
     → RefusesCertificate (IsFault s) reading name status → IsRefusal status
-certificate_is s reading name Done x = x
-certificate_is s reading name Usage x = x
-certificate_is s reading name (Missing v) x = tt
-certificate_is s reading name (ReadFault v) x = tt
-certificate_is s reading name (Format v e) x = absurd x
-certificate_is s reading name (Mismatch a b) x = tt
-certificate_is s reading name (Settings v n) x = tt
-certificate_is s reading name WriteFault x = x
-certificate_is s reading name Memory x = tt
-certificate_is s reading name (Invalid e) x = x.0
-certificate_is s reading name (Index e) x = absurd x
+certificate_is s reading name status =
+    named_is Certificate (ShowsInvalid (IsFault s) reading.held name) reading name status shown
+  where
+    shown : (t : Status) → ShowsInvalid (IsFault s) reading.held name t → IsRefusal t
+    shown (Invalid e) x = x.0
+    shown t x = absurd x
 
 index_is : (c : Collection) (reading : Reading) (name : List ℕ) (status : Status)
     → RefusesIndex c reading name status → IsRefusal status
-index_is c reading name Done x = x
-index_is c reading name Usage x = x
-index_is c reading name (Missing v) x = tt
-index_is c reading name (ReadFault v) x = tt
-index_is c reading name (Format v e) x = absurd x
-index_is c reading name (Mismatch a b) x = tt
-index_is c reading name (Settings v n) x = tt
-index_is c reading name WriteFault x = x
-index_is c reading name Memory x = tt
-index_is c reading name (Invalid e) x = absurd x
-index_is c reading name (Index e) x = x.0
+index_is c reading name status = named_is IndexFile (ShowsIndexFault c reading.held name) reading name status shown
+  where
+    shown : (s : Status) → ShowsIndexFault c reading.held name s → IsRefusal s
+    shown (Index e) x = x.0
+    shown s x = absurd x
 
 -- a step that refuses has such a status
 pub refuses_for_cause : (reading : Reading) (plan : Plan) (status : Status) → Refuses reading plan status

@@ -6,14 +6,17 @@ use Rattle.std.specs.Global.{Vec}
 use Rattle.outside.specs.declared.faults.NoMemory.{NoMemory as NoMemoryLeft}
 use Rattle.command_words.specs.declared.options.Options.{Options}
 use Rattle.std.specs.List.{All}
+use Rattle.segment_sums.specs.Division.{IsDivision}
 use Rattle.series_core.specs.Collection.{IsCollection, IsSeries}
 use Rattle.series_file.specs.Format.{HasText}
 use Rattle.series_file.specs.declared.error.Form.{Form}
 use Rattle.series_file.specs.declared.error.Loaded.{Loaded}
+use Rattle.subtree_build.specs.Index.{IsIndex}
 use Rattle.search_run.specs.Commands.{pieces_plan, pieces_rest}
 use Rattle.std.specs.Io.KnownBytes.{append_known}
 use Rattle.search_run.specs.Ends.{Concludes, WroteNothing}
-use Rattle.search_run.specs.Finding.{EndsMaking, IsGround, IsMadeOver, begun_plan, made_plan}
+use Rattle.search_run.specs.Finding.{EndsMaking, IsBuiltOf, IsGround, IsMadeOver, IsTreeFor, begun_plan, made_plan}
+use Rattle.search_run.specs.Layouts.{settings_of}
 use Rattle.search_run.specs.Loads.{form_of}
 use Rattle.search_run.specs.Pairs.{Fit, files_plan}
 use Rattle.search_run.specs.Plans.{Refuses, Writes}
@@ -29,6 +32,13 @@ use Rattle.search_run.specs.declared.output.stop.Stop.{Stop}
 use Rattle.search_run.specs.declared.output.stop.Stop.TheVariants.{WriteFault, NoMemory}
 use Rattle.search_run.specs.declared.status.Status.{Status}
 use Rattle.search_run.specs.declared.status.Status.TheVariants.{Done}
+
+-- a tree that was built of the series is one that a search under these options goes over
+pub is_ground : (o : Options) (base : Ground) → IsTreeFor base.series.rows base.tree → IsBuiltOf base.series.rows base.tree
+    → base.tree.settings ≡ settings_of base.series.rows.points o → IsIndex base.tree.index
+    → IsDivision base.tree.settings.layout.cuts → IsGround o base
+is_ground o base fits built settings index cuts =
+    record { searched = fits; built = built; settings = settings; index = index; cuts = cuts }
 
 -- a search whose files were refused ends so
 pub search_refused : (Gives : Call Ground) (reading : Reading) (writing : Writing) (series queries : List ℕ)

@@ -1,6 +1,6 @@
--- How a search of windows ends: what refuses its files, and what was written of its text (`stops_conclude`); and
--- what stops the writing is no fault of reading (`stop_reads_nothing`).
-use Rattle.std.proofs.Common.{◌≡◌, ℕ, ◌*◌, ◌<◌, ◌++◌, List, Option, None, inl, inr, ⊎_elim, length, take, arith, ap, ◌∙◌}
+-- How a search of windows ends: what refuses its files (`long_refused`), and what was written of its text (`chosen_done`,
+-- `chosen_stopped`).
+use Rattle.std.proofs.Common.{◌≡◌, ℕ, ◌*◌, ◌<◌, List, Option, None, inl, ⊎_elim, length, take, arith, ap, ◌∙◌}
 use Rattle.std.specs.Prelude.{ℤ, Result, Ok, Err, IfErr, OnOk}
 use Rattle.std.specs.Io.KnownBytes.{append_known}
 use Rattle.command_words.specs.Options.{windows_needed}
@@ -12,28 +12,19 @@ use Rattle.series_file.specs.declared.error.Form.TheVariants.{Raw}
 use Rattle.series_file.specs.declared.error.Loaded.{Loaded}
 use Rattle.series_file.proofs.ReadBack.{length-joined}
 use Rattle.search_run.specs.Batches.{AppendsTold, IsTold}
-use Rattle.search_run.specs.Ends.{Concludes, ConcludesBy}
-use Rattle.search_run.specs.Plans.{Plan, Refuses}
-use Rattle.search_run.specs.Status.{status_of}
+use Rattle.search_run.specs.Loads.{form_of}
+use Rattle.search_run.specs.Plans.{Divide, Plan, Refuses}
 use Rattle.search_run.specs.Stops.{Stops}
 use Rattle.search_run.specs.Texts.{IsTextOf, query_text}
 use Rattle.search_run.specs.Traffic.{Reading, Writing}
 use Rattle.search_run.specs.Windows.{AppendsChoices, HasFew, IsChoice, long_plan, nothing_behind}
 use Rattle.window_rows.proofs.Enough.{nearest_enough}
-use Rattle.search_run.proofs.Concluding.{concludes_map}
-use Rattle.search_run.proofs.Pieces.{text_finish, text_map}
+use Rattle.search_run.proofs.Both.{loads_refused}
+use Rattle.search_run.proofs.Pieces.{text_map}
 use Rattle.search_run.specs.declared.output.answers.Telling.TheVariants.{Apart}
 use Rattle.search_run.specs.declared.output.stop.Stop.{Stop}
 use Rattle.search_run.specs.declared.output.stop.Stop.TheVariants.{WriteFault, NoMemory}
 use Rattle.search_run.specs.declared.status.Status.{Status}
-use Rattle.search_run.specs.declared.status.Status.TheVariants.{ReadFault}
-use Rattle.search_run.specs.declared.status.Which.{Which}
-
--- what stops the writing is no fault of reading
-pub stop_reads_nothing : (r : Result (Unit {0}) Status) (s : Status) (stop : Stop) (w : Which) → r ≡ Err s → s ≡ status_of stop
-    → r ≡ Err (ReadFault w) → ⊥
-stop_reads_nothing r s WriteFault w ends is reads = cc
-stop_reads_nothing r s NoMemory w ends is reads = cc
 
 -- values alone, one a series, are no more than a collection may have series
 pub few_alone : (x : Loaded) → HasText (Raw 1) x.rows x.labels → HasFew x
@@ -49,15 +40,10 @@ pub long_refused : (reading : Reading) (series queries : List ℕ) (o : Options)
     (status : Status) → Refuses reading (long_plan series queries o nothing_behind) status
     → Refuses reading (long_plan series queries o then_) status
 long_refused reading series queries o then_ status =
-    ⊎_elim (λ x. inl x) (λ x. inr (
-      x.0,
-      x.1,
-      ⊎_elim (λ y. inl y) (λ y. inr (
-        y.0,
-        y.1,
-        ⊎_elim (λ z. inl z) (λ z. absurd z.1) y.2,
-      )) x.2,
-    ))
+    loads_refused reading series queries (Raw 1) (form_of o.raw)
+    (λ x y. Divide o.segments y.rows.points (nothing_behind x y))
+    (λ x y. Divide o.segments y.rows.points (then_ x y)) status
+    (λ x y. ⊎_elim (λ z. inl z) (λ z. absurd z.1))
 
 -- pieces of one kind that were not all written are of another
 stops_map : (P Q : ℕ → List ℤ → List ℕ → Type 0)
@@ -83,28 +69,6 @@ stopped_map : (P Q : ℕ → List ℤ → List ℕ → Type 0)
     → IfErr ended (Stops P qs writing) → IfErr ended (Stops Q qs writing)
 stopped_map P Q each qs writing (Ok u) x = tt
 stopped_map P Q each qs writing (Err stop) x = stops_map P Q each qs writing stop x
-
--- the text of the first queries, however many
-abbrev Begun : (ℕ → List ℤ → List ℕ → Type 0) → List (List ℤ) → List ℕ → Type 0
-Begun P qs text = (n : ℕ) × IsTextOf P (take n qs) text
-
--- pieces that were not all written conclude a command whose right texts are made of such, where each query has a piece
-pub stops_conclude : (P : ℕ → List ℤ → List ℕ → Type 0) → ((i : ℕ) (q : List ℤ) → (piece : List ℕ) × P i q piece)
-    → (qs : List (List ℤ)) (IsRight : List ℕ → Type 0) (R : Status → Type 0) (writing : Writing)
-    → ((text : List ℕ) → IsTextOf P qs text → IsRight text)
-    → (stop : Stop) → Stops P qs writing stop → Concludes IsRight R writing (status_of stop)
-stops_conclude P each qs IsRight R writing right stop stopped =
-    concludes_map (IsTextOf P qs) (Begun P qs) IsRight R R writing (status_of stop) right begun (λ s r. r) (by_stop stop stopped)
-  where
-    begun : (text : List ℕ) → Begun P qs text → (rest : List ℕ) × IsRight (text ++ rest)
-    begun text w =
-        let more = text_finish P (λ q. Unit {0}) (λ i q any. each i q) 0 qs w.0 text (λ k d below. tt) w.1 in
-        (more.0, right (text ++ more.0) more.1)
-
-    by_stop : (stop : Stop) → Stops P qs writing stop
-        → ConcludesBy (IsTextOf P qs) (Begun P qs) R writing (status_of stop)
-    by_stop WriteFault x = (x.1, (x.0, x.2), x.3, x.4, x.5)
-    by_stop NoMemory x = inr (x.1, (x.0, x.2), x.3)
 
 -- what is written of as many of the nearest as are needed has those that are chosen from all
 told_chosen : (o : Options) → 0 < o.apart → (c : Collection) (i : ℕ) (query : List ℤ) (piece : List ℕ)

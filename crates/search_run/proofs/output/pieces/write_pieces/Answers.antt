@@ -1,9 +1,7 @@
-use Rattle.std.proofs.Common.{◌+◌, ◌<◌, ◌≤◌, [], ◌++◌, length, get_or, arith, sym, refl}
-use Rattle.std.proofs.lemmas.Result.{err_from_is_err_and}
-use Rattle.outside.specs.Count.{Rose-wider}
+use Rattle.std.proofs.Common.{◌≤◌, [], length, arith, sym, refl}
 use Rattle.search_run.specs.Texts.{IsMade}
-use Rattle.search_run.proofs.Pieces.{text_all, text_next}
-use Rattle.search_run.proofs.Writing.{Going-next, Going-prefix, Going-short, Going-start, Going-stopped, false_is_not_true}
+use Rattle.search_run.proofs.Piecewise.{all_written, failed_stops, goes_on, left_stops}
+use Rattle.search_run.proofs.Writing.{Going-start, false_is_not_true}
 use Rattle.search_run.proofs.output.pieces.write_pieces.Given as given
 use Rattle.search_run.proofs.output.pieces.write_pieces.Goals as goal
 
@@ -12,53 +10,31 @@ loop-i-init g c = ([], refl, Going-start g.S.Sink.written g.S.Sink.faults g.S.Si
 
 pub returns : goal.returns
 returns g c =
-    let so_far = c.loop-i.invariant in
     let series = (g.Q.Rows.collection c.args.queries.now).series in
     let all : length series ≤ c.loop-i.i = omega (arith, c.loop-i-test.false, c.count-i-end.ensures.count) in
     let made = IsMade (given.P-post g c.args.piece_of.now) c.args.context.now in
-    record {
-      ok = (so_far.0, text_all made c.loop-i.i series so_far.0 all so_far.1, so_far.2.appended);
-      stops = tt;
-      counts = so_far.2.counts;
-    }
+    record { ok = all_written made c.loop-i.i series all c.loop-i.invariant; stops = tt; counts = c.loop-i.invariant.2.counts }
 
 pub returns-in_err-text-clause-stops : goal.returns-in_err-text-clause-stops
 returns-in_err-text-clause-stops g c =
-    let so_far = c.loop-i.invariant in
-    let told = err_from_is_err_and c.from_residual.result c.from_residual.ensures.1 in
-    rw (told.1, told.2) (c.loop-i.i, so_far.0, so_far.1, Going-prefix so_far.2)
+    left_stops _ _ _ c.args.out.now c.loop-i.out _ c.loop-i.i _ c.from_residual.result c.from_residual.ensures.1 c.loop-i.invariant
 
 pub returns-in_err-write_whole-clause-stops : goal.returns-in_err-write_whole-clause-stops
 returns-in_err-write_whole-clause-stops g c =
-    let so_far = c.loop-i.invariant in
-    let series = (g.Q.Rows.collection c.args.queries.now).series in
-    let below : c.loop-i.i < length series = omega (arith, c.loop-i-test.true, c.count-i-end.ensures.count) in
     let made = IsMade (given.P-post g c.args.piece_of.now) c.args.context.now in
-    let piece = c.deref.result.now in
-    let new : made c.loop-i.i (get_or series c.loop-i.i []) piece =
-    (c.args.context, c.row_of.result, c.in_ok-text.text, c.in_ok-text.ensures, refl, c.row_of.ensures.row, sym c.deref.ensures.value) in
     let failed = c.in_err-write_whole.ensures in
-    let told = err_from_is_err_and c.from_residual-in_err-write_whole.result c.from_residual-in_err-write_whole.ensures.1 in
-    rw (told.1, told.2) (
-      c.loop-i.i + 1,
-      so_far.0 ++ piece,
-      text_next made c.loop-i.i series [] so_far.0 piece below so_far.1 new,
-      Going-stopped piece so_far.2 failed.prefix,
-      Rose-wider so_far.2.counts failed.failed (omega arith),
-      Going-short piece so_far.2 (λ room. false_is_not_true (failed.sure room).0),
-    )
+    failed_stops g.S.Sink.written g.S.Sink.faults g.S.Sink.sure c.args.out.now c.loop-i.out c.write_whole.new.sink made
+    c.loop-i.i (g.Q.Rows.collection c.args.queries.now).series c.deref.result.now
+    c.from_residual-in_err-write_whole.result c.from_residual-in_err-write_whole.ensures.1
+    (omega (arith, c.loop-i-test.true, c.count-i-end.ensures.count))
+    (c.args.context, c.row_of.result, c.in_ok-text.text, c.in_ok-text.ensures, refl, c.row_of.ensures.row, sym c.deref.ensures.value)
+    c.loop-i.invariant failed.prefix failed.failed (λ room. false_is_not_true (failed.sure room).0)
 
 pub loop-i-preserved : goal.loop-i-preserved
 loop-i-preserved g c =
-    let so_far = c.loop-i.invariant in
-    let series = (g.Q.Rows.collection c.args.queries.now).series in
-    let below : c.loop-i.i < length series = omega (arith, c.loop-i-test.true, c.count-i-end.ensures.count) in
     let made = IsMade (given.P-post g c.args.piece_of.now) c.args.context.now in
-    let piece = c.deref.result.now in
-    let new : made c.loop-i.i (get_or series c.loop-i.i []) piece =
-    (c.args.context, c.row_of.result, c.in_ok-text.text, c.in_ok-text.ensures, refl, c.row_of.ensures.row, sym c.deref.ensures.value) in
-    let wrote = c.in_ok-write_whole.ensures in (
-      so_far.0 ++ piece,
-      text_next made c.loop-i.i series [] so_far.0 piece below so_far.1 new,
-      Going-next piece so_far.2 wrote.ok wrote.counts wrote.spent,
-    )
+    let wrote = c.in_ok-write_whole.ensures in
+    goes_on made c.loop-i.i (g.Q.Rows.collection c.args.queries.now).series c.deref.result.now
+    (omega (arith, c.loop-i-test.true, c.count-i-end.ensures.count))
+    (c.args.context, c.row_of.result, c.in_ok-text.text, c.in_ok-text.ensures, refl, c.row_of.ensures.row, sym c.deref.ensures.value)
+    c.loop-i.invariant wrote.ok wrote.counts wrote.spent
