@@ -16,6 +16,7 @@ use Rattle.live_collection.proofs.Takings.{appended_prefix}
 use Rattle.live_run.specs.Replies.{IsAskedText, batches_text}
 use Rattle.live_run.specs.Texts.{Query, file_queries}
 use Rattle.live_run.specs.declared.group.QueryFile.{QueryFile}
+use Rattle.live_run.proofs.Askings.{file_size}
 
 -- the appends that were seen before a call begin those that were seen with it
 pub ends_prefix : (old new : Log) (e : Entry Call Reply) → EndsWith old e new → IsPrefix (appended old) (appended new)
@@ -101,4 +102,15 @@ queries_within fs i d low =
     ≡ length (file_queries (get_or fs i d)) + length (flat_map file_queries (drop (i + 1) fs))
     = ap (λ l. length (flat_map file_queries l)) (drop_more fs i d low)
     ∙ length-append (file_queries (get_or fs i d)) (flat_map file_queries (drop (i + 1) fs)) in
+    omega arith
+
+-- so the number of the query behind those of a file is below whatever the queries of all are
+pub file_fits : (fs : List QueryFile) (i : ℕ) (f : QueryFile) (first next limit : ℕ) → f ≡ get_or fs i f → i < length fs
+    → first + length (flat_map file_queries fs) < limit → next ≡ first + length (flat_map file_queries (take i fs))
+    → next + length f.queries.series < limit
+file_fits fs i f first next limit same low few at =
+    let w = queries_within fs i f low in
+    let s = file_size f in
+    let l : length (file_queries f) ≡ length (file_queries (get_or fs i f))
+    = ap (λ (x : QueryFile). length (file_queries x)) same in
     omega arith

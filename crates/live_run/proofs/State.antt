@@ -1,6 +1,7 @@
 -- What is known of a run behind some groups: what their files held, the dialogue that took them, and the text of them, which
 -- was written.
 use Rattle.std.proofs.Common.{◌≡◌, ℕ, suc, ◌+◌, ◌*◌, ◌<◌, ◌≤◌, ◌^◌, List, [], ◌∷◌, ◌++◌, All, length, map, take, drop, get_or, Option, None, Some, refl, sym, ap, ◌∙◌, subst, append_assoc, append-nil, length-append, inl, inr, arith}
+use Rattle.std.specs.Prelude.{Result, Ok, Err, IsErrAnd}
 use Rattle.std.specs.List.{AllZip, flat_map}
 use Rattle.std.specs.Io.KnownBytes.{append_known}
 use Rattle.std.proofs.lemmas.List.{drop_more, length-map, take-append-drop, take_more, take_all}
@@ -9,11 +10,11 @@ use Rattle.outside.specs.Files.{Held}
 use Rattle.outside.specs.Sink.{AppendsPrefix}
 use Rattle.live_script.specs.Grammar.{asking_line, group_lines, script_lines}
 use Rattle.live_script.specs.declared.script.Group.{Group}
-use Rattle.live_run.specs.Ends.{GroupsEnd, StopsWriting, Taken}
+use Rattle.live_run.specs.Ends.{GroupsEnd, StopsWriting, Taken, ended}
 use Rattle.live_run.specs.Groups.{AllPass, HoldsAsking, HoldsGroup, StopsAt, want_of}
 use Rattle.live_run.specs.Loads.{FitsLength, most_bytes}
 use Rattle.live_run.specs.Replies.{CanAsk}
-use Rattle.live_run.specs.Dialogues.{HasTaken, IsTextOfGroup, Stands, Takes}
+use Rattle.live_run.specs.Dialogues.{HasTaken, IsTextOfGroup, Stands, Takes, length_of}
 use Rattle.live_run.specs.Texts.{IsScriptText, all_queries, queries_of}
 use Rattle.live_run.specs.Traffic.{Appended, Reading, Writing}
 use Rattle.live_run.specs.declared.group.Contents.{Contents}
@@ -21,7 +22,7 @@ use Rattle.live_run.specs.declared.dialogue.Dialogue.{Dialogue}
 use Rattle.live_run.specs.declared.status.LiveStatus.{LiveStatus}
 use Rattle.live_run.specs.declared.status.LiveStatus.TheVariants.{WriteFault, Done}
 use Rattle.live_run.proofs.Askings.{queries_few, zip_length}
-use Rattle.live_run.proofs.Stopping.{lines_more, lines_within, pass_more, stands_more, stops_end, text_more, took_room}
+use Rattle.live_run.proofs.Stopping.{lines_more, lines_within, pass_more, stands_more, stops_end, text_more, took_room, wanted}
 use Rattle.live_run.proofs.Texts.{queries_more, script_none}
 
 pub record IsBehind (held : Option Held) (done : List Group) (dialogue : Option Dialogue) (before now : Option (List ℕ)) : Type 0 where
@@ -93,6 +94,35 @@ behind_done reading writing held e groups i dialogue now all behind same = (
   behind.told,
   same ∙ behind.wrote,
 )
+
+-- a group was loaded behind others, and this dialogue has taken those
+pub record IsNext (held : Option Held) (cs : List Contents) (g : Group) (c : Contents) (s : Dialogue) : Type 0 where
+  pub has : HasTaken cs s
+  pub points : s.points ≡ c.batch.points
+  pub holds : HoldsGroup held (want_of cs) g c
+
+-- so it is of the group of a list that is loaded, and of the dialogue that has begun
+pub next_at : {held now : Option Held} {want : Option ℕ} {c : Contents} {n : ℕ} {s : Dialogue} (cs : List Contents)
+    (dialogue : Option Dialogue) (groups : List Group) (i : ℕ) (g : Group) → g ≡ get_or groups i g → now ≡ held
+    → want ≡ length_of dialogue → n ≡ c.batch.points → Stands cs dialogue → HoldsGroup now want g c
+    → ((ds : List Contents) → Stands ds dialogue → FitsLength (length_of dialogue) n → HasTaken ds s × (s.points ≡ n))
+    → IsNext held cs (get_or groups i g) c s
+next_at {held} {now} {want} {c} {n} {s} cs dialogue groups i g same kept wants length stands had begun =
+    let fits = subst (λ w. FitsLength w n) wants (subst (FitsLength want) (sym length) had.points) in
+    let taken = begun cs stands fits in
+    record {
+      has = taken.0;
+      points = taken.1 ∙ length;
+      holds = subst (λ (x : Group). HoldsGroup held (want_of cs) x c) same
+          (subst (λ w. HoldsGroup held w g c) (wants ∙ wanted cs dialogue stands)
+          (subst (λ h. HoldsGroup h want g c) kept had));
+    }
+
+-- what is so of the status of work that failed with it is so of its end
+pub by_status : (P : LiveStatus → Type 0) (given : Result (Unit {0}) LiveStatus) (status : LiveStatus)
+    → IsErrAnd given (λ s. s ≡ status) → P status → P (ended given)
+by_status P (Ok u) status is p = absurd is
+by_status P (Err s) status is p = subst P (sym is) p
 
 -- the lines of a group are one more than its askings
 group_size : (g : Group) → length (group_lines g) ≡ 1 + length g.askings

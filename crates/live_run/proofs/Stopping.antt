@@ -148,42 +148,46 @@ refused_stops reading cs g gs c s (Mismatch l a b) has holds refused = absurd re
 refused_stops reading cs g gs c s WriteFault has holds refused = absurd refused
 refused_stops reading cs g gs c s (Script at) has holds refused = absurd refused
 
--- neither an end nor a failed write stops a group before it is taken
-no_done : (reading : Reading) (want : Option ℕ) (g : Group) → RefusesGroup reading want g Done → ⊥
-no_done reading want g (inl (inl x)) = x
-no_done reading None g (inl (inr x)) = x.2
-no_done reading (Some w) g (inl (inr x)) = x.2
-no_done reading want g (inr (rows, holds, fits, x)) = other x.asking.queries x.refused
-  where
-    other : (file : NamedFile) → RefusesFitting reading (Some rows.points) file Done → ⊥
-    other file (inl y) = y
-    other file (inr y) = y.2
+-- a status of a run that has taken a group, or all of them: a failed write, or the end
+abbrev IsLater : LiveStatus → Type 0
+IsLater Done = Unit {0}
+IsLater WriteFault = Unit {0}
+IsLater status = ⊥
 
-no_fault : (reading : Reading) (want : Option ℕ) (g : Group) → RefusesGroup reading want g WriteFault → ⊥
-no_fault reading want g (inl (inl x)) = x
-no_fault reading None g (inl (inr x)) = x.2
-no_fault reading (Some w) g (inl (inr x)) = x.2
-no_fault reading want g (inr (rows, holds, fits, x)) = other x.asking.queries x.refused
-  where
-    other : (file : NamedFile) → RefusesFitting reading (Some rows.points) file WriteFault → ⊥
-    other file (inl y) = y
-    other file (inr y) = y.2
+-- no file is refused so, and no group
+no_file : (reading : Reading) (want : Option ℕ) (file : NamedFile) (status : LiveStatus) → IsLater status
+    → RefusesFitting reading want file status → ⊥
+no_file reading want file Done later (inl x) = x
+no_file reading None file Done later (inr x) = x.2
+no_file reading (Some w) file Done later (inr x) = x.2
+no_file reading want file WriteFault later (inl x) = x
+no_file reading None file WriteFault later (inr x) = x.2
+no_file reading (Some w) file WriteFault later (inr x) = x.2
+no_file reading want file status later x = absurd later
+
+no_group : (reading : Reading) (want : Option ℕ) (g : Group) (status : LiveStatus) → IsLater status
+    → RefusesGroup reading want g status → ⊥
+no_group reading want g status later (inl x) = no_file reading want g.batch status later x
+no_group reading want g status later (inr (rows, holds, fits, x)) =
+    no_file reading (Some rows.points) x.asking.queries status later x.refused
+
+-- so it stops no run before a group is taken
+no_stop : (reading : Reading) (cs : List Contents) (rest : List Group) (status : LiveStatus) → IsLater status
+    → StopsAt reading cs rest status → ⊥
+no_stop reading cs [] Done later x = x
+no_stop reading cs (g ∷ gs) Done later (inl x) = no_group reading (want_of cs) g Done later x
+no_stop reading cs (g ∷ gs) Done later (inr x) = x.2
+no_stop reading cs [] WriteFault later x = x
+no_stop reading cs (g ∷ gs) WriteFault later (inl x) = no_group reading (want_of cs) g WriteFault later x
+no_stop reading cs (g ∷ gs) WriteFault later (inr x) = x.2
+no_stop reading cs rest status later x = absurd later
 
 -- a run ends where a group is not taken
 pub stops_end : (reading : Reading) (writing : Writing) (groups : List Group) (status : LiveStatus) (taken : Taken reading.held groups)
     → StopsAt reading taken.contents taken.rest status → Appended writing taken.text → GroupsEnd reading writing groups status
-stops_end reading writing groups Done taken stops wrote = absurd (never taken.rest stops)
-  where
-    never : (rest : List Group) → StopsAt reading taken.contents rest Done → ⊥
-    never [] x = x
-    never (g ∷ gs) (inl x) = no_done reading (want_of taken.contents) g x
-    never (g ∷ gs) (inr x) = x.2
-stops_end reading writing groups WriteFault taken stops wrote = absurd (never taken.rest stops)
-  where
-    never : (rest : List Group) → StopsAt reading taken.contents rest WriteFault → ⊥
-    never [] x = x
-    never (g ∷ gs) (inl x) = no_fault reading (want_of taken.contents) g x
-    never (g ∷ gs) (inr x) = x.2
+stops_end reading writing groups Done taken stops wrote = absurd (no_stop reading taken.contents taken.rest Done tt stops)
+stops_end reading writing groups WriteFault taken stops wrote =
+    absurd (no_stop reading taken.contents taken.rest WriteFault tt stops)
 stops_end reading writing groups Usage taken stops wrote = (taken, stops, wrote)
 stops_end reading writing groups (Missing l) taken stops wrote = (taken, stops, wrote)
 stops_end reading writing groups (ReadFault l) taken stops wrote = (taken, stops, wrote)

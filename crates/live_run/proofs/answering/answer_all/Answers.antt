@@ -1,36 +1,23 @@
-use Rattle.std.proofs.Common.{rules, ◌≡◌, ◌+◌, ◌++◌, ap, sym, ◌∙◌, subst, length, take, get_or, length-append, arith, List, ℕ}
+use Rattle.std.proofs.Common.{rules, ◌≡◌, ◌+◌, ◌^◌, ◌++◌, ap, sym, ◌∙◌, subst, length, take, get_or, length-append, arith, List, ℕ}
 use Rattle.std.specs.List.{flat_map}
 use Rattle.live_collection.specs.Sides.{points_of}
 use Rattle.live_run.specs.Replies.{IsAskedText}
 use Rattle.live_run.specs.Dialogues.{batches_seen}
 use Rattle.live_run.specs.Texts.{file_queries}
 use Rattle.live_run.specs.declared.group.QueryFile.{QueryFile}
-use Rattle.live_run.proofs.Asked.{file_more, queries_more, queries_within}
+use Rattle.live_run.proofs.Asked.{file_fits, file_more, queries_more}
 use Rattle.live_run.proofs.Askings.{file_size}
 use Rattle.live_run.proofs.answering.answer_all.Goals as goal
 
 pub answer_file-requires-clause-numbers : goal.answer_file-requires-clause-numbers
 answer_file-requires-clause-numbers g c =
-    let f = c.file-item.result in
-    let same : f ≡ get_or c.args.askings.now c.loop-file.file-index f = search (rules, c.file-item.is) in
-    let w = queries_within c.args.askings.now c.loop-file.file-index f c.loop-file-test.true in
-    let n = c.loop-file.invariant.next in
-    let s = file_size f in
-    let l : length (file_queries f) ≡ length (file_queries (get_or c.args.askings.now c.loop-file.file-index f))
-    = ap (λ (x : QueryFile). length (file_queries x)) same in
-    let r = c.requires.numbers in
-    omega arith
+    file_fits c.args.askings.now c.loop-file.file-index c.file-item.result c.args.first c.loop-file.next (2 ^ 64)
+    (search (rules, c.file-item.is)) c.loop-file-test.true c.requires.numbers c.loop-file.invariant.next
 
 pub overflow_add-next : goal.overflow_add-next
 overflow_add-next g c =
-    let f = c.file-item.result in
-    let same : f ≡ get_or c.args.askings.now c.loop-file.file-index f = search (rules, c.file-item.is) in
-    let w = queries_within c.args.askings.now c.loop-file.file-index f c.loop-file-test.true in
-    let n = c.loop-file.invariant.next in
-    let s = file_size f in
-    let l : length (file_queries f) ≡ length (file_queries (get_or c.args.askings.now c.loop-file.file-index f))
-    = ap (λ (x : QueryFile). length (file_queries x)) same in
-    let r = c.requires.numbers in
+    let fits = file_fits c.args.askings.now c.loop-file.file-index c.file-item.result c.args.first c.loop-file.next (2 ^ 64)
+    (search (rules, c.file-item.is)) c.loop-file-test.true c.requires.numbers c.loop-file.invariant.next in
     let e = c.from-next.ensures in
     let m = c.count.ensures.count in
     omega arith

@@ -73,13 +73,12 @@ returns-clause-takes g c =
 pub returns-clause-text : goal.returns-clause-text
 returns-clause-text g c =
     let s = c.args.self in
-    let k = s.live in
-    let batch = c.args.contents.batch in
-    let mid = c.join-writer.result.0.0 in
-    let stands = subst (Appends k batch s.writer mid) c.in_ok-appended.was c.join-writer.ensures.first.1 in
-    let answered = subst (λ x. IfOk x (λ (a : Answers). IsAskedText (points_of k) s.asked (batches_seen s.reader)
+    let stands = subst (Appends s.live c.args.contents.batch s.writer c.join-writer.result.0.0) c.in_ok-appended.was
+    c.join-writer.ensures.first.1 in
+    let answered = subst (λ x. IfOk x (λ (a : Answers). IsAskedText (points_of s.live) s.asked (batches_seen s.reader)
     (flat_map file_queries c.args.contents.askings.items) a.text.items (batches_seen c.join-writer.result.1.0)
     × (a.next ≡ s.asked + length (flat_map file_queries c.args.contents.askings.items)))) c.in_ok-text.was c.join-writer.ensures.second.2 in
-    group_told k batch s.writer mid c.in_ok-appended.field-0 s.points s.asked (batches_seen s.reader) (batches_seen c.join-writer.result.1.0)
-    (flat_map file_queries c.args.contents.askings.items) c.in_ok-text.field-0.text.items c.requires.dialogue.writer stands
-    c.requires.dialogue.points c.requires.dialogue.seen c.tell.ensures.first answered.0
+    group_told s.live c.args.contents.batch s.writer c.join-writer.result.0.0 c.in_ok-appended.field-0 s.points s.asked
+    (batches_seen s.reader) (batches_seen c.join-writer.result.1.0) (flat_map file_queries c.args.contents.askings.items)
+    c.in_ok-text.field-0.text.items c.requires.dialogue.writer stands c.requires.dialogue.points c.requires.dialogue.seen
+    c.tell.ensures.first answered.0
