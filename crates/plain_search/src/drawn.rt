@@ -91,7 +91,7 @@ pub fn drawn_collection(alloc: Global, rng: &mut SplitMix64, count: u32) -> Resu
     Ok(Flat::from_values(4, values))
 }
 
-/// So many values.
+/// `count` drawn values.
 fn drawn_values(alloc: Global, rng: &mut SplitMix64, count: u32) -> Result<Vec<i16>, NoMemory>
     ensures { IfOk result (λ values. vec_len values ≡ count) }
 {
