@@ -5,3 +5,4 @@ pub mod Standing
 pub mod Places
 pub mod Below
 pub mod Pigeons
+pub mod Splitting

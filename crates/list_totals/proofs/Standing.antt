@@ -1,7 +1,7 @@
 -- What stands in a list: what a place holds, what stands in lists in a row, and that std's word says the same
 -- (`in_contains`, `contains_in`).
-use Rattle.std.proofs.Common.{List, Some, [], All, Contains, ap, arith, inl, inr, length, get_or, refl, suc, sym, zero, ℕ, ⊎_elim, ◌++◌, ◌<◌, ◌∷◌, ◌≡◌, ◌≤◌, ◌⊎◌}
-use Rattle.std.proofs.lemmas.Bool.{cases_lt}
+use Rattle.std.proofs.Common.{Bool, List, Some, [], All, Contains, cond, ap, arith, inl, inr, length, get_or, refl, suc, sym, zero, ℕ, ⊎_elim, ◌++◌, ◌<◌, ◌∷◌, ◌≡◌, ◌≤◌, ◌⊎◌}
+use Rattle.std.proofs.lemmas.Bool.{cases_lt, cond_both}
 use Rattle.std.proofs.lemmas.List.Elements.{All-contains}
 use Rattle.std.proofs.lemmas.Option.{none-some, same_Some}
 use Rattle.std.specs.Prelude.{slice_get}
@@ -60,6 +60,20 @@ module _ {X : Type 0} where
   pub in_behind : (x : X) (xs ys : List X) → In x ys → In x (xs ++ ys)
   in_behind x [] ys h = h
   in_behind x (z ∷ zs) ys h = inr (in_behind x zs ys h)
+
+  -- what stands in a list into which an item was put, in front of the first or behind it, is that item or stood there
+  pub in_put : (b : Bool) (x new y : X) (ys put : List X) → (In x put → (x ≡ new) ⊎ In x ys)
+      → In x (cond b (y ∷ put) (new ∷ y ∷ ys)) → (x ≡ new) ⊎ In x (y ∷ ys)
+  in_put b x new y ys put behind =
+      cond_both b (y ∷ put) (new ∷ y ∷ ys) (λ zs. In x zs → (x ≡ new) ⊎ In x (y ∷ ys))
+      (λ _ h. ⊎_elim
+      (λ (same : x ≡ y). inr (inl same))
+      (λ (t : In x put). ⊎_elim
+      (λ (same : x ≡ new). inl same)
+      (λ (u : In x ys). inr (inr u))
+      (behind t))
+      h)
+      (λ _ h. h)
 
   -- the part of what stands in a list is at most the total
   pub in_total : (f : X → ℕ) (x : X) (xs : List X) → In x xs → f x ≤ total f xs
