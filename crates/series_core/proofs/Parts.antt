@@ -3,6 +3,7 @@ use Rattle.std.proofs.Common.{◌≡◌, ℕ, zero, suc, ◌≤◌, List, [], �
 use Rattle.std.proofs.lemmas.Bool.{cond_both, cases_Bool}
 use Rattle.series_core.specs.Pairs.{is_before, insert}
 use Rattle.list_totals.specs.Standing.{In}
+use Rattle.list_totals.proofs.Standing.{in_put}
 use Rattle.series_core.specs.Order.{Among, Above, Ascending, AllNear, distance_at}
 use Rattle.series_core.specs.declared.pair.Pair.{Pair}
 use Rattle.series_core.specs.declared.distance.TheConstants.{NONE}
@@ -53,17 +54,7 @@ ascending_insert x (q ∷ qs) new up =
 -- what stands in the list after an insert
 pub has_insert : (p x : Pair) (qs : List Pair) → In p (insert x qs) → (p ≡ x) ⊎ In p qs
 has_insert p x [] = λ has. ⊎_elim (λ (e : p ≡ x). inl e) (λ (t : ⊥). absurd t) has
-has_insert p x (q ∷ qs) =
-    cond_both (is_before q x) (q ∷ insert x qs) (x ∷ q ∷ qs)
-    (λ rs. In p rs → (p ≡ x) ⊎ In p (q ∷ qs))
-    (λ _ has. ⊎_elim
-    (λ (e : p ≡ q). inr (inl e))
-    (λ (t : In p (insert x qs)). ⊎_elim
-    (λ (e : p ≡ x). inl e)
-    (λ (u : In p qs). inr (inr u))
-    (has_insert p x qs t))
-    has)
-    (λ _ has. has)
+has_insert p x (q ∷ qs) = in_put (is_before q x) p x q qs (insert x qs) (has_insert p x qs)
 
 pub insert_has : (p x : Pair) (qs : List Pair) → (p ≡ x) ⊎ In p qs → In p (insert x qs)
 insert_has p x [] has = ⊎_elim (λ (e : p ≡ x). inl e) (λ (t : ⊥). absurd t) has

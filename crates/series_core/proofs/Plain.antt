@@ -98,7 +98,7 @@ within-ascending c q r =
     near = filter (λ p. nat_le p.distance r) (pairs_of c q)
 
 -- what stands at a place of the first k stands there in the whole list
-get_take : (k : ℕ) (qs : List Pair) (n : ℕ) (p : Pair) → slice_get (take k qs) n ≡ Some p
+pub get_take : (k : ℕ) (qs : List Pair) (n : ℕ) (p : Pair) → slice_get (take k qs) n ≡ Some p
     → (n < k) × (slice_get qs n ≡ Some p)
 get_take zero qs n p e = absurd (none-some p e)
 get_take (suc k) [] n p e = absurd (none-some p e)

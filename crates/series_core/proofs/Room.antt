@@ -162,6 +162,12 @@ pub get_last : (qs : List Pair) (n : ℕ) (last : Pair) → n < length qs → la
     → slice_get qs n ≡ Some last
 get_last qs n last h e = slice_get-get_or qs n last h ∙ ap (λ (p : Pair). Some p) (sym e)
 
+-- what was read at the last place of a full list is the pair at place k - 1
+pub last_of : (k n : ℕ) (qs : List Pair) (last : Pair) → n - 1 ≡ k - 1 → length qs ≡ k → 0 < k
+    → last ≡ get_or qs (n - 1) last → (length qs ≡ k) × (slice_get qs (k - 1) ≡ Some last)
+last_of k n qs last end size some read =
+    (size, get_last qs (k - 1) last (omega (arith, size, some)) (read ∙ ap (λ m. get_or qs m last) end))
+
 -- a full list of k pairs takes a nearer pair, and the last goes out
 pub smallest_near : (k : ℕ) (p last : Pair) (qs : List Pair) → ascending qs ≡ qs → length qs ≡ k → 0 < k
     → slice_get qs (k - 1) ≡ Some last → is_before p last ≡ true
