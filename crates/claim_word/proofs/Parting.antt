@@ -3,7 +3,7 @@ use Rattle.std.proofs.Common.{◌≡◌, ◌≢◌, ℕ, ◌+◌, ◌<◌, List,
 use Rattle.std.proofs.lemmas.List.Elements.{All-append}
 use mathlib.Core.Option.{some}
 use lib.ListN.{get_elem?}
-use Rattle.atomic_table.specs.Table.{Splits, Joins}
+use Rattle.atomic_table.specs.Table.{State, Splits, Joins}
 use Rattle.atomic_table.proofs.Lists.{at_set, at_snoc}
 use Rattle.list_totals.specs.Totals.{total, times}
 use Rattle.list_totals.proofs.Totals.{total_set, total_push, times_append}
@@ -20,6 +20,24 @@ fits_push drawn views w each new j u there = ⊎_elim
     (λ (same : w ≡ u). subst (Fits drawn) same new)
     (at_snoc views w u j there)
 
+-- other records under the same counter keep the rule, where they have as many ends, passes and draws, and each fits
+same_counter : (terms : Terms) (s : State ℕ View) (h : Kept terms s) (views : List View)
+    → total (λ u. u.ends) views ≡ total (λ u. u.ends) s.views
+    → total (λ u. u.parts) views ≡ total (λ u. u.parts) s.views
+    → ((x : ℕ) → total (λ u. times x u.draws) views ≡ total (λ u. times x u.draws) s.views)
+    → EachFits h.drawn views
+    → Kept terms record { words = s.words; homes = s.homes; views = views }
+same_counter terms s h views ends parts draws each = record {
+  drawn = h.drawn;
+  word = h.word ∙ ap (λ (e : ℕ). (h.drawn + e) ∷ []) (sym ends);
+  bound = h.bound;
+  whole = λ some_ended. h.whole (omega (arith, ends));
+  parts = parts ∙ h.parts;
+  room = h.room;
+  once = λ x. draws x ∙ h.once x;
+  each = each;
+}
+
 -- a pass is split off a record that has drawn nothing
 pub parts_off : (terms : Terms) (id : ℕ) (v : View) → 0 < v.parts → v.draws ≡ [] → v.ends ≡ 0
     → Splits (Kept terms) id v (less v) (one v)
@@ -29,13 +47,7 @@ parts_off terms id v some_part none open_still s h at =
     let parts_set = total_set (λ (u : View). u.parts) s.views id v (less v) at in
     let ends_push = total_push (λ (u : View). u.ends) left_views (one v) in
     let parts_push = total_push (λ (u : View). u.parts) left_views (one v) in
-    let bound = h.bound in
-    let room = h.room in
-    let all = h.parts in
     let before = h.each id v at in
-    let same : total (λ (u : View). u.ends) (left_views ++ one v ∷ []) ≡ total
-    (λ (u : View). u.ends) s.views =
-    omega arith in
     let left : Fits h.drawn (less v) = record {
       ends = omega arith;
       idle = λ _. none;
@@ -48,21 +60,12 @@ parts_off terms id v some_part none open_still s h at =
       below = λ k d in_list. absurd (omega arith);
       met = omega arith;
     } in
-    record {
-      drawn = h.drawn;
-      word = h.word ∙ ap (λ (e : ℕ). (h.drawn + e) ∷ []) (sym same);
-      bound = bound;
-      whole = λ some_ended. h.whole (omega arith);
-      parts = omega arith;
-      room = room;
-      once = λ x.
-          let times_set = total_set (λ (u : View). times x u.draws) s.views id v (less v) at in
-          let times_push = total_push (λ (u : View). times x u.draws) left_views (one v) in
-          let was = h.once x in
-          omega arith;
-      each = fits_push h.drawn left_views (one v)
-          (fits_set h.drawn h.drawn s.views id (less v) (omega arith) h.each left) right;
-    }
+    same_counter terms s h (left_views ++ one v ∷ []) (omega arith) (omega arith)
+    (λ x. let times_set = total_set (λ (u : View). times x u.draws) s.views id v (less v) at in
+    let times_push = total_push (λ (u : View). times x u.draws) left_views (one v) in
+    omega arith)
+    (fits_push h.drawn left_views (one v)
+    (fits_set h.drawn h.drawn s.views id (less v) (omega arith) h.each left) right)
 
 -- where two fit, both as one fit
 fits_both : (drawn : ℕ) (v w : View) → Fits drawn v → Fits drawn w → Fits drawn (both v w)
@@ -100,30 +103,15 @@ joins terms id v other w s h at apart there =
     let ends_spent = total_set (λ (u : View). u.ends) now other w spent there in
     let parts_set = total_set (λ (u : View). u.parts) s.views id v (both v w) at in
     let parts_spent = total_set (λ (u : View). u.parts) now other w spent there in
-    let bound = h.bound in
-    let room = h.room in
-    let all = h.parts in
-    let same : total (λ (u : View). u.ends) (set now other spent) ≡ total (λ (u : View). u.ends)
-    s.views =
-    omega arith in
     let glued = fits_both h.drawn v w (h.each id v at) (h.each other w other_there) in
-    record {
-      drawn = h.drawn;
-      word = h.word ∙ ap (λ (e : ℕ). (h.drawn + e) ∷ []) (sym same);
-      bound = bound;
-      whole = λ some_ended. h.whole (omega arith);
-      parts = omega arith;
-      room = room;
-      once = λ x.
-          let times_set = total_set (λ (u : View). times x u.draws) s.views id v (both v w) at in
-          let times_spent = total_set (λ (u : View). times x u.draws) now other w spent there in
-          let glue = times_append x v.draws w.draws in
-          let was = h.once x in
-          omega arith;
-      each = fits_set h.drawn h.drawn now other spent (omega arith)
-          (fits_set h.drawn h.drawn s.views id (both v w) (omega arith) h.each glued)
-          (fits_spent h.drawn);
-    }
+    same_counter terms s h (set now other spent) (omega arith) (omega arith)
+    (λ x. let times_set = total_set (λ (u : View). times x u.draws) s.views id v (both v w) at in
+    let times_spent = total_set (λ (u : View). times x u.draws) now other w spent there in
+    let glue = times_append x v.draws w.draws in
+    omega arith)
+    (fits_set h.drawn h.drawn now other spent (omega arith)
+    (fits_set h.drawn h.drawn s.views id (both v w) (omega arith) h.each glued)
+    (fits_spent h.drawn))
   where
     other_there : get_elem? s.views other ≡ some w
     other_there = ⊎_elim
