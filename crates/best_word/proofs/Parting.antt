@@ -5,6 +5,7 @@ use mathlib.Core.Option.{some}
 use lib.ListN.{get_elem?}
 use Rattle.atomic_table.specs.Table.{State, Splits, Joins}
 use Rattle.atomic_table.proofs.Lists.{at_set, at_snoc}
+use Rattle.list_totals.specs.Totals.{total}
 use Rattle.list_totals.proofs.Totals.{total_set, total_push}
 use Rattle.best_word.specs.declared.rule.View.{View}
 use Rattle.best_word.specs.declared.rule.Terms.{Terms}
@@ -25,6 +26,29 @@ crosses_none es fs none = (
   λ k d in_list. none_of (Crosses (get_or fs k d)) es
       none,
 )
+
+-- other records under the same word keep the rule, where they are of as many passes, what was met stays met, and each
+-- of them is as it should be
+same_word : (terms : Terms) (s : State ℕ View) (h : Kept terms s) (views : List View)
+    → ((n : ℕ) → Met n s.views → Met n views)
+    → total (λ u. u.parts) views ≡ total (λ u. u.parts) s.views
+    → ((j : ℕ) (u : View) → get_elem? views j ≡ some u → Fits h.floor h.low u)
+    → ((j : ℕ) (u : View) → get_elem? views j ≡ some u → All (λ e. Source terms.start views (reply e)) u.trace)
+    → ((i j : ℕ) (u w : View) → i ≢ j → get_elem? views i ≡ some u → get_elem? views j ≡ some w
+    → CrossAll u.trace w.trace)
+    → Kept terms record { words = s.words; homes = s.homes; views = views }
+same_word terms s h views stays parts each replies crossed = record {
+  low = h.low;
+  word = h.word;
+  floor = h.floor;
+  bound = h.bound;
+  start = h.start;
+  source = source_stays terms.start h.low s.views views (stays h.low) h.source;
+  parts = parts ∙ h.parts;
+  each = each;
+  replies = replies;
+  crossed = crossed;
+}
 
 module _ (terms : Terms) (id : ℕ) (v : View) (some_part : 0 < v.parts) (none : v.trace ≡ [])
     (s : State ℕ View) (h : Kept terms s) (at : get_elem? s.views id ≡ some v) where
@@ -85,33 +109,23 @@ module _ (terms : Terms) (id : ℕ) (v : View) (some_part : 0 < v.parts) (none :
   split =
       let parts_set = total_set (λ (u : View). u.parts) s.views id v (less v) at in
       let parts_push = total_push (λ (u : View). u.parts) (set s.views id (less v)) (one v) in
-      let all = h.parts in
-      record {
-        low = h.low;
-        word = h.word;
-        floor = h.floor;
-        bound = h.bound;
-        start = h.start;
-        source = source_stays terms.start h.low s.views split_views (split_stays h.low) h.source;
-        parts = omega arith;
-        each = λ j u there. ⊎_elim
-            (λ (was : get_elem? s.views j ≡ some u). h.each j u was)
-            (λ (half : (less v ≡ u) ⊎ (one v ≡ u)). half_fits u half)
-            (halves j u there);
-        replies = λ j u there. ⊎_elim
-            (λ (was : get_elem? s.views j ≡ some u).
-            replies_stay terms.start s.views split_views u.trace split_stays (h.replies j u was))
-            (λ (idle : u.trace ≡ []). none_of (λ e. Source terms.start split_views (reply e))
-            u.trace idle)
-            (old_or_none j u there);
-        crossed = λ i j u w apart ti tj. ⊎_elim
-            (λ (a : get_elem? s.views i ≡ some u). ⊎_elim
-            (λ (b : get_elem? s.views j ≡ some w). h.crossed i j u w apart a b)
-            (λ (idle : w.trace ≡ []). (crosses_none w.trace u.trace idle).1)
-            (old_or_none j w tj))
-            (λ (idle : u.trace ≡ []). (crosses_none u.trace w.trace idle).0)
-            (old_or_none i u ti);
-      }
+      same_word terms s h split_views split_stays (omega arith)
+      (λ j u there. ⊎_elim
+      (λ (was : get_elem? s.views j ≡ some u). h.each j u was)
+      (λ (half : (less v ≡ u) ⊎ (one v ≡ u)). half_fits u half)
+      (halves j u there))
+      (λ j u there. ⊎_elim
+      (λ (was : get_elem? s.views j ≡ some u).
+      replies_stay terms.start s.views split_views u.trace split_stays (h.replies j u was))
+      (λ (idle : u.trace ≡ []). none_of (λ e. Source terms.start split_views (reply e)) u.trace idle)
+      (old_or_none j u there))
+      (λ i j u w apart ti tj. ⊎_elim
+      (λ (a : get_elem? s.views i ≡ some u). ⊎_elim
+      (λ (b : get_elem? s.views j ≡ some w). h.crossed i j u w apart a b)
+      (λ (idle : w.trace ≡ []). (crosses_none w.trace u.trace idle).1)
+      (old_or_none j w tj))
+      (λ (idle : u.trace ≡ []). (crosses_none u.trace w.trace idle).0)
+      (old_or_none i u ti))
 
 -- a pass is split off a record that has no trace
 pub parts_off : (terms : Terms) (id : ℕ) (v : View) → 0 < v.parts → v.trace ≡ []
@@ -227,20 +241,11 @@ module _ (terms : Terms) (id : ℕ) (v : View) (other : ℕ) (w : View) (part : 
       let now = set s.views id (both v w) in
       let parts_set = total_set (λ (u : View). u.parts) s.views id v (both v w) at in
       let parts_spent = total_set (λ (u : View). u.parts) now other w spent there in
-      let all = h.parts in
-      record {
-        low = h.low;
-        word = h.word;
-        floor = h.floor;
-        bound = h.bound;
-        start = h.start;
-        source = source_stays terms.start h.low s.views joined_views (join_stays h.low) h.source;
-        parts = omega arith;
-        each = λ j u t. fits_after j u (place s.views id other (both v w) j u t);
-        replies = λ j u t. replies_after j u (place s.views id other (both v w) j u t);
-        crossed = λ i j a b i_j ti tj. crossed_after i j a b i_j
-            (place s.views id other (both v w) i a ti) (place s.views id other (both v w) j b tj);
-      }
+      same_word terms s h joined_views join_stays (omega arith)
+      (λ j u t. fits_after j u (place s.views id other (both v w) j u t))
+      (λ j u t. replies_after j u (place s.views id other (both v w) j u t))
+      (λ i j a b i_j ti tj. crossed_after i j a b i_j
+      (place s.views id other (both v w) i a ti) (place s.views id other (both v w) j b tj))
 
 -- a record takes in that of a pass
 pub joins : (terms : Terms) (id : ℕ) (v : View) (other : ℕ) (w : View) → w.parts ≡ 1

@@ -180,32 +180,34 @@ pub record OnePass (terms : Terms) (v : View) : Type 0 where
   pub start : v.start ≡ terms.start
   pub part : v.parts ≡ 1
 
+-- the number lies between the floor of one pass, which is that of the rule, and its start
+between : (terms : Terms) (s : State ℕ View) (h : Kept terms s) (id : ℕ) (v : View) → get_elem? s.views id ≡ some v
+    → OnePass terms v → (v.floor ≡ h.floor) × (v.floor ≤ h.low) × (h.low ≤ v.start)
+between terms s h id v at one =
+    let same = (h.each id v at).floor (omega (arith, one.part)) in
+    (same, omega (arith, same, h.bound), omega (arith, h.start, one.start))
+
 -- a seat of one pass may load
 pub reads : (terms : Terms) (slots id : ℕ) (me : Me ℕ View) (st : Step ℕ) → me.1 ≡ []
     → OnePass terms me.0
     → Allows (Kept terms) slots id me 0 (λ n. n) (Reads st me)
 reads terms slots id me st none one s h homes at small =
     let v = me.0 in
-    let bound = h.bound in
-    let high = h.start in
-    let mine = h.each id v at in
-    let part = one.part in
-    let same = mine.floor (omega arith) in
-    let start = one.start in
+    let range = between terms s h id v at one in
     let owes : Owes terms s h h.low (Read h.low) = record {
       falls = omega arith;
-      bound = bound;
+      bound = h.bound;
       fits = omega arith;
       made = inl refl;
       answers = refl;
       crosses = read_crosses h.low h.low;
     } in
-    let kept = steps terms id h.low v (Read h.low) s h at part owes in
+    let kept = steps terms id h.low v (Read h.low) s h at one.part owes in
     let told : Reads st me h.low (seen v (Read h.low), me.1) = record {
       slots = none;
-      low = omega arith;
-      high = omega arith;
-      below = mine.below;
+      low = range.1;
+      high = range.2;
+      below = (h.each id v at).below;
       view = refl;
     } in
     subst (Gives terms id me (λ n. n) (Reads st me) s) (sym h.word)
@@ -218,26 +220,21 @@ pub offers : (terms : Terms) (slots id k : ℕ) (me : Me ℕ View) (st : Step �
     → Allows (Kept terms) slots id me 0 (λ n. min n k) (Offers st me)
 offers terms slots id k me st first none one up s h homes at small =
     let v = me.0 in
-    let bound = h.bound in
-    let high = h.start in
-    let mine = h.each id v at in
-    let part = one.part in
-    let same = mine.floor (omega arith) in
-    let start = one.start in
+    let range = between terms s h id v at one in
     let owes : Owes terms s h (min h.low k) (Offer k h.low) = record {
       falls = omega arith;
-      bound = omega arith;
+      bound = omega (arith, h.bound, up, range.0);
       fits = (omega arith, omega arith);
       made = offer_made k h.low;
       answers = refl;
       crosses = offer_crosses k h.low;
     } in
-    let kept = steps terms id (min h.low k) v (Offer k h.low) s h at part owes in
+    let kept = steps terms id (min h.low k) v (Offer k h.low) s h at one.part owes in
     let told : Offers st me h.low (seen v (Offer k h.low), me.1) = record {
       slots = none;
-      low = omega arith;
-      high = omega arith;
-      below = mine.below;
+      low = range.1;
+      high = range.2;
+      below = (h.each id v at).below;
       view = ap (λ (x : ℕ). seen v (Offer x h.low)) (sym first);
     } in
     subst (Gives terms id me (λ n. min n k) (Offers st me) s) (sym h.word)
