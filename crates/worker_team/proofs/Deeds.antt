@@ -1,6 +1,6 @@
 -- Each worker of a team that was dismissed did its work: one thing made for each pass (`each_did`), and what that says of
 -- all passes and of all that was made.
-use Rattle.std.proofs.Common.{◌≡◌, List, [], ◌∷◌, ◌++◌, Option, Some, None, IfSome, length, get_or, map, drop, refl, ap, ◌∙◌, sym, subst, arith, All}
+use Rattle.std.proofs.Common.{◌≡◌, List, [], ◌∷◌, ◌++◌, Option, Some, None, IfSome, get_or, map, drop, refl, ap, ◌∙◌, sym, subst, arith, All}
 use Rattle.std.specs.List.{flat_map}
 use Rattle.std.proofs.lemmas.List.Elements.{All-nil, All-cons, All-head, All-tail}
 use Rattle.claim_word.specs.Passes.{Pass}
@@ -32,23 +32,28 @@ module _ {M : Type 0} (Did : Pass → M → Type 0) where
             by_each team made (All-tail D w team done) (ap (λ (l : List (Option M)). drop 1 l) are),
           )
 
+  -- what holds of each pass that did something and of what it made holds of all passes and of all that was made
+  both_have : (P : Pass → Type 0) (Q : M → Type 0) → ((p : Pass) (m : M) → Did p m → P p × Q m)
+      → (passes : List Pass) (made : List M) → EachDid Did passes made → All P passes × All Q made
+  both_have P Q gives [] [] did = (All-nil P, All-nil Q)
+  both_have P Q gives [] (m ∷ made) did = absurd did
+  both_have P Q gives (p ∷ passes) [] did = absurd did
+  both_have P Q gives (p ∷ passes) (m ∷ made) did =
+      let first = gives p m did.0 in
+      let rest = both_have P Q gives passes made did.1 in
+      (All-cons P p passes first.0 rest.0, All-cons Q m made first.1 rest.1)
+
   -- what holds of each pass that did something holds of all passes
   pub passes_have : (P : Pass → Type 0) → ((p : Pass) (m : M) → Did p m → P p)
       → (passes : List Pass) (made : List M) → EachDid Did passes made → All P passes
-  passes_have P gives [] [] did = All-nil P
-  passes_have P gives [] (m ∷ made) did = absurd did
-  passes_have P gives (p ∷ passes) [] did = absurd did
-  passes_have P gives (p ∷ passes) (m ∷ made) did =
-      All-cons P p passes (gives p m did.0) (passes_have P gives passes made did.1)
+  passes_have P gives passes made did =
+      (both_have P (λ _. Unit {0}) (λ p m d. (gives p m d, tt)) passes made did).0
 
   -- what holds of each thing that a pass made holds of all that was made
   pub made_have : (P : M → Type 0) → ((p : Pass) (m : M) → Did p m → P m)
       → (passes : List Pass) (made : List M) → EachDid Did passes made → All P made
-  made_have P gives [] [] did = All-nil P
-  made_have P gives [] (m ∷ made) did = absurd did
-  made_have P gives (p ∷ passes) [] did = absurd did
-  made_have P gives (p ∷ passes) (m ∷ made) did =
-      All-cons P m made (gives p m did.0) (made_have P gives passes made did.1)
+  made_have P gives passes made did =
+      (both_have (λ _. Unit {0}) P (λ p m d. (tt, gives p m d)) passes made did).1
 
   -- pieces of what was made are the pieces of the passes, where those of each are
   pub same_pieces_made : {X : Type 0} (f : M → List X) (g : Pass → List X)

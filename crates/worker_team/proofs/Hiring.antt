@@ -2,7 +2,6 @@
 use Rattle.std.proofs.Common.{◌≡◌, All, refl, subst, length-append, ℕ, zero, suc, ◌+◌, ◌<◌, List, [], ◌∷◌, ◌++◌, length, get_or, map, take, sym, ap, ◌∙◌, zero-add, arith}
 use Rattle.std.specs.List.{range_with_len}
 use Rattle.std.proofs.lemmas.List.{map-append, take_more}
-use Rattle.std.proofs.lemmas.List.FromFn.{map-range_with_len_more}
 use Rattle.std.proofs.lemmas.List.Elements.{All-get_or}
 use Rattle.worker_team.specs.declared.worker.TeamWorker.{TeamWorker}
 

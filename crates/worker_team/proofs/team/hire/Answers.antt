@@ -1,8 +1,8 @@
 -- The next worker has the next pass, the next number and the turns at its place, and has made nothing.
-use Rattle.std.proofs.Common.{◌≡◌, ℕ, ◌+◌, ◌<◌, ◌≤◌, List, [], ◌∷◌, ◌++◌, All, None, length, get_or, map, take, vec_len, refl, sym, ap, ◌∙◌, subst, append_assoc, length-append, arith}
+use Rattle.std.proofs.Common.{◌≡◌, ◌+◌, ◌<◌, List, [], ◌∷◌, ◌++◌, All, None, length, get_or, map, take, vec_len, refl, sym, ap, ◌∙◌, subst, append_assoc, length-append, arith}
 use Rattle.std.specs.List.{range_with_len}
 use Rattle.std.specs.Vec.Iter.{into_iter_items}
-use Rattle.std.proofs.lemmas.List.Elements.{All-push, All-head}
+use Rattle.std.proofs.lemmas.List.Elements.{All-push}
 use Rattle.claim_word.specs.Passes.{Pass, fresh_pass}
 use Rattle.worker_team.specs.declared.worker.TeamWorker.{TeamWorker}
 use Rattle.worker_team.proofs.Hiring.{All-middle, numbers_more, turns_more}
