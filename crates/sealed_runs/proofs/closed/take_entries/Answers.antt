@@ -10,9 +10,9 @@ loop-place-preserved c =
     let es = c.args.entries.now in
     let refused = c.args.refused.now in
     let place = c.loop-place.place in
+    let low : place < length es = omega (arith, c.loop-place-test.true, c.requires.reach) in
     let was = c.loop-place.taken in
     let inv = c.loop-place.invariant in
-    let low : place < length es = omega (arith, c.loop-place-test.true, c.requires.reach) in
     elim c.if-not-stands_in.branch [
       | then-not-stands_in w ↦
           let items = ap (λ (v : Vec Entry Global). v.items) w.taken-is
