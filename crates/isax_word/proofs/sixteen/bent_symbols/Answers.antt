@@ -21,12 +21,12 @@ bent_reached-requires-clause-last c =
 
 pub loop-j-preserved : goal.loop-j-preserved
 loop-j-preserved c =
+    let r = c.loop-round.round in
+    let half = halves r c.loop-round-test.true in
     let lengths = c.args.lengths.now in
     let sums = c.args.sums.now in
     let found = c.loop-j.symbols in
-    let r = c.loop-round.round in
     let j = c.loop-j.j in
-    let half = halves r c.loop-round-test.true in
     let long = c.loop-j.invariant.long in
     let fits : FitsSigned w32 (get_or sums j (pos 0)) = search rules in
     let y = get_or found j 0 + 128 / 2 ^ r * c.bent_reached.result in

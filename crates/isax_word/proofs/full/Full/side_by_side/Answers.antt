@@ -1,15 +1,13 @@
 -- Each symbol is that of its segment's sum and length.
-use Rattle.std.proofs.Common.{◌≡◌, pos, ◌-◌, ◌<◌, [], ◌∷◌, ◌++◌, arith, ap, sym, ◌∙◌, subst, get_or, map, take}
-use Rattle.std.specs.List.{range_with_len}
-use Rattle.std.proofs.lemmas.List.FromFn.{map-range_with_len_more}
+use Rattle.std.proofs.Common.{◌≡◌, pos, ◌-◌, ◌<◌, arith, ap, sym, ◌∙◌, get_or}
 use Rattle.segment_sums.specs.Division.{segment_length}
 use Rattle.segment_sums.specs.Sum.{segment_sum}
 use Rattle.segment_sums.proofs.Sums.{segment_sums_at}
 use Rattle.breakpoints.specs.declared.table.Table.TheVariants.{Bent}
 use Rattle.isax_word.specs.Symbol.{symbol_of}
-use Rattle.isax_word.specs.FullWord.{IsFullWord, full_word, segment_symbol}
-use Rattle.isax_word.proofs.PaddedLists.{IsKept, padded_next}
-use Rattle.isax_word.proofs.Symbols.{IsFullWord-full_word, symbol-le}
+use Rattle.isax_word.specs.FullWord.{segment_symbol}
+use Rattle.isax_word.proofs.FullWords.{full_word_found, full_word_next}
+use Rattle.isax_word.proofs.Symbols.{symbol-le}
 use Rattle.isax_word.proofs.full.Full.side_by_side.Goals as goal
 
 pub overflow_cast-symbols-in-loop-j : goal.overflow_cast-symbols-in-loop-j
@@ -37,32 +35,12 @@ loop-j-preserved c =
     ∙ ap (λ n. symbol_of Bent n (get_or sums j (pos 0))) (c.lengths_of.ensures.each j used)
     ∙ ap (λ s. symbol_of Bent (segment_length cuts j) s) sum
     ∙ ap (λ t. symbol_of t (segment_length cuts j) (segment_sum cuts row j)) (sym c.requires.bent) in
-    let next = padded_next 0 c.loop-j.symbols j y inside c.loop-j.invariant.kept in
-    record {
-      kept = next.0;
-      are = next.1 ∙ ap (λ l. l ++ y ∷ []) c.loop-j.invariant.are
-          ∙ ap (λ s. map (segment_symbol layout row) (range_with_len 0 j) ++ s ∷ []) value
-          ∙ sym (map-range_with_len_more (segment_symbol layout row) 0 j j (omega arith));
-    }
+    let next = full_word_next layout row c.loop-j.symbols j y inside value c.loop-j.invariant.kept
+    c.loop-j.invariant.are in
+    record { kept = next.0; are = next.1 }
 
 pub invariant_of-result : goal.invariant_of-result
 invariant_of-result c =
-    let layout = c.args.layout.now in
-    let row = c.args.row.now in
-    let count = c.segments-count.result in
-    let end : c.loop-j.j ≡ count = omega (arith, c.loop-j-test.false, c.loop-j.auto.j-end) in
-    let kept : IsKept 0 c.loop-j.symbols count
-    = subst (IsKept 0 c.loop-j.symbols) end c.loop-j.invariant.kept in
-    let are : take count c.loop-j.symbols ≡ map (segment_symbol layout row) (range_with_len 0 count)
-    = subst (λ k. take k c.loop-j.symbols ≡ map (segment_symbol layout row) (range_with_len 0 k)) end
-    c.loop-j.invariant.are in
-    let whole : take count c.loop-j.symbols ≡ full_word layout row
-    = are
-    ∙ ap
-    (λ k. map (segment_symbol layout row) (range_with_len 0 k))
-    c.segments-count.ensures.value in (
-      subst IsFullWord (sym whole)
-          (IsFullWord-full_word layout row c.segments-count.ensures.divides),
-      kept.long,
-      kept.kept,
-    )
+    full_word_found c.args.layout.now c.args.row.now c.loop-j.symbols c.loop-j.j c.segments-count.result
+    c.segments-count.ensures.divides c.segments-count.ensures.value
+    (omega (arith, c.loop-j-test.false, c.loop-j.auto.j-end)) c.loop-j.invariant.kept c.loop-j.invariant.are
