@@ -1,6 +1,6 @@
 -- Lanes of halves: their squares do not wrap (`half_squares_are`, `half_squares_small`), and four times what they add up to is at
 -- most the distance (`half_squares_sum`).
-use Rattle.std.proofs.Common.{◌≡◌, ℕ, ◌+◌, ◌*◌, ◌/◌, ◌%◌, ◌<◌, ◌≤◌, refl, ap, ◌∙◌, arith, List, [], ◌∷◌, map, length, replicate}
+use Rattle.std.proofs.Common.{◌≡◌, ℕ, ◌*◌, ◌/◌, ◌%◌, ◌<◌, ◌≤◌, refl, ap, ◌∙◌, arith, List, [], ◌∷◌, map, length, replicate}
 use Rattle.std.specs.Prelude.{ℤ}
 use Rattle.std.proofs.lemmas.Simd.{zip2_splat, zip2-map}
 use Rattle.std.proofs.Math.Nat.{mul-le-mul, mul_assoc, mul_comm}

@@ -4,7 +4,7 @@ use Rattle.std.proofs.Common.{◌≡◌, ℕ, ◌+◌, ◌*◌, ◌%◌, ◌<◌
 use Rattle.std.specs.Prelude.{ℤ, bit_and}
 use Rattle.std.proofs.lemmas.Nat.{and_mask}
 use Rattle.std.proofs.lemmas.List.{drop_all}
-use Rattle.std.proofs.lemmas.Simd.{zip2_splat, zip2-map}
+use Rattle.std.proofs.lemmas.Simd.{sum_bound, zip2_splat, zip2-map}
 use Rattle.std.proofs.Math.ListN.{get_or-append}
 use Rattle.std.proofs.Math.Nat.{mul-le-mul}
 use lib.Lanes.{zip2, sum_l, Each1}
@@ -32,6 +32,12 @@ low_square_small n =
 pub low_squares_small : (ns : List ℕ) → Each1 (λ n. n ≤ 1073676289) (map square_of_low ns)
 low_squares_small [] = tt
 low_squares_small (n ∷ ns) = (low_square_small n, low_squares_small ns)
+
+-- the sum of sixteen squares of 15 bits
+pub sixteen_small : (ns : List ℕ) → length ns ≡ 16 → Each1 (λ n. n ≤ 1073676289) ns → sum_l ns ≤ 17178820624
+sixteen_small ns long small =
+    let bound = sum_bound 1073676289 ns small in
+    omega arith
 
 -- what a lane computes of the low 15 bits
 low_square_is : (n : ℕ) → (bit_and n 32767 * bit_and n 32767) % 4294967296 ≡ square_of_low n

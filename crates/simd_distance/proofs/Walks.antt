@@ -1,6 +1,6 @@
 -- The distance as it is walked from the front: one place at a time (`distance_from_place`), a part at a time
--- (`distance_from_part`, `distance_of_slice`), and to the end (`distance_of_rest`).
-use Rattle.std.proofs.Common.{◌≡◌, ℕ, ◌+◌, ◌-◌, ◌<◌, ◌≤◌, ℤ, pos, List, [], ◌∷◌, ◌++◌, length, drop, take, get_or, add-one, zero-add, drop-cons, sym, ap, ◌∙◌, arith}
+-- (`distance_from_part`, `distance_from_sixteen`, `distance_from_block`), and to the end (`distance_of_rest`).
+use Rattle.std.proofs.Common.{◌≡◌, ℕ, ◌+◌, ◌-◌, ◌*◌, ◌<◌, ◌≤◌, ℤ, pos, List, [], ◌∷◌, ◌++◌, length, drop, take, get_or, add-one, zero-add, drop-cons, sym, ap, ◌∙◌, arith}
 use Rattle.std.proofs.lemmas.List.{take_all, length-drop}
 use Rattle.std.proofs.lemmas.Simd.{chunk-drop, length-chunk}
 use Rattle.series_core.specs.Distance.{squared_difference, squared_distance}
@@ -48,6 +48,24 @@ pub distance_of_slice : (xs ys : List ℤ) (i n : ℕ)
 distance_of_slice xs ys i n =
     let is : i + n - i ≡ n = omega arith in
     ap (λ m. squared_distance (take m (drop i xs)) (take m (drop i ys))) is
+
+-- the distance of what is left at a run of sixteen is that of the run and that of what is left after it
+pub distance_from_sixteen : (xs ys : List ℤ) (i : ℕ) → 16 * (i + 1) ≤ length xs → 16 * (i + 1) ≤ length ys
+    → squared_distance (drop (16 * i) xs) (drop (16 * i) ys)
+    ≡ squared_distance (take 16 (drop (16 * i) xs)) (take 16 (drop (16 * i) ys))
+    + squared_distance (drop (16 * (i + 1)) xs) (drop (16 * (i + 1)) ys)
+distance_from_sixteen xs ys i in_xs in_ys =
+    distance_from_part xs ys (16 * i) 16 (16 * (i + 1)) (omega arith) in_xs in_ys
+
+-- the distance of what is left at a block of 64 is that of the block's slice and that of what is left after it
+pub distance_from_block : (xs ys : List ℤ) (i : ℕ) → (i + 1) * 64 ≤ length xs → (i + 1) * 64 ≤ length ys
+    → squared_distance (drop (i * 64) xs) (drop (i * 64) ys)
+    ≡ squared_distance (take (i * 64 + 64 - i * 64) (drop (i * 64) xs)) (take (i * 64 + 64 - i * 64) (drop (i * 64) ys))
+    + squared_distance (drop ((i + 1) * 64) xs) (drop ((i + 1) * 64) ys)
+distance_from_block xs ys i in_xs in_ys =
+    distance_from_part xs ys (i * 64) 64 ((i + 1) * 64) (omega arith) in_xs in_ys
+    ∙ ap (λ n. n + squared_distance (drop ((i + 1) * 64) xs) (drop ((i + 1) * 64) ys))
+    (sym (distance_of_slice xs ys (i * 64) 64))
 
 -- what a slice has from a place to its end is what is left there
 pub distance_of_rest : (xs ys : List ℤ) (i : ℕ)

@@ -1,39 +1,27 @@
 -- One block's step of the lower bound, which never is above the whole distance.
-use Rattle.std.proofs.Common.{◌+◌, ◌*◌, ◌≤◌, arith}
+use Rattle.std.proofs.Common.{arith}
 use Rattle.series_core.proofs.Limits.{distance_each}
-use Rattle.simd_distance.proofs.Walks.{distance_from_part, distance_of_slice}
+use Rattle.simd_distance.proofs.Walks.{distance_from_block}
 use Rattle.simd_distance.proofs.far.far_within.Goals as goal
 
 pub overflow_mul-low : goal.overflow_mul-low
 overflow_mul-low c =
-    let x = c.args.x.now in
-    let q = c.args.q.now in
-    let i = c.loop-block.block in
-    let step = distance_from_part x q (i * 64) 64 ((i + 1) * 64) (omega arith) (omega arith) (omega arith) in
-    let slice = distance_of_slice x q (i * 64) 64 in
-    let whole = distance_each x q c.requires.x_fits c.requires.q_fits in
-    record { fits = omega (arith, c.loop-block.invariant, c.low_quarter.ensures) }
-
-pub overflow_add-low : goal.overflow_add-low
-overflow_add-low c =
-    let x = c.args.x.now in
-    let q = c.args.q.now in
-    let i = c.loop-block.block in
-    let step = distance_from_part x q (i * 64) 64 ((i + 1) * 64) (omega arith) (omega arith) (omega arith) in
-    let slice = distance_of_slice x q (i * 64) 64 in
-    let whole = distance_each x q c.requires.x_fits c.requires.q_fits in
+    let step = distance_from_block c.args.x.now c.args.q.now c.loop-block.block (omega arith) (omega arith) in
+    let whole = distance_each c.args.x.now c.args.q.now c.requires.x_fits c.requires.q_fits in
     record { fits = omega (arith, c.loop-block.invariant, c.low_quarter.ensures) }
 
 pub returns-then-low-limit : goal.returns-then-low-limit
 returns-then-low-limit c =
-    let i = c.loop-block.block in
-    let step = distance_from_part c.args.x.now c.args.q.now (i * 64) 64 ((i + 1) * 64) (omega arith) (omega arith) (omega arith) in
-    let slice = distance_of_slice c.args.x.now c.args.q.now (i * 64) 64 in
+    let step = distance_from_block c.args.x.now c.args.q.now c.loop-block.block (omega arith) (omega arith) in
     omega (arith, c.loop-block.invariant, c.low_quarter.ensures)
 
 pub loop-block-preserved : goal.loop-block-preserved
 loop-block-preserved c =
-    let i = c.loop-block.block in
-    let step = distance_from_part c.args.x.now c.args.q.now (i * 64) 64 ((i + 1) * 64) (omega arith) (omega arith) (omega arith) in
-    let slice = distance_of_slice c.args.x.now c.args.q.now (i * 64) 64 in
+    let step = distance_from_block c.args.x.now c.args.q.now c.loop-block.block (omega arith) (omega arith) in
     omega (arith, c.loop-block.invariant, c.low_quarter.ensures)
+
+pub overflow_add-low : goal.overflow_add-low
+overflow_add-low c =
+    let step = distance_from_block c.args.x.now c.args.q.now c.loop-block.block (omega arith) (omega arith) in
+    let whole = distance_each c.args.x.now c.args.q.now c.requires.x_fits c.requires.q_fits in
+    record { fits = omega (arith, c.loop-block.invariant, c.low_quarter.ensures) }

@@ -1,44 +1,37 @@
 -- One step of the lanes' sum, and what the bits of all lanes say at the end.
-use Rattle.std.proofs.Common.{◌≡◌, ◌+◌, ◌*◌, ◌<◌, ◌≤◌, ℕ, List, drop, length, map, sym, ap, subst, ◌∙◌, arith}
+use Rattle.std.proofs.Common.{◌≡◌, ◌*◌, ◌<◌, ◌≤◌, ℕ, List, drop, length, map, sym, ap, subst, ◌∙◌, arith}
 use Rattle.std.specs.Prelude.{bit_or}
 use Rattle.std.proofs.lemmas.List.{drop_all}
-use Rattle.std.proofs.lemmas.Simd.{sum_bound}
 use Rattle.std.specs.Simd.Lanes.{Each1, chunk, fold_l, sum_l}
 use Rattle.series_core.specs.Distance.{squared_distance}
 use Rattle.simd_distance.specs.Lanes.{IsNear, square_of_low}
 use Rattle.simd_distance.proofs.NearLists.{Below, both_below, all_below}
-use Rattle.simd_distance.proofs.Squares.{low_squares_small, near_squares_sum}
-use Rattle.simd_distance.proofs.Walks.{distance_from_part}
+use Rattle.simd_distance.proofs.Squares.{low_squares_small, near_squares_sum, sixteen_small}
+use Rattle.simd_distance.proofs.Walks.{distance_from_sixteen}
 use Rattle.simd_distance.proofs.near.near_distance.Goals as goal
 
 pub sums_of_four-requires-clause-small : goal.sums_of_four-requires-clause-small
 sums_of_four-requires-clause-small c =
     subst (Each1 (λ n. n ≤ 1073676289)) (sym c.squares_of_low.ensures) (low_squares_small _)
 
--- the sum of sixteen squares of low bits
-sixteen_small : (ns : List ℕ) → length ns ≡ 16 → Each1 (λ n. n ≤ 1073676289) ns → sum_l ns ≤ 17178820624
-sixteen_small ns long small =
-    let bound = sum_bound 1073676289 ns small in
-    omega arith
+-- sixteen squares of low bits add up to less than 2^35
+sum_of_low : (squares numbers : List ℕ) → length squares ≡ 16 → squares ≡ map square_of_low numbers
+    → sum_l squares ≤ 17178820624
+sum_of_low squares numbers long is =
+    sixteen_small squares long (subst (Each1 (λ n. n ≤ 1073676289)) (sym is) (low_squares_small numbers))
 
 pub sums_added-sums-requires : goal.sums_added-sums-requires
 sums_added-sums-requires c =
-    let long : length c.squares_of_low.result ≡ 16 = omega arith in
-    let small = subst (Each1 (λ n. n ≤ 1073676289)) (sym c.squares_of_low.ensures)
-    (low_squares_small _) in
-    let added = sixteen_small c.squares_of_low.result long small in
+    let added = sum_of_low c.squares_of_low.result _ (omega arith) c.squares_of_low.ensures in
     omega (arith, c.loop-sixteen.invariant.small, c.sums_of_four.ensures)
 
 pub loop-sixteen-preserved : goal.loop-sixteen-preserved
 loop-sixteen-preserved c =
+    let added = sum_of_low c.squares_of_low.result _ (omega arith) c.squares_of_low.ensures in
     let x = c.args.x.now in
     let q = c.args.q.now in
     let i = c.loop-sixteen.sixteen in
     let numbers = c.sixteen_differences-numbers.result in
-    let long : length c.squares_of_low.result ≡ 16 = omega arith in
-    let small = subst (Each1 (λ n. n ≤ 1073676289)) (sym c.squares_of_low.ensures)
-    (low_squares_small _) in
-    let added = sixteen_small c.squares_of_low.result long small in
     record {
       whole = λ below.
           let both = both_below c.loop-sixteen.bits numbers (omega arith)
@@ -49,8 +42,7 @@ loop-sixteen-preserved c =
           ≡ squared_distance (chunk (16 * i) 16 x) (chunk (16 * i) 16 q)
           = ap sum_l (c.squares_of_low.ensures ∙ ap (map square_of_low) c.sixteen_differences-numbers.ensures)
           ∙ near_squares_sum (chunk (16 * i) 16 x) (chunk (16 * i) 16 q) near in
-          let step = distance_from_part x q (16 * i) 16 (16 * (i + 1)) (omega arith) (omega arith)
-          (omega arith) in
+          let step = distance_from_sixteen x q i (omega arith) (omega arith) in
           let before = c.loop-sixteen.invariant.whole both.0 in
           omega (arith, c.sums_of_four.ensures, c.sums_added-sums.ensures);
       small = omega (
