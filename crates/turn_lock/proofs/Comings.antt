@@ -1,10 +1,10 @@
 -- How seats of the lock's table come and go: the start, a number dealt, a note, a pass handed in.
-use Rattle.std.proofs.Common.{◌≡◌, ◌≢◌, ℕ, zero, suc, ◌==◌, ◌<◌, Bool, List, [], ◌∷◌, ◌++◌, length, get_or, set, refl, sym, ap, ◌∙◌, subst, arith, eq-eqb, ne_eqb}
+use Rattle.std.proofs.Common.{◌≡◌, ◌≢◌, ℕ, zero, suc, ◌==◌, ◌<◌, Bool, List, [], ◌∷◌, ◌++◌, length, set, refl, sym, ap, ◌∙◌, subst, arith, eq-eqb, ne_eqb}
 use Rattle.std.specs.Prelude.{All, cond}
 use Rattle.std.proofs.lemmas.List.Elements.{All-nil, All-cons}
 use mathlib.Core.Option.{some, some-injective, some-ne-none}
 use lib.ListN.{get_elem?}
-use Rattle.atomic_table.specs.Table.{State, opening, Splits, Joins}
+use Rattle.atomic_table.specs.Table.{opening, Splits, Joins}
 use Rattle.atomic_table.proofs.Lists.{set_again, set_else}
 use Rattle.turn_lock.specs.declared.object.Entry.{Entry}
 use Rattle.turn_lock.specs.declared.object.Held.{Held}
@@ -14,7 +14,7 @@ use Rattle.turn_lock.specs.declared.plays.Knowing.{Knowing}
 use Rattle.turn_lock.specs.declared.plays.View.{View}
 use Rattle.turn_lock.specs.Rule.{dealer, dealt, newcomer, note_of, told_of, closer, knowing, gathered, gathered_in, MayGather, handed_in, HasPass, Knows, Kept}
 use Rattle.turn_lock.proofs.Histories.{prefix_none}
-use Rattle.turn_lock.proofs.Frames.{each_set, each_push, has_moved, passes_moved, knows_moved}
+use Rattle.turn_lock.proofs.Frames.{LockState, known, shown, word, each_set, each_push, has_moved, passes_moved, knows_moved}
 
 -- a list of one element has it at place 0 alone
 at_only : {A : Type 0} (a b : A) (j : ℕ) → get_elem? (a ∷ []) j ≡ some b → (j ≡ 0) × (a ≡ b)
@@ -52,43 +52,13 @@ module _ {O C R : Type 0} (next : O → ℕ → C → O × R) (o : O) (callers :
   abbrev V : Type 0
   V = View O C R
 
-  -- the states of the table
-  abbrev St : Type 0
-  St = State (Held O C R) V
-
   -- the rule of the table
-  abbrev Rule : St → Type 0
+  abbrev Rule : LockState O C R → Type 0
   Rule = Kept next o callers
 
-  -- the word of the table
-  abbrev word : St → ℕ
-  word s = get_or s.words 0 0
-
   -- what each seat knows, with the numbers where f has them
-  abbrev Each : (s : St) → Rule s → (ℕ → ℕ) → ℕ → V → Type 0
+  abbrev Each : (s : LockState O C R) → Rule s → (ℕ → ℕ) → ℕ → V → Type 0
   Each s r f j v = Knows callers (word s) f r.log j o v v.role
-
-  -- the same words and slots keep the rule, where what each seat knows is shown anew
-  shown : (s : St) (r : Rule s) (f : ℕ → ℕ) (vs : List V)
-      → ((j : ℕ) (v : V) → get_elem? vs j ≡ some v → Each s r f j v)
-      → Rule record { words = s.words; homes = s.homes; views = vs }
-  shown s r f vs each = record {
-    log = r.log;
-    seat_of = f;
-    one_word = r.one_word;
-    one_slot = r.one_slot;
-    legal = r.legal;
-    callers_only = r.callers_only;
-    at_home = r.at_home;
-    holder = r.holder;
-    each_seat = each;
-  }
-
-  -- the seat that is known by its role
-  known : (s : St) (r : Rule s) (id : ℕ) (v : V) (role : Role) → get_elem? s.views id ≡ some v
-      → v.role ≡ role → Knows callers (word s) r.seat_of r.log id o v role
-  known s r id v role at is =
-      subst (Knows callers (word s) r.seat_of r.log id o v) is (r.each_seat id v at)
 
   -- the table at the start keeps the rule, with no call made
   pub starts : (words : List ℕ) (slots : List (Held O C R)) (h : Held O C R) → words ≡ 0 ∷ []
@@ -128,7 +98,7 @@ module _ {O C R : Type 0} (next : O → ℕ → C → O × R) (o : O) (callers :
         λ m le. let h = k.1 m (omega arith) in
             (stay m (λ (z : m ≡ n). omega arith) ∙ h.0, h.1, h.2, h.3),
       ) in
-      shown s r f (set s.views id d ++ newcomer (dealer o n) ∷ [])
+      shown next o callers s r f (set s.views id d ++ newcomer (dealer o n) ∷ [])
       (each_push (Each s r f) (set s.views id d) (newcomer (dealer o n)) new
       (each_set (Each s r f) s.views id d left (λ j v else e.
       knows_moved callers (word s) r.seat_of f r.log j j
@@ -138,11 +108,11 @@ module _ {O C R : Type 0} (next : O → ℕ → C → O × R) (o : O) (callers :
   -- a pass writes down what it has seen, and stays as it is
   pub tells : (id : ℕ) (v : V) → v.role ≡ Idle → Splits Rule id v v (note_of v)
   tells id v idle s r at =
-      let k = known s r id v Idle at idle in
+      let k = known next o callers s r id v Idle at idle in
       let has = k.2 in
       subst (λ (vs : List V). Rule record { words = s.words; homes = s.homes; views = vs })
       (ap (λ vs. vs ++ note_of v ∷ []) (sym (set_again s.views id v at)))
-      (shown s r r.seat_of (s.views ++ note_of v ∷ [])
+      (shown next o callers s r r.seat_of (s.views ++ note_of v ∷ [])
       (each_push (Each s r r.seat_of) s.views (note_of v) has.2 r.each_seat))
 
   -- a pass is told what the note says, and the note is spent
@@ -152,19 +122,19 @@ module _ {O C R : Type 0} (next : O → ℕ → C → O × R) (o : O) (callers :
       let both : V = told_of v w in
       let was : get_elem? s.views other ≡ some w
       = sym (set_else s.views id other both apart) ∙ there in
-      let told = known s r other w Note was note in
-      let k = known s r id v Idle at idle in
+      let told = known next o callers s r other w Note was note in
+      let k = known next o callers s r id v Idle at idle in
       let mine : Each s r r.seat_of id both
       = subst (Knows callers (word s) r.seat_of r.log id o both) (sym idle)
       (k.0, k.1, k.2, told) in
       let Spent : Knowing C R → Type 0 = HasPass callers (word s) r.seat_of r.log other in
-      shown s r r.seat_of (set (set s.views id both) other (closer []))
+      shown next o callers s r r.seat_of (set (set s.views id both) other (closer []))
       (each_set (Each s r r.seat_of) (set s.views id both) other (closer []) (All-nil Spent)
       (λ j d _ e. each_set (Each s r r.seat_of) s.views id both mine
       (λ j' d' _ e'. r.each_seat j' d' e') j d e))
 
   -- what a seat that may gather has gathered, it knows
-  gathers : (s : St) (r : Rule s) (id : ℕ) (v : V) (role : Role) → MayGather role
+  gathers : (s : LockState O C R) (r : Rule s) (id : ℕ) (v : V) (role : Role) → MayGather role
       → Knows callers (word s) r.seat_of r.log id o v role
       → All (HasPass callers (word s) r.seat_of r.log id) (gathered_in role v)
   gathers s r id v Dealer may k = absurd may
@@ -176,7 +146,7 @@ module _ {O C R : Type 0} (next : O → ℕ → C → O × R) (o : O) (callers :
   gathers s r id v Closer may k = k
 
   -- all that a seat which may gather has gathered holds under the rule
-  pub gathered_holds : (s : St) (r : Rule s) (id : ℕ) (v : V) → get_elem? s.views id ≡ some v
+  pub gathered_holds : (s : LockState O C R) (r : Rule s) (id : ℕ) (v : V) → get_elem? s.views id ≡ some v
       → MayGather v.role → All (HasPass callers (word s) r.seat_of r.log id) (gathered v)
   gathered_holds s r id v at may = gathers s r id v v.role may (r.each_seat id v at)
 
@@ -188,7 +158,7 @@ module _ {O C R : Type 0} (next : O → ℕ → C → O × R) (o : O) (callers :
       let f : ℕ → ℕ = merged other id r.seat_of in
       let was : get_elem? s.views other ≡ some w
       = sym (set_else s.views id other both apart) ∙ there in
-      let theirs = known s r other w Idle was idle in
+      let theirs = known next o callers s r other w Idle was idle in
       let kept : (m j : ℕ) → j ≢ other → r.seat_of m ≡ j → f m ≡ j
       = merged_else other id r.seat_of in
       let P : Knowing C R → Type 0 = HasPass callers (word s) f r.log id in
@@ -200,7 +170,7 @@ module _ {O C R : Type 0} (next : O → ℕ → C → O × R) (o : O) (callers :
       (passes_moved callers (word s) r.seat_of f r.log id id
       (λ m e. kept m id (λ z. apart (sym z)) e) (gathered v) (gathered_holds s r id v at may)) in
       let Spent : Knowing C R → Type 0 = HasPass callers (word s) f r.log other in
-      shown s r f (set (set s.views id both) other (closer []))
+      shown next o callers s r f (set (set s.views id both) other (closer []))
       (each_set (Each s r f) (set s.views id both) other (closer []) (All-nil Spent)
       (λ j d else e. each_set (λ j' d'. j' ≢ other → Each s r f j' d') s.views id both (λ _. all)
       (λ j' d' _ e' else'. knows_moved callers (word s) r.seat_of f r.log j' j'

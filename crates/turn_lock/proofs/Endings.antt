@@ -105,6 +105,13 @@ module _ {O C R : Type 0} (next : O → ℕ → C → O × R) where
           own = calls_by-own n c r d.log ∙ ap (λ xs. xs ++ e ∷ []) d.own;
         }
 
+  -- what is legal from the object with which the lock was opened, and is what was seen, is legal from any such object
+  legal_from : (m m' : M) (opening o : O) (log : List (Entry C R)) → m.0.opening ≡ Some opening → m.0.opening ≡ Some o
+      → m'.0.seen ≡ log → IsLegal next opening log → IsLegal next o m'.0.seen
+  legal_from m m' opening o log opens is seen legal =
+      let same : opening ≡ o = cc (is, opens) in
+      subst (λ (x : O × List (Entry C R)). IsLegal next x.0 x.1) (λ i. (same i, sym seen i)) legal
+
   module _ (m m' : M) (e : Entry C R) (d : Called next m m' e) where
     -- what was seen after the call ends with it
     pub called_ends : EndsWith m.0.seen e m'.0.seen
@@ -121,19 +128,13 @@ module _ {O C R : Type 0} (next : O → ℕ → C → O × R) where
     -- what was seen is legal from the lock's opening object
     pub called_legal : (o : O) → m.0.opening ≡ Some o → IsLegal next o m'.0.seen
     called_legal o opens =
-        let same : d.opening ≡ o = cc (opens, d.opens) in
-        let seen = ap (λ (x : M). x.0.seen) d.after in
-        subst (λ (x : O × List (Entry C R)). IsLegal next x.0 x.1) (λ i. (same i, sym seen i))
-        d.legal
+        legal_from m m' d.opening o _ d.opens opens (ap (λ (x : M). x.0.seen) d.after) d.legal
 
   module _ (m m' : M) (d : Learnt next m m') where
     -- all that was learnt is legal from the lock's opening object
     pub learnt_legal : (o : O) → m.0.opening ≡ Some o → IsLegal next o m'.0.seen
     learnt_legal o opens =
-        let same : d.opening ≡ o = cc (opens, d.opens) in
-        let seen = ap (λ (x : M). x.0.seen) d.after in
-        subst (λ (x : O × List (Entry C R)). IsLegal next x.0 x.1) (λ i. (same i, sym seen i))
-        d.legal
+        legal_from m m' d.opening o _ d.opens opens (ap (λ (x : M). x.0.seen) d.after) d.legal
 
     -- what begins what was learnt begins what the pass has seen
     pub learnt_seen : (xs : List (Entry C R)) → IsPrefix xs d.log → IsPrefix xs m'.0.seen

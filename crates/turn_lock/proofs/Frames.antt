@@ -1,18 +1,21 @@
--- What a seat knows stays so while others take steps.
-use Rattle.std.proofs.Common.{◌≡◌, ◌≢◌, ℕ, zero, suc, ◌⊎◌, List, [], ◌∷◌, ◌++◌, length, set, refl, sym, ap, ◌∙◌, subst, inl, inr, ⊎_elim}
+-- The states of a lock's table, and what a seat knows: it is known by its role (`known`), and it stays so while others take
+-- steps.
+use Rattle.std.proofs.Common.{◌≡◌, ◌≢◌, ℕ, zero, suc, ◌⊎◌, List, [], ◌∷◌, ◌++◌, get_or, length, set, refl, sym, ap, ◌∙◌, subst, inl, inr, ⊎_elim}
 use Rattle.std.specs.Prelude.{All}
 use Rattle.std.proofs.lemmas.List.Elements.{All-weaker}
 use mathlib.Core.Option.{some, some-injective, some-ne-none}
 use mathlib.Core.List.{IsPrefix}
 use lib.ListN.{get_elem?}
+use Rattle.atomic_table.specs.Table.{State}
 use Rattle.atomic_table.proofs.Lists.{at_set}
 use Rattle.turn_lock.specs.declared.object.Entry.{Entry}
+use Rattle.turn_lock.specs.declared.object.Held.{Held}
 use Rattle.turn_lock.specs.declared.plays.Role.{Role}
 use Rattle.turn_lock.specs.declared.plays.Role.TheVariants.{Dealer, Idle, Turn, Note, Closer}
 use Rattle.turn_lock.specs.declared.plays.Knowing.{Knowing}
 use Rattle.turn_lock.specs.declared.plays.View.{View}
 use Rattle.turn_lock.specs.History.{calls_by}
-use Rattle.turn_lock.specs.Rule.{HasNoTurn, HasPass, Knows}
+use Rattle.turn_lock.specs.Rule.{HasNoTurn, HasPass, Knows, Kept}
 
 -- one element more is at the end, and the others are where they were
 pub at_push : {A : Type 0} (l : List A) (a b : A) (j : ℕ) → get_elem? (l ++ a ∷ []) j ≡ some b
@@ -91,3 +94,35 @@ module _ {C R : Type 0} (callers w : ℕ) (f f' : ℕ → ℕ) (log : List (Entr
   knows_moved o v Turn k = let h = k.2 in (k.0, k.1, (moved v.number h.0, h.1, h.2, h.3))
   knows_moved o v Note k = k
   knows_moved o v Closer k = passes_moved v.handed k
+
+-- the states of a lock's table
+abbrev pub LockState : Type 0 → Type 0 → Type 0 → Type 0
+LockState O C R = State (Held O C R) (View O C R)
+
+-- the word of a table
+abbrev pub word : {H V : Type 0} → State H V → ℕ
+word s = get_or s.words 0 0
+
+-- the seat that is known by its role
+pub known : {O C R : Type 0} (next : O → ℕ → C → O × R) (o : O) (callers : ℕ) (s : LockState O C R)
+    (r : Kept next o callers s) (id : ℕ) (v : View O C R) (role : Role) → get_elem? s.views id ≡ some v
+    → v.role ≡ role → Knows callers (word s) r.seat_of r.log id o v role
+known next o callers s r id v role at is =
+    subst (Knows callers (word s) r.seat_of r.log id o v) is (r.each_seat id v at)
+
+-- the same words and slots keep the rule, where what each seat knows is shown anew, with the numbers where f has them
+pub shown : {O C R : Type 0} (next : O → ℕ → C → O × R) (o : O) (callers : ℕ) (s : LockState O C R)
+    (r : Kept next o callers s) (f : ℕ → ℕ) (vs : List (View O C R))
+    → ((j : ℕ) (v : View O C R) → get_elem? vs j ≡ some v → Knows callers (word s) f r.log j o v v.role)
+    → Kept next o callers record { words = s.words; homes = s.homes; views = vs }
+shown next o callers s r f vs each = record {
+  log = r.log;
+  seat_of = f;
+  one_word = r.one_word;
+  one_slot = r.one_slot;
+  legal = r.legal;
+  callers_only = r.callers_only;
+  at_home = r.at_home;
+  holder = r.holder;
+  each_seat = each;
+}

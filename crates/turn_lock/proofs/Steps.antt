@@ -8,59 +8,44 @@ use mathlib.Core.Logic.{dite}
 use native.Mathlib.Decide.{ℕ_discrete}
 use prog.Atomic.{either}
 use Rattle.std.proofs.lemmas.List.Elements.{All-push}
-use Rattle.atomic_table.specs.Table.{State, Me, step, keeps, takes, gives, stepped, Allows}
+use Rattle.atomic_table.specs.Table.{Me, step, keeps, takes, gives, stepped, Allows}
 use Rattle.atomic_table.proofs.Lists.{set_again, set_here}
 use Rattle.turn_lock.specs.declared.object.Entry.{Entry}
 use Rattle.turn_lock.specs.declared.object.Held.{Held}
 use Rattle.turn_lock.specs.declared.object.Last.{Last}
-use Rattle.turn_lock.specs.declared.plays.Role.{Role}
 use Rattle.turn_lock.specs.declared.plays.Role.TheVariants.{Idle, Turn}
 use Rattle.turn_lock.specs.declared.plays.View.{View}
 use Rattle.turn_lock.specs.History.{entry, state_after}
 use Rattle.turn_lock.specs.Rule.{caller_view, HasNoTurn, HasTurn, Knows, Kept, took, learnt, gave, released}
 use Rattle.turn_lock.proofs.Histories.{prefix_self, prefix_none, prefix_then, state_after-snoc, IsLegal-snoc, calls_by-own, calls_by-other}
-use Rattle.turn_lock.proofs.Frames.{each_set, knows_still}
+use Rattle.turn_lock.proofs.Frames.{LockState, known, shown, word, each_set, knows_still}
 
 module _ {O C R : Type 0} (next : O → ℕ → C → O × R) (o : O) (callers : ℕ) where
   -- the views of the table
   abbrev V : Type 0
   V = View O C R
 
-  -- the states of the table
-  abbrev St : Type 0
-  St = State (Held O C R) V
-
   -- a seat with its view and slots
   abbrev M : Type 0
   M = Me (Held O C R) V
 
   -- the rule of the table
-  abbrev Rule : St → Type 0
+  abbrev Rule : LockState O C R → Type 0
   Rule = Kept next o callers
 
-  -- the word of the table
-  abbrev word : St → ℕ
-  word s = get_or s.words 0 0
-
   -- what each seat knows under this word and history
-  abbrev Each : (s : St) → Rule s → ℕ → List (Entry C R) → ℕ → V → Type 0
+  abbrev Each : (s : LockState O C R) → Rule s → ℕ → List (Entry C R) → ℕ → V → Type 0
   Each s r w log j v = Knows callers w r.seat_of log j o v v.role
 
   -- a step that changes nothing keeps the rule
-  still : (s : St) → Rule s → (id : ℕ) (cs : List (ℕ × Held O C R)) (v : V)
+  still : (s : LockState O C R) → Rule s → (id : ℕ) (cs : List (ℕ × Held O C R)) (v : V)
       → get_elem? s.views id ≡ some v → Rule (stepped s 0 (word s) id cs v keeps)
   still s r id cs v at =
       subst (λ (x : List ℕ × List V). Rule record { words = x.0; homes = s.homes; views = x.1 })
       (λ i. (sym (set-get_or s.words 0 0) i, sym (set_again s.views id v at) i)) r
 
-  -- the seat that is known by its role
-  known : (s : St) (r : Rule s) (id : ℕ) (v : V) (role : Role) → get_elem? s.views id ≡ some v
-      → v.role ≡ role → Knows callers (word s) r.seat_of r.log id o v role
-  known s r id v role at is =
-      subst (Knows callers (word s) r.seat_of r.log id o v) is (r.each_seat id v at)
-
   -- the seat of the number n gets the turn, and the object that was at home
-  grants : (s : St) (r : Rule s) (id n : ℕ) (h : Held O C R) (cs : List (ℕ × Held O C R))
+  grants : (s : LockState O C R) (r : Rule s) (id n : ℕ) (h : Held O C R) (cs : List (ℕ × Held O C R))
       (mine : List (Entry C R)) → word s ≡ 0 → n < callers
       → HasNoTurn callers (word s) r.seat_of r.log id n r.log mine
       → Rule (stepped s 0 (suc n) id cs (caller_view Turn (Some o) n r.log mine) (takes 0 h))
@@ -100,7 +85,7 @@ module _ {O C R : Type 0} (next : O → ℕ → C → O × R) (o : O) (callers :
       (took next (step slots 0 0 new none) me)
   takes_turn slots id me new role is s r wide at small = dite (ℕ_discrete (word s) 0)
       (λ free.
-      let k = known s r id me.0 Idle at role in
+      let k = known next o callers s r id me.0 Idle at role in
       let has = k.2 in
       let home = r.at_home free in
       let n : ℕ = me.0.number in
@@ -139,12 +124,12 @@ module _ {O C R : Type 0} (next : O → ℕ → C → O × R) (o : O) (callers :
       ))
 
   -- the seat of the turn gives back the object, to which its call was applied
-  pub gives_back : (s : St) (r : Rule s) (id : ℕ) (v : V) (h : Held O C R) (l : Last C R)
+  pub gives_back : (s : LockState O C R) (r : Rule s) (id : ℕ) (v : V) (h : Held O C R) (l : Last C R)
       → get_elem? s.views id ≡ some v → v.role ≡ Turn
       → (h.object, l.reply.value) ≡ next (state_after next o r.log) v.number l.call.value
       → Rule (stepped s 0 0 id ((0, h) ∷ []) (gave o v l) gives)
   gives_back s r id v h l at role did =
-      let k = known s r id v Turn at role in
+      let k = known next o callers s r id v Turn at role in
       let has = k.2 in
       let one = r.one_word in
       let home = r.one_slot in
@@ -198,7 +183,7 @@ module _ {O C R : Type 0} (next : O → ℕ → C → O × R) (o : O) (callers :
       → Allows Rule slots id (v, (0, h) ∷ []) 0 (λ _. 0)
       (λ _. released next (step slots 0 0 0 none) (v, (0, h) ∷ []) 0)
   releases slots id v h l o' role named opens did s r wide at small =
-      let k = known s r id v Turn at role in
+      let k = known next o callers s r id v Turn at role in
       let has = k.2 in
       let same : o' ≡ o = cc (opens, k.0) in
       let did_there : (h.object, l.reply.value)
@@ -220,7 +205,7 @@ module _ {O C R : Type 0} (next : O → ℕ → C → O × R) (o : O) (callers :
   pub learns : (slots id : ℕ) (me : M) → me.0.role ≡ Idle
       → Allows Rule slots id me 0 (λ n. n) (learnt next (step slots 0 0 0 none) me)
   learns slots id me role s r wide at small =
-      let k = known s r id me.0 Idle at role in
+      let k = known next o callers s r id me.0 Idle at role in
       let has = k.2 in
       let n : ℕ = me.0.number in
       let v : V = caller_view Idle (Some o) n r.log me.0.mine in
@@ -229,17 +214,8 @@ module _ {O C R : Type 0} (next : O → ℕ → C → O × R) (o : O) (callers :
       let vs : List V = set s.views id v in
       let each : (j : ℕ) (d : V) → get_elem? vs j ≡ some d → Each s r (word s) r.log j d
       = each_set (Each s r (word s) r.log) s.views id v mine (λ j d _ e. r.each_seat j d e) in
-      let kept : Rule record { words = s.words; homes = s.homes; views = vs } = record {
-        log = r.log;
-        seat_of = r.seat_of;
-        one_word = r.one_word;
-        one_slot = r.one_slot;
-        legal = r.legal;
-        callers_only = r.callers_only;
-        at_home = r.at_home;
-        holder = r.holder;
-        each_seat = each;
-      } in (
+      let kept : Rule record { words = s.words; homes = s.homes; views = vs }
+      = shown next o callers s r r.seat_of vs each in (
         v,
         keeps,
         tt,

@@ -1,5 +1,5 @@
 -- A history in which two callers made one call each has the two calls, in one order or the other.
-use Rattle.std.proofs.Common.{◌≡◌, ◌≢◌, ℕ, ◌<◌, ◌⊎◌, Bool, List, [], ◌∷◌, ◌++◌, length, refl, sym, ap, ◌∙◌, inl, inr, arith, eq-eqb, ne_eqb, length-append}
+use Rattle.std.proofs.Common.{◌≡◌, ◌≢◌, ℕ, ◌<◌, ◌⊎◌, Bool, List, [], ◌∷◌, ◌++◌, length, get_or, refl, sym, ap, ◌∙◌, subst, inl, inr, arith, eq-eqb, ne_eqb, length-append}
 use Rattle.std.specs.Prelude.{All, cond}
 use Rattle.std.proofs.lemmas.List.Elements.{All-head, All-tail}
 use mathlib.Core.Logic.{dite}
@@ -106,3 +106,11 @@ two_back xs ys zs us vs one two one' two' p q l r s =
 pub both_numbered : (a b n : ℕ) → a ≡ 0 → b ≡ 1 → n < 2 → In n (a ∷ b ∷ [])
 both_numbered a b n e f l = dite (ℕ_discrete n 0) (λ z. inl (z ∙ sym e))
     (λ z. inr (inl (not_first n l z ∙ sym f)))
+
+-- what is so of the first and the second of a list of two is so of the one and the other
+pub of_two : {A : Type 0} (f : A → ℕ) (xs : List A) (one two : A) (a b : ℕ) → xs ≡ one ∷ two ∷ []
+    → f (get_or xs 0 one) ≡ a → f (get_or xs 1 two) ≡ b → (f one ≡ a) × (f two ≡ b)
+of_two f xs one two a b are first second = (
+  subst (λ l. f (get_or l 0 one) ≡ a) are first,
+  subst (λ l. f (get_or l 1 two) ≡ b) are second,
+)

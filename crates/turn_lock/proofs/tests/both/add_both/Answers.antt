@@ -5,7 +5,7 @@ use Rattle.list_totals.specs.Standing.{In}
 use Rattle.turn_lock.specs.declared.object.Entry.{Entry}
 use Rattle.turn_lock.specs.Passes.{AgreesWith}
 use Rattle.turn_lock.specs.History.{entry, calls_by, state_after}
-use Rattle.turn_lock.proofs.TwoCallers.{OfTwo, two_orders, two_back, both_numbered}
+use Rattle.turn_lock.proofs.TwoCallers.{OfTwo, of_two, two_orders, two_back, both_numbered}
 use Rattle.turn_lock.proofs.tests.both.add_both.Goals as goal
 
 -- the meaning of a call on notes
@@ -32,12 +32,10 @@ close-requires-clause-all g c =
     c.push_reserved.new.self.items c.push_reserved-2.new.self.items one two
     c.meet.new.from c.meet.new.into c.in-Some.ensures.items c.in-Some-pop.ensures.items long
     c.push_reserved.ensures.items c.push_reserved-2.ensures.items in
-    let first : one.number ≡ 0 = subst (λ xs. (slice_index_or xs 0 one).number ≡ 0) t.0
-    (begun.passes 0 one (omega arith)).1 in
-    let second : two.number ≡ 1 = subst (λ xs. (slice_index_or xs 1 two).number ≡ 1) t.0
+    let numbers = of_two (λ p. p.number) _ one two 0 1 t.0 (begun.passes 0 one (omega arith)).1
     (begun.passes 1 two (omega arith)).1 in
-    let from_first = c.meet.ensures.from.1.0 ∙ (c.join-one.ensures.first.1 ∙ first) in
-    let into_second = c.meet.ensures.into.1 ∙ (c.join-one.ensures.second.1 ∙ second) in
+    let from_first = c.meet.ensures.from.1.0 ∙ (c.join-one.ensures.first.1 ∙ numbers.0) in
+    let into_second = c.meet.ensures.into.1 ∙ (c.join-one.ensures.second.1 ∙ numbers.1) in
     λ n below. subst (λ vs. In n (map (λ p. p.number) vs)) (sym t.1)
     (both_numbered c.meet.new.from.number c.meet.new.into.number n from_first into_second
     (subst (λ (z : ℕ). n < z) begun.callers below))
@@ -54,12 +52,10 @@ returns g c =
     c.push_reserved.new.self.items c.push_reserved-2.new.self.items one two
     from into c.in-Some.ensures.items c.in-Some-pop.ensures.items long
     c.push_reserved.ensures.items c.push_reserved-2.ensures.items in
-    let first : one.number ≡ 0 = subst (λ xs. (slice_index_or xs 0 one).number ≡ 0) t.0
-    (begun.passes 0 one (omega arith)).1 in
-    let second : two.number ≡ 1 = subst (λ xs. (slice_index_or xs 1 two).number ≡ 1) t.0
+    let numbers = of_two (λ p. p.number) _ one two 0 1 t.0 (begun.passes 0 one (omega arith)).1
     (begun.passes 1 two (omega arith)).1 in
-    let from_first = c.meet.ensures.from.1.0 ∙ (c.join-one.ensures.first.1 ∙ first) in
-    let into_second = c.meet.ensures.into.1 ∙ (c.join-one.ensures.second.1 ∙ second) in
+    let from_first = c.meet.ensures.from.1.0 ∙ (c.join-one.ensures.first.1 ∙ numbers.0) in
+    let into_second = c.meet.ensures.into.1 ∙ (c.join-one.ensures.second.1 ∙ numbers.1) in
     let log = c.close.ensures.log in
     let agree = subst (All (AgreesWith log)) t.1 c.close.ensures.passes in
     let from_agrees = All-head (AgreesWith log) from (into ∷ []) agree in
@@ -68,7 +64,7 @@ returns g c =
     led_to log c.args.a c.args.b c.join-one.result.0.1 c.join-one.result.1.1 _ c.close.result
     (subst (λ (z : ℕ). All (λ e. e.caller < z) log) begun.callers c.close.ensures.callers_only)
     (ap (λ n. calls_by n log) (sym from_first) ∙ (from_agrees.1 ∙ (c.meet.ensures.from.1.1
-    ∙ (c.join-one.ensures.first.2 ∙ ap (λ n. entry n c.args.a c.join-one.result.0.1 ∷ []) first))))
+    ∙ (c.join-one.ensures.first.2 ∙ ap (λ n. entry n c.args.a c.join-one.result.0.1 ∷ []) numbers.0))))
     (ap (λ n. calls_by n log) (sym into_second) ∙ (into_agrees.1 ∙ (c.meet.ensures.made
-    ∙ (c.join-one.ensures.second.2 ∙ ap (λ n. entry n c.args.b c.join-one.result.1.1 ∷ []) second))))
+    ∙ (c.join-one.ensures.second.2 ∙ ap (λ n. entry n c.args.b c.join-one.result.1.1 ∷ []) numbers.1))))
     (begun.opening ∙ c.requires) c.close.ensures.leads
