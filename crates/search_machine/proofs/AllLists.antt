@@ -7,12 +7,13 @@ use Rattle.list_totals.specs.Standing.{In}
 use Rattle.series_core.specs.Order.{Ascending}
 use Rattle.series_core.specs.Pairs.{ascending}
 use Rattle.series_core.specs.declared.pair.Pair.{Pair}
+use Rattle.list_totals.proofs.Standing.{in_append}
 use Rattle.search_machine.specs.Ground.{Fits, Ground}
 use Rattle.search_machine.specs.Workers.{Worker}
 use Rattle.search_machine.specs.Outcome.{all_pairs}
 use Rattle.search_machine.specs.Sound.{ListSound, scans}
 use Rattle.search_machine.proofs.Places.{total_at}
-use Rattle.search_machine.proofs.Pools.{Apart, Pool, ascending_joined, has_either, has_joined}
+use Rattle.search_machine.proofs.Pools.{Apart, Pool, ascending_joined, has_either}
 
 -- what stands in all lists stands in that of some worker
 pub all_from : (ws : List Worker) (p : Pair) → In p (all_pairs ws)
@@ -21,7 +22,7 @@ all_from [] p h = absurd h
 all_from (w ∷ ws) p h = ⊎_elim
     (λ (t : In p w.list). (0, w, refl, t))
     (λ (t : In p (all_pairs ws)). let f = all_from ws p t in (suc f.0, f.1, f.2, f.3))
-    (has_joined p w.list (all_pairs ws) h)
+    (in_append p w.list (all_pairs ws) h)
 
 -- what stands in a worker's list stands in all lists
 pub all_has : (ws : List Worker) (i : ℕ) (w : Worker) (p : Pair) → slice_get ws i ≡ Some w

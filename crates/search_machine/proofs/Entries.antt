@@ -1,5 +1,5 @@
 -- Entries of a queue: what stands in a list after a put, in which order, and how often.
-use Rattle.std.proofs.Common.{List, [], arith, false, inl, inr, length, refl, subst, suc, sym, true, ℕ, ⊎_elim, ◌++◌, ◌+◌, ◌∷◌, ◌≡◌, ◌≤◌, ◌⊎◌}
+use Rattle.std.proofs.Common.{List, [], arith, false, length, refl, subst, suc, sym, true, ℕ, ⊎_elim, ◌++◌, ◌+◌, ◌∷◌, ◌≡◌, ◌≤◌, ◌⊎◌}
 use Rattle.std.proofs.lemmas.Bool.{cond_both}
 use Rattle.std.proofs.lemmas.Bool.Decides.{nat_tests}
 use Rattle.list_totals.specs.Totals.{one_if_same}
@@ -7,22 +7,12 @@ use Rattle.series_core.specs.declared.queue_words.Entry.{Entry}
 use Rattle.leaf_queues.specs.PlainQueue.{entry_before, place}
 use Rattle.list_totals.specs.Standing.{In}
 use Rattle.search_machine.specs.Basics.{Ordered, entered}
-use Rattle.list_totals.proofs.Standing.{in_front}
+use Rattle.list_totals.proofs.Standing.{in_front, in_put}
 
 -- what stands in the list after an entry was placed is that entry or stood there
 pub in_placed : (x e : Entry) (es : List Entry) → In x (place e es) → (x ≡ e) ⊎ In x es
 in_placed x e [] = λ h. h
-in_placed x e (d ∷ ds) =
-    cond_both (entry_before d e) (d ∷ place e ds) (e ∷ d ∷ ds)
-    (λ rs. In x rs → (x ≡ e) ⊎ In x (d ∷ ds))
-    (λ _ h. ⊎_elim
-    (λ (same : x ≡ d). inr (inl same))
-    (λ (t : In x (place e ds)). ⊎_elim
-    (λ (same : x ≡ e). inl same)
-    (λ (u : In x ds). inr (inr u))
-    (in_placed x e ds t))
-    h)
-    (λ _ h. h)
+in_placed x e (d ∷ ds) = in_put (entry_before d e) x e d ds (place e ds) (in_placed x e ds)
 
 -- a leaf stands once more where its entry was placed
 pub entered_place : (l : ℕ) (e : Entry) (es : List Entry)

@@ -20,25 +20,17 @@ module _ (g : Ground) (s : State) (sound : Sound g s) where
   -- a leaf that a worker holds is not scanned
   pub held_fresh : (i : ℕ) (w : Worker) (l : ℕ) → slice_get s.workers i ≡ Some w → 0 < held l w
       → total (scans l) s.workers ≡ 0
-  held_fresh i w l at h =
-      let a = sound.once l in
-      let b = total_at (held l) s.workers i w at in
-      omega arith
+  held_fresh i w l at h = omega (arith, sound.once l, total_at (held l) s.workers i w at)
 
   -- it is a leaf
   pub held_real : (i : ℕ) (w : Worker) (l : ℕ) → slice_get s.workers i ≡ Some w → 0 < held l w
       → l < g.leaves
-  held_real i w l at h =
-      let b = total_at (held l) s.workers i w at in
-      sound.real l (omega arith)
+  held_real i w l at h = sound.real l (omega (arith, total_at (held l) s.workers i w at))
 
   -- a leaf that waits is not scanned
   pub waits_fresh : (m : ℕ) (q : PlainQueue) (l : ℕ) → slice_get s.queues m ≡ Some q → 0 < waits l q
       → total (scans l) s.workers ≡ 0
-  waits_fresh m q l at h =
-      let a = sound.once l in
-      let b = total_at (waits l) s.queues m q at in
-      omega arith
+  waits_fresh m q l at h = omega (arith, sound.once l, total_at (waits l) s.queues m q at)
 
 -- where the worker goes on, what holds by the phase holds
 pub onward_phase : (g : Ground) (c : ℕ) (qs : List PlainQueue) (i : ℕ) (ls : List ℕ)

@@ -1,12 +1,12 @@
 -- What a turn owes, so that a worker that stands for its record stands for the longer one.
-use Rattle.std.proofs.Common.{List, Some, ap, arith, inl, inr, length, subst, ℕ, ⊎_elim, ◌+◌, ◌<◌, ◌≡◌, ◌≢◌, ◌≤◌, ◌⊎◌}
+use Rattle.std.proofs.Common.{List, Some, ap, arith, inl, inr, length, refl, subst, ℕ, ⊎_elim, ◌+◌, ◌<◌, ◌≡◌, ◌≢◌, ◌≤◌, ◌⊎◌}
 use Rattle.list_totals.specs.Totals.{times, total}
 use Rattle.search_machine.specs.declared.phase.Phase.{Phase}
 use Rattle.search_machine.specs.declared.phase.Phase.TheVariants.{Aim, Claim, Done, Give, Late, Look, Offer, Pop}
 use Rattle.search_machine.specs.Ground.{Ground}
 use Rattle.search_machine.specs.Workers.{Worker, in_phase}
 use Rattle.list_totals.specs.Standing.{In}
-use Rattle.search_machine.specs.OwnRecord.{Below, Different, Far, Floored, OwnRecord, PopMade, PutMade, PutRight, WasPut, WasRefused, WasTaken, put_of, with_read}
+use Rattle.search_machine.specs.OwnRecord.{Below, Different, Far, Floored, OfferMade, OwnRecord, PopMade, PutMade, PutRight, WasPut, WasRefused, WasTaken, put_of, with_read}
 use Rattle.search_machine.specs.Sound.{ListUnder, held, in_hand}
 use Rattle.search_machine.specs.Stands.{OwnPhase, Stands, in_give, in_late, stands_in}
 use Rattle.search_machine.proofs.RecordsGrow.{Grows, below_still, far_still, put_still, refused_still, grows_read, right_still, taken_still, under_still}
@@ -160,6 +160,25 @@ pub record Quiet (g : Ground) (i : ℕ) (w : Worker) (ph : Phase) (r t : OwnReco
   pub taken : (l : ℕ) → l < g.leaves → WasTaken t l → WasTaken r l ⊎ (0 < times l w.scanned)
   pub different : Different t → Different r
   pub phase : OwnPhase g t i w.rest w.list ph
+
+-- a turn without a hand that only reads or offers is such a turn
+pub only_told : (g : Ground) (i : ℕ) (w : Worker) (ph : Phase) (r : OwnRecord) (reads : List ℕ) (offers : List OfferMade)
+    → Grows r (record r { reads = reads; offers = offers })
+    → ((l : ℕ) → in_hand l w.phase ≡ 0) → ((l : ℕ) → in_hand l ph ≡ 0)
+    → OwnPhase g (record r { reads = reads; offers = offers }) i w.rest w.list ph
+    → Quiet g i w ph r (record r { reads = reads; offers = offers })
+only_told g i w ph r reads offers more no_hand no_hand_then phase = record {
+  more = more;
+  no_hand = no_hand;
+  no_hand_then = no_hand_then;
+  same_puts = refl;
+  news = λ l h. h;
+  pops = λ p h. inl h;
+  claims = λ c h. inl h;
+  taken = λ l low h. inl h;
+  different = λ d. d;
+  phase = phase;
+}
 
 -- such a turn takes a worker that stands for r to one that stands for t
 pub quiet : (g : Ground) (i : ℕ) (w : Worker) (phase : Phase) (r t : OwnRecord) → Stands g i w r

@@ -17,29 +17,19 @@ use Rattle.search_machine.specs.Stands.{OwnOnward, OwnPhase, Stands, in_late, st
 use Rattle.search_machine.proofs.Counts.{counts_or_not, same_counts}
 use Rattle.search_machine.proofs.HandsAndScans.{onward_hand}
 use Rattle.search_machine.proofs.Opening.{remove, remove_other, remove_same}
-use Rattle.search_machine.proofs.Owed.{owned, quiet}
+use Rattle.search_machine.proofs.Owed.{only_told, owned, quiet}
 use Rattle.search_machine.proofs.Places.{total_at, total_two}
 use Rattle.search_machine.proofs.RecordsGrow.{grows_claim, grows_offer, grows_read, own_drains_still, own_onward_still, phase_of, under_still}
 
 -- a read in Aim
 pub own_aim : (g : Ground) (i : ℕ) (w : Worker) (r : OwnRecord) (j v : ℕ) → Stands g i w r
     → w.phase ≡ Aim j → Stands g i (in_phase (Pop j v) w) (with_read v r)
-own_aim g i w r j v s e = quiet g i w (Pop j v) r (with_read v r) s (record {
-  more = grows_read v r;
-  no_hand = λ l. ap (in_hand l) e;
-  no_hand_then = λ l. refl;
-  same_puts = refl;
-  news = λ l h. h;
-  pops = λ p h. inl h;
-  claims = λ c h. inl h;
-  taken = λ l low h. inl h;
-  different = λ d. d;
-  phase = (
-    own_drains_still g r (with_read v r) (grows_read v r) i j w.rest
-        (phase_of g i w r (Aim j) s e),
-    inl refl,
-  );
-})
+own_aim g i w r j v s e = quiet g i w (Pop j v) r (with_read v r) s
+    (only_told g i w (Pop j v) r (v ∷ r.reads) r.offers (grows_read v r) (λ l. ap (in_hand l) e) (λ l. refl) (
+      own_drains_still g r (with_read v r) (grows_read v r) i j w.rest
+          (phase_of g i w r (Aim j) s e),
+      inl refl,
+    ))
 
 -- going on after an offer or a scan
 pub own_onward : (g : Ground) (t : OwnRecord) (i : ℕ) (ls : List ℕ) (ps : List Pair) (next : Onward)
@@ -51,20 +41,12 @@ own_onward g t i ls ps (ToAim j) h = h
 pub own_offer : (g : Ground) (i : ℕ) (w : Worker) (r : OwnRecord) (next : Onward)
     (o : OfferMade) → Stands g i w r → w.phase ≡ Offer next
     → Stands g i (in_phase (onward next) w) (with_offer o r)
-own_offer g i w r next o s e = quiet g i w (onward next) r (with_offer o r) s (record {
-  more = grows_offer o r;
-  no_hand = λ l. ap (in_hand l) e;
-  no_hand_then = λ l. onward_hand l next;
-  same_puts = refl;
-  news = λ l h. h;
-  pops = λ p h. inl h;
-  claims = λ c h. inl h;
-  taken = λ l low h. inl h;
-  different = λ d. d;
-  phase = own_onward g (with_offer o r) i w.rest w.list next
-      (own_onward_still g r (with_offer o r) (grows_offer o r) i
-      w.rest next (on (phase_of g i w r (Offer next) s e)));
-})
+own_offer g i w r next o s e = quiet g i w (onward next) r (with_offer o r) s
+    (only_told g i w (onward next) r r.reads (o ∷ r.offers) (grows_offer o r) (λ l. ap (in_hand l) e)
+    (λ l. onward_hand l next)
+    (own_onward g (with_offer o r) i w.rest w.list next
+    (own_onward_still g r (with_offer o r) (grows_offer o r) i
+    w.rest next (on (phase_of g i w r (Offer next) s e)))))
   where
     on : OwnPhase g r i w.rest w.list (Offer next) → OwnOnward g r i w.rest next
     on h = h.1

@@ -6,6 +6,7 @@ use Rattle.series_core.proofs.Order.{not_after}
 use Rattle.series_core.proofs.Parts.{ascending_insert, ascending_take, has_take, kept, not_above, same_take}
 use Rattle.series_core.proofs.Plain.{ascending_has, has_ascending}
 use Rattle.list_totals.specs.Standing.{In}
+use Rattle.list_totals.proofs.Standing.{in_append, in_behind, in_front}
 use Rattle.series_core.specs.Order.{Above, Among, Ascending}
 use Rattle.series_core.specs.Pairs.{ascending, insert, is_before, smallest}
 use Rattle.series_core.specs.declared.pair.Pair.{Pair}
@@ -14,25 +15,7 @@ use Rattle.search_machine.proofs.PlainList.{Known, ascending_plain}
 
 -- what stands in one of two lists stands in both together
 pub has_either : (p : Pair) (ps qs : List Pair) → In p ps ⊎ In p qs → In p (ps ++ qs)
-has_either p [] qs h = ⊎_elim (λ (t : ⊥). absurd t) (λ (t : In p qs). t) h
-has_either p (r ∷ rs) qs h = ⊎_elim
-    (λ (t : In p (r ∷ rs)). ⊎_elim
-    (λ (e : p ≡ r). inl e)
-    (λ (u : In p rs). inr (has_either p rs qs (inl u)))
-    t)
-    (λ (t : In p qs). inr (has_either p rs qs (inr t)))
-    h
-
--- what stands in two lists together stands in one of them
-pub has_joined : (p : Pair) (ps qs : List Pair) → In p (ps ++ qs) → In p ps ⊎ In p qs
-has_joined p [] qs h = inr h
-has_joined p (r ∷ rs) qs h = ⊎_elim
-    (λ (e : p ≡ r). inl (inl e))
-    (λ (t : In p (rs ++ qs)). ⊎_elim
-    (λ (u : In p rs). inl (inr u))
-    (λ (u : In p qs). inr u)
-    (has_joined p rs qs t))
-    h
+has_either p ps qs h = ⊎_elim (in_front p ps qs) (in_behind p ps qs) h
 
 -- a pair that is below all of a list goes to its front
 insert_above : (p : Pair) (ps : List Pair) → Above p ps → insert p ps ≡ p ∷ ps
@@ -61,7 +44,7 @@ ascending_joined (p ∷ ps) qs up rest apart =
     new h = ⊎_elim
         (λ (t : In p ps). not_above p ps up.0 t)
         (λ (t : In p qs). apart p (inl refl) t)
-        (has_joined p ps qs (has_ascending p (ps ++ qs) h))
+        (in_append p ps qs (has_ascending p (ps ++ qs) h))
 
 -- a pool: different pairs of the plain list, in any order
 pub record Pool (g : Ground) (ps : List Pair) : Type 0 where

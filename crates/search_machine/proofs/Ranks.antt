@@ -1,9 +1,8 @@
 -- The place of a pair in the answer is the number of smaller pairs, and the answer has all that it
 -- may have.
 use Rattle.std.proofs.Common.{List, Some, [], ap, arith, length, min, refl, suc, sym, take, zero, ℕ, ◌+◌, ◌-◌, ◌<◌, ◌∙◌, ◌∷◌, ◌≡◌}
-use Rattle.std.proofs.lemmas.Option.{none-some}
 use Rattle.std.specs.Prelude.{slice_get, ℤ}
-use Rattle.series_core.proofs.Plain.{answer-smallest, length-ascending}
+use Rattle.series_core.proofs.Plain.{answer-smallest, get_take, length-ascending}
 use Rattle.list_totals.proofs.Standing.{in_place as get_has}
 use Rattle.series_core.proofs.Ranks.{place_rank}
 use Rattle.series_core.proofs.Tallies.{count_by-tally, tally-ascending}
@@ -16,14 +15,6 @@ use Rattle.series_core.specs.declared.pair.Pair.{Pair}
 use Rattle.search_machine.specs.Ground.{Ground, HasRank, answer, last, pair_of, pairs, pairs_from, plain}
 use Rattle.search_machine.specs.Measures.{Measures}
 use Rattle.search_machine.proofs.PlainList.{ascending_plain, plain_has}
-
--- what stands at a place of the first k stands there in the whole list
-get_take : (k : ℕ) (qs : List Pair) (n : ℕ) (p : Pair) → slice_get (take k qs) n ≡ Some p
-    → (n < k) × (slice_get qs n ≡ Some p)
-get_take zero qs n p e = absurd (none-some p e)
-get_take (suc k) [] n p e = absurd (none-some p e)
-get_take (suc k) (q ∷ qs) zero p e = (omega arith, e)
-get_take (suc k) (q ∷ qs) (suc n) p e = let rest = get_take k qs n p e in (omega arith, rest.1)
 
 -- the pair at a place of the answer has that place as its rank
 pub answer_rank : (g : Ground) (n : ℕ) (p : Pair) → slice_get (answer g) n ≡ Some p → HasRank g n p

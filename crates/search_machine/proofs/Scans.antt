@@ -10,12 +10,13 @@ use Rattle.series_core.specs.Order.{Ascending}
 use Rattle.series_core.specs.Pairs.{ascending, smallest}
 use Rattle.series_core.specs.declared.distance.TheConstants.{NONE}
 use Rattle.series_core.specs.declared.pair.Pair.{Pair}
+use Rattle.list_totals.proofs.Standing.{in_append}
 use Rattle.search_machine.specs.Ground.{Fits, Ground, answer, last, near, opening, opening_of, pair_of, pairs_of, plain, scan, start_limit}
 use Rattle.search_machine.specs.Workers.{start_list}
 use Rattle.search_machine.specs.Sound.{ListUnder}
 use Rattle.search_machine.proofs.Counts.{equal_counts, same_counts, times_cons}
 use Rattle.search_machine.proofs.PlainList.{Known, answer_near, has_plain, last_none, last_worst, plain_has}
-use Rattle.search_machine.proofs.Pools.{Best, Pool, ascending_still, best_of, has_either, has_joined}
+use Rattle.search_machine.proofs.Pools.{Best, Pool, ascending_still, best_of, has_either}
 
 -- the pairs that a scan takes are those of members that are near
 pub near_has : (g : Ground) (v : ℕ) (ss : List ℕ) (p : Pair) → In p (near g v ss)
@@ -86,7 +87,7 @@ new_near g v s ss ps fresh h =
     omega arith)
     (λ (t : In (pair_of g s) ps).
     let none : times s (s ∷ ss) ≡ 0 = fresh.new (pair_of g s) t in omega arith)
-    (has_joined (pair_of g s) (near g v ss) ps
+    (in_append (pair_of g s) (near g v ss) ps
     (has_ascending (pair_of g s) (near g v ss ++ ps) h))
 
 -- fewer members are as fresh
@@ -121,7 +122,7 @@ scan_pool g v ss ps fresh k = record {
       subst (λ (q : Pair). In q (plain g)) (sym r.1)
       (has_plain g p.number (fresh.real p.number r.0)))
       (λ (t : In p ps). k.known p t)
-      (has_joined p (near g v ss) ps h);
+      (in_append p (near g v ss) ps h);
 }
 
 -- a scan of a leaf that was not scanned keeps what holds of a list
@@ -136,7 +137,7 @@ list_scanned g fits P l v scanned ps real unscanned enough sound = record {
       let one = same_counts l in (l, omega arith, (near_has g v (g.members l) p t).0))
       (λ (t : In p ps).
       let f = sound.from p t in let some = f.1 in (f.0, omega arith, f.2))
-      (has_joined p (near g v (g.members l)) ps (best.from p h));
+      (in_append p (near g v (g.members l)) ps (best.from p h));
   full = λ t p m a there member.
       best.full p a (has_either p (near g v (g.members l)) ps (⊎_elim
       (λ (e : m ≡ l). inl
