@@ -10,7 +10,7 @@ enum { ROUNDS = 3, MOST = 64 };
 #else
 #define BLOCK 32
 #endif
-#include "../scans.h"
+#include "../nearest.h"
 
 static size_t rows, count, rank;
 
@@ -26,32 +26,11 @@ static int16_t *values_of(const char *name, size_t *series) {
     return values;
 }
 
-// The sum of the distances and numbers of the nearest, of two as near the one with the smaller number.
-static uint64_t sum_nearest(scan *within, const int16_t *values, const int16_t *q) {
-    uint64_t distance[MOST], number[MOST];
-    size_t held = 0;
-    for (size_t i = 0; i < rows; i++) {
-        uint64_t d;
-        uint64_t limit = held < rank ? UINT64_MAX : distance[rank - 1];
-        if (!within(values + i * POINTS, q, limit, &d) || (held == rank && d == limit)) continue;
-        size_t at = held < rank ? held++ : rank - 1;
-        for (; at > 0 && distance[at - 1] > d; at--) {
-            distance[at] = distance[at - 1];
-            number[at] = number[at - 1];
-        }
-        distance[at] = d;
-        number[at] = i;
-    }
-    uint64_t sum = 0;
-    for (size_t r = 0; r < held; r++) sum += distance[r] + number[r];
-    return sum;
-}
-
 static void time_scan(const char *name, const char *how, scan *within, const int16_t *values, const int16_t *queries) {
     for (int round = 0; round < ROUNDS; round++) {
         uint64_t check = 0;
         double begin = now();
-        for (size_t j = 0; j < count; j++) check += sum_nearest(within, values, queries + j * POINTS);
+        for (size_t j = 0; j < count; j++) check += sum_nearest(within, values, rows, rank, queries + j * POINTS);
         printf("%s, C %s: %.0f (%llu)\n", name, how, now() - begin, (unsigned long long)check);
     }
 }
