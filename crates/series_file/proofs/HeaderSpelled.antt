@@ -107,8 +107,7 @@ field_again place n bytes each size within =
 
 -- a header of version 1 is spelled by its fields
 pub header_one_again : (bytes : List ℕ) (rows : Collection) → AreBytes bytes → length bytes ≡ 16
-    → Passes bytes
-    → is_first bytes ≡ true → rows.points ≡ length_of bytes → length rows.series ≡ count_of bytes
+    → Passes bytes → is_first bytes ≡ true → rows.points ≡ length_of bytes → length rows.series ≡ count_of bytes
     → header_one rows ≡ bytes
 header_one_again bytes rows each size passed first points count =
     ap (λ m. m ++ (little_bytes 2 1 ++
@@ -139,8 +138,7 @@ header_one_again bytes rows each size passed first points count =
 
 -- a header of version 2 is spelled by its fields
 pub header_two_again : (bytes : List ℕ) (rows : Collection) → AreBytes bytes → length bytes ≡ 16
-    → Passes bytes
-    → is_first bytes ≡ false → rows.points ≡ length_of bytes → length rows.series ≡ count_of bytes
+    → Passes bytes → is_first bytes ≡ false → rows.points ≡ length_of bytes → length rows.series ≡ count_of bytes
     → header_two rows ≡ bytes
 header_two_again bytes rows each size passed later points count =
     ap (λ m. m ++ (little_bytes 2 2 ++

@@ -218,12 +218,16 @@ pub only_err : {T E : Type 0} {B D : E → Type 0} (r : Result T E) → IfErr r 
 only_err (Ok x) m f = tt
 only_err (Err e) m f = f e m
 
+-- a header parsed from bytes: the one that they spell, or the error of their first test that fails
+abbrev Parsed : List ℕ → Result Header FileError → Type 0
+Parsed bytes r = MatchResult r
+    (λ header. (first_of (header_tests bytes) ≡ None) × (header ≡ header_of bytes) × IsHeader header)
+    (λ e. first_of (header_tests bytes) ≡ Some e)
+
 -- what a header is parsed to: one that came, or the explanation of an error
 pub parsed_came : (r : Result Header FileError) (bytes : List ℕ) (count : ℕ)
     (before now : Option (List ℕ))
-    → MatchResult r (λ header. (first_of (header_tests bytes) ≡ None) ×
-    (header ≡ header_of bytes) × IsHeader header)
-    (λ e. first_of (header_tests bytes) ≡ Some e)
+    → Parsed bytes r
     → before ≡ prepend_known (take count bytes) now → length bytes ≡ 16 → 16 ≤ count
     → All (λ b. b < 256) bytes
     → IfOk r (HeaderCame before now)
@@ -233,9 +237,7 @@ parsed_came (Err e) bytes count before now m taken size all each = tt
 
 pub parsed_explains : (r : Result Header FileError) (bytes : List ℕ) (count : ℕ)
     (before now : Option (List ℕ))
-    → MatchResult r (λ header. (first_of (header_tests bytes) ≡ None) ×
-    (header ≡ header_of bytes) × IsHeader header)
-    (λ e. first_of (header_tests bytes) ≡ Some e)
+    → Parsed bytes r
     → before ≡ prepend_known (take count bytes) now → length bytes ≡ 16 → 16 ≤ count
     → IfErr r (Explains Headed before)
 parsed_explains (Ok h) bytes count before now m taken size all = tt

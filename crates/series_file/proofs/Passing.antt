@@ -7,7 +7,7 @@ use Rattle.std.proofs.Math.Nat.{mul-mod_left}
 use Rattle.series_core.specs.Collection.{Collection, IsCollection}
 use Rattle.series_core.specs.declared.rows.TheConstants.{MAX_LENGTH, MAX_COUNT, MAX_VALUES}
 use Rattle.series_file.specs.Format.{values_text, labels_text, header_one, header_two, IsFile}
-use Rattle.series_file.specs.Faults.{first_of, length_of, count_of, field_tests, header_tests, raw_limit, fault}
+use Rattle.series_file.specs.Faults.{first_of, length_of, count_of, field_tests, raw_limit, fault}
 use Rattle.series_file.specs.Header.{header_of}
 use Rattle.series_file.specs.Body.{file_bytes, size_fault}
 use Rattle.series_file.specs.declared.header.Header.{Header}
@@ -45,6 +45,15 @@ fields_pass points count some limit counted total =
     (skip false (Reserved 0) last refl
     (skip _ (TooLarge (count * points)) [] (is_no_less MAX_VALUES (count * points) total) refl)))
 
+-- so do fields that tell the length and the count of a collection
+limits_pass : (points count : ℕ) (rows : Collection) → IsCollection rows
+    → length rows.series * rows.points ≤ MAX_VALUES → points ≡ rows.points → count ≡ length rows.series
+    → first_of (field_tests points count 0) ≡ None
+limits_pass points count rows sound total is_points is_count =
+    ap (λ m. first_of (field_tests m count 0)) is_points
+    ∙ ap (λ m. first_of (field_tests rows.points m 0)) is_count
+    ∙ fields_pass rows.points (length rows.series) sound.some_point sound.length_limit sound.count_limit total
+
 -- what follows the header has the right size
 size_passes : (h : Header) (rest : List ℕ) → 16 + length rest ≡ file_bytes h
     → size_fault h 16 rest ≡ None
@@ -60,7 +69,8 @@ one_passes : (rows : Collection) → IsCollection rows
     → length rows.series * rows.points ≤ MAX_VALUES → rows.points ≤ 65535
     → fault Headed (header_one rows ++ values_text rows) ≡ None
 one_passes rows sound total narrow =
-    fault_size (header_one rows) (values_text rows) refl tests
+    fault_size (header_one rows) (values_text rows) refl
+    (limits_pass (length_of (header_one rows)) (count_of (header_one rows)) rows sound total points count)
     ∙ size_passes (header_of (header_one rows)) (values_text rows) size
   where
     points : length_of (header_one rows) ≡ rows.points
@@ -68,13 +78,6 @@ one_passes rows sound total narrow =
 
     count : count_of (header_one rows) ≡ length rows.series
     count = count_one rows [] sound
-
-    tests : first_of (header_tests (header_one rows)) ≡ None
-    tests =
-        ap (λ m. first_of (field_tests m (count_of (header_one rows)) 0)) points
-        ∙ ap (λ m. first_of (field_tests rows.points m 0)) count
-        ∙ fields_pass rows.points (length rows.series)
-        sound.some_point sound.length_limit sound.count_limit total
 
     size : 16 + length (values_text rows) ≡ file_bytes (header_of (header_one rows))
     size =
@@ -88,7 +91,8 @@ two_passes : (rows : Collection) (labels : List ℕ) → IsCollection rows
     → length labels ≡ length rows.series
     → fault Headed (header_two rows ++ (labels_text labels ++ values_text rows)) ≡ None
 two_passes rows labels sound total each =
-    fault_size (header_two rows) (labels_text labels ++ values_text rows) refl tests
+    fault_size (header_two rows) (labels_text labels ++ values_text rows) refl
+    (limits_pass (length_of (header_two rows)) (count_of (header_two rows)) rows sound total points count)
     ∙ size_passes (header_of (header_two rows)) (labels_text labels ++ values_text rows) size
   where
     points : length_of (header_two rows) ≡ rows.points
@@ -96,13 +100,6 @@ two_passes rows labels sound total each =
 
     count : count_of (header_two rows) ≡ length rows.series
     count = count_two rows [] sound
-
-    tests : first_of (header_tests (header_two rows)) ≡ None
-    tests =
-        ap (λ m. first_of (field_tests m (count_of (header_two rows)) 0)) points
-        ∙ ap (λ m. first_of (field_tests rows.points m 0)) count
-        ∙ fields_pass rows.points (length rows.series)
-        sound.some_point sound.length_limit sound.count_limit total
 
     parts : length (labels_text labels ++ values_text rows) ≡ 8 * length rows.series + 2 *
         (length rows.series * rows.points)

@@ -55,6 +55,15 @@ raw_limits n bytes some within whole =
     let product : q * n ≤ MAX_COUNT * n = omega (arith, size, within) in
     (le_of_mul-le-mul_right product some, values)
 
+-- as many values as came make whole series, within the limits
+pub raw_rows : (n limit bytes size : ℕ) (before now : Option (List ℕ)) (items : List ℤ) → 0 < n → limit ≡ raw_limit n
+    → Comes value_at 2 limit before now items bytes → bytes % (2 * n) ≡ 0 → size ≡ length items
+    → (size / n ≤ MAX_COUNT) × (size ≤ MAX_VALUES)
+raw_rows n limit bytes size before now items some e came whole count =
+    let is = raw_size n limit bytes size before now items came whole count in
+    let both = raw_limits n bytes some (omega (arith, e, came.1.limit)) whole in
+    (omega (arith, raw_count n (bytes / (2 * n)) size some is, both.0), omega (arith, is, both.1))
+
 -- the bytes are a raw file
 raw_file : (n limit bytes size : ℕ) (before between : Option (List ℕ)) (items : List ℤ) (rows : Collection)
     → 0 < n → limit ≡ raw_limit n → (came : Comes value_at 2 limit before between items bytes)

@@ -12,7 +12,7 @@ use Rattle.series_core.specs.Flat.{rows_of, joined}
 use Rattle.series_core.specs.declared.rows.TheConstants.{MAX_VALUES}
 use Rattle.series_core.proofs.RowsOf.{length-rows_of, joined-rows_of}
 use Rattle.series_file.specs.Items.{items_from, value_at, label_at}
-use Rattle.series_file.specs.Format.{value_bytes as bytes_of_value, values_text, labels_text, IsFile}
+use Rattle.series_file.specs.Format.{value_bytes as bytes_of_value, values_text, labels_text, IsFile, HasForm, text}
 use Rattle.series_file.specs.Faults.{first_of, field, is_first, length_of, count_of, header_tests}
 use Rattle.series_file.specs.Header.{header_of, IsHeader}
 use Rattle.series_file.specs.Body.{label_bytes, value_bytes, labels_in, rows_in}
@@ -91,18 +91,18 @@ is_headed head lb vb rows labels hb hs tests sound lbb ls le vbb vs collection p
     with_labels e = ap (λ b. if not b then Some
         (items_from label_at 8 (count_of head) lb) else None) e
 
+    as_file : (o : Option (List ℕ)) → labels_in (header_of head) lb ≡ o → HasForm Headed rows o
+        → head ++ (lb ++ vb) ≡ text Headed rows o
+        → IsFile Headed (head ++ (lb ++ vb)) rows (labels_in (header_of head) lb)
+    as_file o is fits spelled = subst (λ (l : Option (List ℕ)). IsFile Headed (head ++ (lb ++ vb)) rows l) (sym is)
+        (record { sound = collection; total = total; fits = fits; spelled = spelled })
+
     one_file : is_first head ≡ true
         → IsFile Headed (head ++ (lb ++ vb)) rows (labels_in (header_of head) lb)
-    one_file e = subst (λ (o : Option (List ℕ)). IsFile Headed (head ++ (lb ++ vb)) rows o)
-        (sym (no_labels e))
-        (record {
-          sound = collection;
-          total = total;
-          fits = narrow;
-          spelled = ap (λ xs. head ++ (xs ++ vb)) empty ∙ ap (λ xs. head ++ xs) (sym values)
-              ∙ ap (λ xs. xs ++ values_text rows)
-              (sym (header_one_again head rows hb hs passed e points count));
-        })
+    one_file e = as_file None (no_labels e) narrow
+        (ap (λ xs. head ++ (xs ++ vb)) empty ∙ ap (λ xs. head ++ xs) (sym values)
+        ∙ ap (λ xs. xs ++ values_text rows)
+        (sym (header_one_again head rows hb hs passed e points count)))
       where
         empty : lb ≡ []
         empty = nil_from_length lb (ls ∙ ap (λ b. if not b then 8 * count_of head else 0) e)
@@ -117,24 +117,12 @@ is_headed head lb vb rows labels hb hs tests sound lbb ls le vbb vs collection p
 
     two_file : is_first head ≡ false
         → IsFile Headed (head ++ (lb ++ vb)) rows (labels_in (header_of head) lb)
-    two_file e = subst (λ (o : Option (List ℕ)). IsFile Headed (head ++ (lb ++ vb)) rows o)
-        (sym (with_labels e))
-        (record {
-          sound = collection;
-          total = total;
-          fits = (
-            length-items_from label_at 8 (count_of head) lb
-                ∙ sym count,
-            labels_fit (count_of head) lb lbb,
-          );
-          spelled = ap (λ xs. head ++ (xs ++ vb))
-              (sym (labels_spelled (count_of head) lb lbb size))
-              ∙ ap (λ xs. head ++ (labels_text (items_from label_at 8 (count_of head) lb) ++ xs))
-              (sym values)
-              ∙ ap (λ xs. xs ++ (labels_text
-              (items_from label_at 8 (count_of head) lb) ++ values_text rows))
-              (sym (header_two_again head rows hb hs passed e points count));
-        })
+    two_file e = as_file (Some (items_from label_at 8 (count_of head) lb)) (with_labels e)
+        (length-items_from label_at 8 (count_of head) lb ∙ sym count, labels_fit (count_of head) lb lbb)
+        (ap (λ xs. head ++ (xs ++ vb)) (sym (labels_spelled (count_of head) lb lbb size))
+        ∙ ap (λ xs. head ++ (labels_text (items_from label_at 8 (count_of head) lb) ++ xs)) (sym values)
+        ∙ ap (λ xs. xs ++ (labels_text (items_from label_at 8 (count_of head) lb) ++ values_text rows))
+        (sym (header_two_again head rows hb hs passed e points count)))
       where
         size : length lb ≡ 8 * count_of head
         size = ls ∙ ap (λ b. if not b then 8 * count_of head else 0) e

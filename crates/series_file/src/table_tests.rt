@@ -72,49 +72,38 @@ fn first_wrong_byte(alloc: Global, file: &[u8], place: usize) -> Option<u8> {
     None
 }
 
-#[test]
-fn whole_files(rt: HostRuntime) {
-    for cap in [1, 7, 64] {
-        assert!(rt;
-            agrees(rt.alloc(), &PLAIN, cap),
-            "version 1 in pieces of {cap}"
-        );
-        assert!(rt;
-            agrees(rt.alloc(), &NUMBERED, cap),
-            "version 2 in pieces of {cap}"
-        );
-    }
+// A file of each version.
+fn versions() -> [(u8, &'static [u8]); 2] {
+    [(1, &PLAIN), (2, &NUMBERED)]
 }
 
 #[test]
-fn each_prefix(rt: HostRuntime) {
-    for cap in [1, 7, 64] {
-        assert_eq!(rt;
-            first_wrong_prefix(rt.alloc(), &PLAIN, cap),
-            None,
-            "version 1 in pieces of {cap}"
-        );
-        assert_eq!(rt;
-            first_wrong_prefix(rt.alloc(), &NUMBERED, cap),
-            None,
-            "version 2 in pieces of {cap}"
-        );
+fn whole_files_and_each_prefix(rt: HostRuntime) {
+    for (version, file) in versions() {
+        for cap in [1, 7, 64] {
+            assert!(rt;
+                agrees(rt.alloc(), file, cap),
+                "version {version} in pieces of {cap}"
+            );
+            assert_eq!(rt;
+                first_wrong_prefix(rt.alloc(), file, cap),
+                None,
+                "a beginning of version {version} in pieces of {cap}"
+            );
+        }
     }
 }
 
 #[test]
 fn each_header_byte(rt: HostRuntime) {
-    for place in 0..16 {
-        assert_eq!(rt;
-            first_wrong_byte(rt.alloc(), &PLAIN, place),
-            None,
-            "byte {place} of version 1"
-        );
-        assert_eq!(rt;
-            first_wrong_byte(rt.alloc(), &NUMBERED, place),
-            None,
-            "byte {place} of version 2"
-        );
+    for (version, file) in versions() {
+        for place in 0..16 {
+            assert_eq!(rt;
+                first_wrong_byte(rt.alloc(), file, place),
+                None,
+                "byte {place} of version {version}"
+            );
+        }
     }
 }
 

@@ -1,7 +1,6 @@
-use Rattle.std.proofs.Common.{◌*◌, ◌≤◌, ◌∙◌, ap, sym, subst, Bool}
-use Rattle.series_file.specs.Faults.{raw_limit}
+use Rattle.std.proofs.Common.{◌*◌, ◌∙◌, ap, sym, subst, Bool}
 use Rattle.series_file.specs.Stages.{Ends}
-use Rattle.series_file.proofs.RawValues.{raw_size, raw_count, raw_limits, raw_found, raw_fits, raw_left}
+use Rattle.series_file.proofs.RawValues.{raw_size, raw_count, raw_rows, raw_found, raw_fits, raw_left}
 use Rattle.series_file.proofs.read.read_raw.Goals as goal
 
 -- There are whole series alone, and no more values than allowed.
@@ -15,21 +14,14 @@ from_values-rows-requires-clause-whole g c =
 pub from_values-rows-requires-clause-count_limit : goal.from_values-rows-requires-clause-count_limit
 from_values-rows-requires-clause-count_limit g c =
     let whole = rw c.from.ensures at c.if-arrived-from-ne0.false in
-    let size =
-    raw_size c.args.length _ _ _ _ _ _ c.in-Ok.ensures.came whole c.in-Ok.arrived.items.ok.0 in
-    let within : c.in-Ok.arrived.bytes ≤ raw_limit c.args.length =
-    rw (← c.raw_limit-limit.ensures) c.in-Ok.ensures.came.1.limit in
-    rw (raw_count c.args.length _ _ c.requires.some_point size)
-    (raw_limits c.args.length c.in-Ok.arrived.bytes c.requires.some_point within whole).0
+    (raw_rows c.args.length _ _ _ _ _ _ c.requires.some_point c.raw_limit-limit.ensures c.in-Ok.ensures.came whole
+    c.in-Ok.arrived.items.ok.0).0
 
 pub from_values-rows-requires-clause-values_limit : goal.from_values-rows-requires-clause-values_limit
 from_values-rows-requires-clause-values_limit g c =
     let whole = rw c.from.ensures at c.if-arrived-from-ne0.false in
-    let size =
-    raw_size c.args.length _ _ _ _ _ _ c.in-Ok.ensures.came whole c.in-Ok.arrived.items.ok.0 in
-    let within : c.in-Ok.arrived.bytes ≤ raw_limit c.args.length =
-    rw (← c.raw_limit-limit.ensures) c.in-Ok.ensures.came.1.limit in
-    rw size (raw_limits c.args.length c.in-Ok.arrived.bytes c.requires.some_point within whole).1
+    (raw_rows c.args.length _ _ _ _ _ _ c.requires.some_point c.raw_limit-limit.ensures c.in-Ok.ensures.came whole
+    c.in-Ok.arrived.items.ok.0).1
 
 pub returns-clause-found : goal.returns-clause-found
 returns-clause-found g c =
