@@ -4,7 +4,7 @@ use Rattle.std.proofs.Common.{◌≡◌, ◌≢◌, ℕ, zero, suc, ◌+◌, ◌
 use Rattle.std.specs.List.{All}
 use Rattle.std.proofs.Math.Nat.{mod-eq_of_lt, pow-le-pow_right, mul-le-mul_right}
 use Rattle.std.proofs.Math.Pow.{mod-mod-pow}
-use Rattle.std.proofs.lemmas.Nat.{pow_pos, pow-add, shr-shr, shr_high, shr_below, mod_low, mod_below, mod-pow-add}
+use Rattle.std.proofs.lemmas.Nat.{one_shl, pow_pos, pow-add, shr-shr, shr_high, shr_below, mod_low, mod_below, mod-pow-add}
 use Rattle.std.proofs.lemmas.Bool.{cases_lt}
 use Rattle.std.proofs.lemmas.List.{length-set, length-replicate, get_or-take, take_at}
 use Rattle.std.proofs.lemmas.List.FromFn.{length-map-range_with_len}
@@ -186,6 +186,15 @@ waiting_fits view j n x bit cost bounds is used one_bit inside held is_cost =
     let small : bit * 2 ^ n + x < 2 ^ (n + 1) = omega (arith, twice, front, inside) in
     let bound = bits_bound-lt view j (n + 1) (bit * 2 ^ n + x) is small (omega (arith, used)) in
     omega (arith, bound, waiting_rises view j n x bit cost bounds inside held is_cost)
+
+-- so it is where the numbers are read from a shift
+pub shifted_fits : (view : View) (j n x bit cost : ℕ) (bounds : List ℕ) → IsView view → n < 8
+    → j + 1 + n ≤ view.layout.cuts.segments → bit < 2 → x < 1 * 2 ^ n % 18446744073709551616
+    → InFront view j n x bounds → cost ≡ bit_cost view j bit
+    → get_or bounds x 0 + cost < 2 ^ 49
+shifted_fits view j n x bit cost bounds is few used one_bit inside held is_cost =
+    let half : 1 * 2 ^ n % 18446744073709551616 ≡ 2 ^ n = one_shl n 64 (omega (arith, few)) in
+    waiting_fits view j n x bit cost bounds is used one_bit (omega (arith, half, inside)) held is_cost
 
 -- one number more has a bit in front
 pub in_front_next : (view : View) (j n x low high : ℕ) (bounds : List ℕ) → n < 8 → x < 2 ^ n

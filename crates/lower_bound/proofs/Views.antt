@@ -95,6 +95,12 @@ pub word_bound-lt : (view : View) (word : List Part) → IsView view → All IsP
 word_bound-lt view word is parts whole =
     omega (arith, parts_bound-le view 0 word is parts (omega (arith, whole)), is.division.short_row)
 
+-- so is each part of it
+pub part_bound-lt : (view : View) (word : List Part) (bound behind : ℕ) → IsView view → All IsPart word
+    → length word ≡ view.layout.cuts.segments → bound + behind ≡ word_bound view word → bound < 2 ^ 49
+part_bound-lt view word bound behind is parts whole sum =
+    omega (arith, sum, word_bound-lt view word is parts whole)
+
 -- the part of all eight bits of a symbol is one
 eight_bits_part : (s : ℕ) → s < 256 → IsPart (record { prefix = s; bits = 8 })
 eight_bits_part s small =

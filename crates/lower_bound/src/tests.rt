@@ -1,10 +1,26 @@
 //! Worked rows of bounds, and costs against a plain computation of each interval.
+
+ghost use Rattle.std.specs.Prelude.{◌≡◌, ◌≤◌};
+ghost use Rattle.segment_sums.specs.Division.{division_of};
+
 use crate::QueryView;
 use breakpoints::Table;
 use isax_word::{Full, Layout, Word};
 use segment_sums::Cuts;
 use std::process::Abort;
 use std::test::Fail;
+
+/// The layout of series of this length in these segments, by this table.
+fn layout_of(length: u32, segments: u32, table: Table) -> Layout
+    requires segments { (1 ≤ segments) × (segments ≤ 16) }
+    requires length { (segments ≤ length) × (length ≤ 65536) }
+    ensures { result.cuts ≡ division_of length segments }
+{
+    Layout {
+        cuts: Cuts::new(length, segments),
+        table,
+    }
+}
 
 /// The bound of the word of these parts for a query under the flat table.
 fn flat_bound(rt: &impl Abort, query: &[i16], prefixes: &[u8], bits: &[u8]) -> u64 {
@@ -16,10 +32,7 @@ fn flat_bound(rt: &impl Abort, query: &[i16], prefixes: &[u8], bits: &[u8]) -> u
         segments as usize <= query.len() && query.len() <= 65536,
         "{segments} segments of {query:?}"
     );
-    let layout = Layout {
-        cuts: Cuts::new(query.len() as u32, segments),
-        table: Table::Flat,
-    };
+    let layout = layout_of(query.len() as u32, segments, Table::Flat);
     QueryView::new(&layout, query).bound_word(&word)
 }
 
@@ -112,10 +125,7 @@ fn compare_all(rt: &impl Abort, table: Table, query: &[i16]) {
         "{query:?} is no query of one segment"
     );
     let length = query.len() as u32;
-    let layout = Layout {
-        cuts: Cuts::new(length, 1),
-        table,
-    };
+    let layout = layout_of(length, 1, table);
     let view = QueryView::new(&layout, query);
     let mut sum = 0i64;
     for value in query {
@@ -149,10 +159,7 @@ fn costs_are_those_of_the_interval(rt: HostRuntime) -> Result<(), Fail> {
 
 #[test]
 fn a_full_word_costs_its_symbols(rt: HostRuntime) -> Result<(), Fail> {
-    let layout = Layout {
-        cuts: Cuts::new(2, 2),
-        table: Table::Flat,
-    };
+    let layout = layout_of(2, 2, Table::Flat);
     let view = QueryView::new(&layout, &[0, 0]);
     let rows = [
         ([0, 0], 0),
@@ -189,10 +196,7 @@ fn bounds_of_root_rows(rt: HostRuntime) -> Result<(), Fail> {
                 && root < 1 << segments,
             "{root} is no root number of {segments} segments of {query:?}"
         );
-        let layout = Layout {
-            cuts: Cuts::new(query.len() as u32, segments),
-            table: Table::Flat,
-        };
+        let layout = layout_of(query.len() as u32, segments, Table::Flat);
         assert_eq!(rt;
             QueryView::new(&layout, query).bound_root(root),
             bound,
@@ -208,10 +212,7 @@ fn compare_roots(rt: &impl Abort, table: Table, segments: u32) {
     let query: [i16; 18] = [
         -32768, 32767, -1, 0, 1, 24256, -24257, 100, -7, 3, 9000, -9000, 1, 1, -1, -1, 12345, -54,
     ];
-    let layout = Layout {
-        cuts: Cuts::new(18, segments),
-        table,
-    };
+    let layout = layout_of(18, segments, table);
     let view = QueryView::new(&layout, &query);
     for step in 0..512u32 {
         let root = (step * 129) % (1 << segments);

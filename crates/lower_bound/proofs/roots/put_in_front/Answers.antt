@@ -2,34 +2,22 @@
 use Rattle.std.proofs.Common.{◌≡◌, ◌+◌, ◌*◌, ◌%◌, ◌^◌, arith, sym, subst, get_or, set}
 use Rattle.std.proofs.lemmas.Nat.{one_shl}
 use Rattle.lower_bound.specs.Halves.{view_with}
-use Rattle.lower_bound.proofs.HalfBounds.{InFront, in_front_end, in_front_next, waiting_fits}
+use Rattle.lower_bound.proofs.HalfBounds.{InFront, in_front_end, in_front_next, shifted_fits}
 use Rattle.lower_bound.proofs.roots.put_in_front.Goals as goal
 
 pub overflow_add-bounds : goal.overflow_add-bounds
 overflow_add-bounds c =
-    let n = c.args.count in
-    let half : 1 * 2 ^ n % 18446744073709551616 ≡ 2 ^ n
-    = one_shl n 64 (omega (arith, c.requires.few)) in
-    let view = view_with c.args.layout.now c.args.sums.now in
-    omega (
-      arith,
-      waiting_fits view c.args.j n c.loop-x.x 1 c.cost_at-high.result c.loop-x.bounds
-          c.requires.is_view c.requires.inside (omega arith) (omega (arith, half, c.loop-x-test.true))
-          c.loop-x.invariant c.cost_at-high.ensures,
-    )
+    let small = shifted_fits (view_with c.args.layout.now c.args.sums.now) c.args.j c.args.count c.loop-x.x 1
+    c.cost_at-high.result c.loop-x.bounds c.requires.is_view c.requires.few c.requires.inside (omega arith)
+    c.loop-x-test.true c.loop-x.invariant c.cost_at-high.ensures in
+    omega (arith, small)
 
 pub overflow_add-bounds-in-loop-x-2 : goal.overflow_add-bounds-in-loop-x-2
 overflow_add-bounds-in-loop-x-2 c =
-    let n = c.args.count in
-    let half : 1 * 2 ^ n % 18446744073709551616 ≡ 2 ^ n
-    = one_shl n 64 (omega (arith, c.requires.few)) in
-    let view = view_with c.args.layout.now c.args.sums.now in
-    omega (
-      arith,
-      waiting_fits view c.args.j n c.loop-x.x 0 c.cost_at-low.result c.loop-x.bounds
-          c.requires.is_view c.requires.inside (omega arith) (omega (arith, half, c.loop-x-test.true))
-          c.loop-x.invariant c.cost_at-low.ensures,
-    )
+    let small = shifted_fits (view_with c.args.layout.now c.args.sums.now) c.args.j c.args.count c.loop-x.x 0
+    c.cost_at-low.result c.loop-x.bounds c.requires.is_view c.requires.few c.requires.inside (omega arith)
+    c.loop-x-test.true c.loop-x.invariant c.cost_at-low.ensures in
+    omega (arith, small)
 
 pub loop-x-preserved : goal.loop-x-preserved
 loop-x-preserved c =

@@ -4,28 +4,22 @@ use Rattle.std.proofs.lemmas.List.{length-map}
 use Rattle.std.proofs.lemmas.Option.{get_or_from_slice_get}
 use Rattle.lower_bound.specs.Gap.{symbol_cost}
 use Rattle.lower_bound.specs.Bound.{IsView, HoldsView, sum_at, length_at, parts_bound, word_bound, eight_bit_word}
-use Rattle.lower_bound.proofs.Views.{parts_bound-drop_full, word_bound-lt, eight_bit_word_parts}
+use Rattle.lower_bound.proofs.Views.{parts_bound-drop_full, part_bound-lt, eight_bit_word_parts}
 use Rattle.lower_bound.proofs.view.QueryView.bound_full.Goals as goal
 
 pub returns-clause-small : goal.returns-clause-small
 returns-clause-small c =
-    let view = c.args.self.now in
-    let full = c.args.full.now in
-    let is : IsView view = subst IsView c.self.view_is c.self.invariant.0 in
-    omega (
-      arith,
-      c.loop-j.invariant,
-      word_bound-lt view (eight_bit_word full) is
-          (eight_bit_word_parts full c.segments-j-end.ensures.is_full_word.eight_bits)
-          (length-map full _ ∙ c.requires),
-    )
+    part_bound-lt c.args.self.now (eight_bit_word c.args.full.now) _ _
+    (subst IsView c.self.view_is c.self.invariant.0)
+    (eight_bit_word_parts c.args.full.now c.segments-j-end.ensures.is_full_word.eight_bits)
+    (length-map c.args.full.now _ ∙ c.requires) c.loop-j.invariant
 
 pub loop-j-preserved : goal.loop-j-preserved
 loop-j-preserved c =
+    let costs = c.self.inside.costs in
     let view = c.args.self.now in
     let full = c.args.full.now in
     let j = c.loop-j.j in
-    let costs = c.self.inside.costs in
     let used : j < length full = omega (arith, c.segments-j-end.ensures.value) in
     let holds : HoldsView view c.self.inside.full costs
     = subst (λ v. HoldsView v c.self.inside.full costs) c.self.view_is c.self.invariant.1 in
@@ -42,13 +36,8 @@ loop-j-preserved c =
 
 pub overflow_add-bound : goal.overflow_add-bound
 overflow_add-bound c =
-    let view = c.args.self.now in
-    let full = c.args.full.now in
-    let is : IsView view = subst IsView c.self.view_is c.self.invariant.0 in
-    omega (
-      arith,
-      loop-j-preserved c,
-      word_bound-lt view (eight_bit_word full) is
-          (eight_bit_word_parts full c.segments-j-end.ensures.is_full_word.eight_bits)
-          (length-map full _ ∙ c.requires),
-    )
+    let small = part_bound-lt c.args.self.now (eight_bit_word c.args.full.now) _ _
+    (subst IsView c.self.view_is c.self.invariant.0)
+    (eight_bit_word_parts c.args.full.now c.segments-j-end.ensures.is_full_word.eight_bits)
+    (length-map c.args.full.now _ ∙ c.requires) (loop-j-preserved c) in
+    omega (arith, small)

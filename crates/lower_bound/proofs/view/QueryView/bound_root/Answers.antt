@@ -47,14 +47,4 @@ returns-clause-small c =
     )
 
 pub overflow_add-result : goal.overflow_add-result
-overflow_add-result c =
-    let view = c.args.self.now in
-    let root = c.args.root in
-    let w = view.layout.cuts.segments in
-    let is : IsView view = subst IsView c.self.view_is c.self.invariant.0 in
-    omega (
-      arith,
-      returns-clause-value c,
-      word_bound-lt view (one_bit_word root w) is (one_bit_word_parts root w c.requires)
-          (length-one_bit_word root w),
-    )
+overflow_add-result c = omega (arith, returns-clause-small c)

@@ -6,19 +6,13 @@ use Rattle.isax_word.specs.Word.{IsPart, no_part, part_at}
 use Rattle.lower_bound.specs.Gap.{part_cost, symbol_cost, nearest_symbol}
 use Rattle.lower_bound.specs.Bound.{IsView, HoldsView, sum_at, length_at, symbol_at, parts_bound, word_bound}
 use Rattle.lower_bound.proofs.Gaps.{part_cost_nearest}
-use Rattle.lower_bound.proofs.Views.{parts_bound-drop, word_bound-lt}
+use Rattle.lower_bound.proofs.Views.{parts_bound-drop, part_bound-lt}
 use Rattle.lower_bound.proofs.view.QueryView.bound_word.Goals as goal
 
 pub returns-clause-small : goal.returns-clause-small
 returns-clause-small c =
-    let view = c.args.self.now in
-    let word = c.args.word.now in
-    let is : IsView view = subst IsView c.self.view_is c.self.invariant.0 in
-    omega (
-      arith,
-      c.loop-j.invariant,
-      word_bound-lt view word is c.segments-j-end.ensures.is_word.parts c.requires,
-    )
+    part_bound-lt c.args.self.now c.args.word.now _ _ (subst IsView c.self.view_is c.self.invariant.0)
+    c.segments-j-end.ensures.is_word.parts c.requires c.loop-j.invariant
 
 pub loop-j-preserved : goal.loop-j-preserved
 loop-j-preserved c =
@@ -58,11 +52,6 @@ loop-j-preserved c =
 
 pub overflow_add-bound : goal.overflow_add-bound
 overflow_add-bound c =
-    let view = c.args.self.now in
-    let word = c.args.word.now in
-    let is : IsView view = subst IsView c.self.view_is c.self.invariant.0 in
-    omega (
-      arith,
-      loop-j-preserved c,
-      word_bound-lt view word is c.segments-j-end.ensures.is_word.parts c.requires,
-    )
+    let small = part_bound-lt c.args.self.now c.args.word.now _ _ (subst IsView c.self.view_is c.self.invariant.0)
+    c.segments-j-end.ensures.is_word.parts c.requires (loop-j-preserved c) in
+    omega (arith, small)

@@ -2,11 +2,10 @@
 use Rattle.std.proofs.Common.{rules, ◌≡◌, ◌≢◌, pos, ◌-◌, ◌<◌, [], arith, ap, sym, ◌∙◌, subst, get_or, length, below_more, get_or-set_other, get_or-set_same}
 use Rattle.std.specs.Prelude.{FitsSigned}
 use Rattle.std.specs.Int.{w32}
-use Rattle.std.proofs.lemmas.Int.{ints, to_z-of_z}
 use Rattle.std.proofs.lemmas.List.{length-set}
 use Rattle.segment_sums.specs.Division.{cut_place, segment_length}
 use Rattle.segment_sums.specs.Sum.{segment_sum}
-use Rattle.segment_sums.proofs.Sums.{segment_sums_at}
+use Rattle.isax_word.proofs.FullWords.{sum_bounds, sum_read}
 use Rattle.lower_bound.specs.Gap.{HoldsCosts}
 use Rattle.lower_bound.specs.Bound.{IsView, HoldsView, view_of}
 use Rattle.lower_bound.specs.Halves.{view_with, high_segments, HoldsBounds}
@@ -16,36 +15,18 @@ use Rattle.lower_bound.proofs.view.QueryView.new.Goals as goal
 
 pub costs_of_symbols-requires-clause-not_low : goal.costs_of_symbols-requires-clause-not_low
 costs_of_symbols-requires-clause-not_low c =
-    let cuts = c.args.layout.now.cuts in
-    let j = c.loop-j.j in
-    let used : j < cuts.segments = omega (arith, c.segments-j-end.ensures.value) in
-    let fits : FitsSigned w32 (get_or c.sums.new.into j (pos 0)) = search rules in
-    let sum =
-    segment_sums_at cuts c.args.query.now c.sums.new.into
-    (16 - cuts.segments) j c.sums.ensures.sums used in
-    let low = c.sums.ensures.not_low j used in
-    omega (arith, ints, sum, low, c.cut-from.ensures.from, c.cut-from.ensures.to)
-
-pub costs_of_symbols-requires-clause-not_high : goal.costs_of_symbols-requires-clause-not_high
-costs_of_symbols-requires-clause-not_high c =
-    let cuts = c.args.layout.now.cuts in
-    let j = c.loop-j.j in
-    let used : j < cuts.segments = omega (arith, c.segments-j-end.ensures.value) in
-    let fits : FitsSigned w32 (get_or c.sums.new.into j (pos 0)) = search rules in
-    let sum =
-    segment_sums_at cuts c.args.query.now c.sums.new.into
-    (16 - cuts.segments) j c.sums.ensures.sums used in
-    let high = c.sums.ensures.not_high j used in
-    omega (arith, ints, sum, high, c.cut-from.ensures.from, c.cut-from.ensures.to)
+    let fits : FitsSigned w32 (get_or c.sums.new.into c.loop-j.j (pos 0)) = search rules in
+    (sum_bounds c.args.layout.now.cuts c.args.query.now c.sums.new.into _ c.loop-j.j _ _ c.sums.ensures.sums c.sums.ensures.not_low
+    c.sums.ensures.not_high (omega (arith, c.segments-j-end.ensures.value)) fits c.cut-from.ensures.from c.cut-from.ensures.to).0
 
 pub loop-j-preserved : goal.loop-j-preserved
 loop-j-preserved c =
+    let costs = c.loop-j.costs in
+    let made = c.costs_of_symbols.result in
     let layout = c.args.layout.now in
     let cuts = layout.cuts in
     let query = c.args.query.now in
     let j = c.loop-j.j in
-    let costs = c.loop-j.costs in
-    let made = c.costs_of_symbols.result in
     let used : j < cuts.segments = omega (arith, c.segments-j-end.ensures.value) in
     let inside : j < length costs =
     omega (
@@ -55,8 +36,7 @@ loop-j-preserved c =
       c.segments-j-end.ensures.divides.few_segments,
     ) in
     let fits : FitsSigned w32 (get_or c.sums.new.into j (pos 0)) = search rules in
-    let sum = to_z-of_z w32 (get_or c.sums.new.into j (pos 0)) fits
-    ∙ segment_sums_at cuts query c.sums.new.into (16 - cuts.segments) j c.sums.ensures.sums used in
+    let sum = sum_read cuts query c.sums.new.into _ j c.sums.ensures.sums used fits in
     let long : c.cut-from.result.1 - c.cut-from.result.0 ≡ segment_length cuts j
     = ap (λ a. c.cut-from.result.1 - a) c.cut-from.ensures.from
     ∙ ap (λ b. b - cut_place cuts j) c.cut-from.ensures.to in
@@ -114,3 +94,9 @@ invariant_of-result c =
             c.bounds_of_bits-low.result) high c.bounds_of_bits-low.ensures);
       },
     )
+
+pub costs_of_symbols-requires-clause-not_high : goal.costs_of_symbols-requires-clause-not_high
+costs_of_symbols-requires-clause-not_high c =
+    let fits : FitsSigned w32 (get_or c.sums.new.into c.loop-j.j (pos 0)) = search rules in
+    (sum_bounds c.args.layout.now.cuts c.args.query.now c.sums.new.into _ c.loop-j.j _ _ c.sums.ensures.sums c.sums.ensures.not_low
+    c.sums.ensures.not_high (omega (arith, c.segments-j-end.ensures.value)) fits c.cut-from.ensures.from c.cut-from.ensures.to).1
