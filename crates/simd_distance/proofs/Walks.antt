@@ -42,7 +42,7 @@ distance_from_part xs ys i n m is in_xs in_ys =
     ∙ distance_of_parts (take n (drop i xs)) (drop m xs) (take n (drop i ys)) (drop m ys) long
 
 -- what a slice has of n values from a place on is those values
-pub distance_of_slice : (xs ys : List ℤ) (i n : ℕ)
+distance_of_slice : (xs ys : List ℤ) (i n : ℕ)
     → squared_distance (take (i + n - i) (drop i xs)) (take (i + n - i) (drop i ys))
     ≡ squared_distance (take n (drop i xs)) (take n (drop i ys))
 distance_of_slice xs ys i n =

@@ -1,9 +1,10 @@
 //! Blocks between tests of a limit, what is left behind the last one, and the test itself.
 
-ghost use Rattle.std.specs.Prelude.{◌≡◌, ◌%◌, ◌≤◌, ◌<◌, length, FitsSigned, MatchOption};
+ghost use Rattle.std.specs.Prelude.{◌≡◌, ◌≤◌, ◌<◌, length, FitsSigned, MatchOption};
 ghost use Rattle.std.specs.List.{All};
 ghost use mir.Syntax.{w16};
 ghost use Rattle.series_core.specs.Distance.{squared_distance};
+ghost use Rattle.simd_distance.specs.Blocks.{AreBlocks};
 
 use crate::far::far_distance;
 use crate::lanes::LANES;
@@ -35,11 +36,7 @@ pub(crate) fn rest_distance(x: &[i16], q: &[i16]) -> u64
 
 /// The squared Euclidean distance of two blocks of whole sixteens.
 fn block_distance(x: &[i16], q: &[i16]) -> u64
-    requires same_length { length x.now ≡ length q.now }
-    requires short { length x.now ≤ 64 }
-    requires sixteens { length x.now % 16 ≡ 0 }
-    requires x_fits { All (FitsSigned w16) x.now }
-    requires q_fits { All (FitsSigned w16) q.now }
+    requires { AreBlocks x.now q.now }
     ensures { result ≡ squared_distance x.now q.now }
 {
     match near_distance(x, q) {

@@ -1,11 +1,12 @@
 //! Values that may differ by anything: their squares take 32 bits each and add up in 64. That costs much, so a lower bound goes
 //! first. No sum wraps, since the distance of any two series stays far below 2^64.
 
-ghost use Rattle.std.specs.Prelude.{◌≡◌, ◌+◌, ◌%◌, ◌≤◌, ◌<◌, ◌^◌, length, map, FitsSigned, MatchOption};
+ghost use Rattle.std.specs.Prelude.{◌≡◌, ◌+◌, ◌≤◌, ◌<◌, ◌^◌, length, map, FitsSigned, MatchOption};
 ghost use Rattle.std.specs.List.{All};
 ghost use Rattle.std.specs.Simd.Lanes.{chunk, sum_l, Each1};
 ghost use mir.Syntax.{w16};
 ghost use Rattle.series_core.specs.Distance.{squared_distance};
+ghost use Rattle.simd_distance.specs.Blocks.{AreBlocks};
 ghost use Rattle.simd_distance.specs.Lanes.{square};
 
 use crate::blocks::{BLOCK, rest_distance, within};
@@ -57,11 +58,7 @@ fn by_blocks(x: &[i16], q: &[i16]) -> u64
 /// compiler keeps near blocks in few instructions.
 #[inline(never)]
 pub(crate) fn far_distance(x: &[i16], q: &[i16]) -> u64
-    requires same_length { length x.now ≡ length q.now }
-    requires short { length x.now ≤ 64 }
-    requires sixteens { length x.now % 16 ≡ 0 }
-    requires x_fits { All (FitsSigned w16) x.now }
-    requires q_fits { All (FitsSigned w16) q.now }
+    requires { AreBlocks x.now q.now }
     ensures { result ≡ squared_distance x.now q.now }
 {
     let mut sums = u64x16::splat(0);

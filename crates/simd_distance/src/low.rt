@@ -1,11 +1,10 @@
 //! A lower bound of the distance of blocks that may differ by anything: a quarter of it, from halves of the differences.
 //! Halves take 15 bits, so that two products at a time are multiplied and added in one step, as of near blocks.
 
-ghost use Rattle.std.specs.Prelude.{◌≡◌, ◌*◌, ◌%◌, ◌<◌, ◌≤◌, length, map, FitsSigned};
-ghost use Rattle.std.specs.List.{All};
+ghost use Rattle.std.specs.Prelude.{◌≡◌, ◌*◌, ◌<◌, ◌≤◌, length, map};
 ghost use Rattle.std.specs.Simd.Lanes.{Each1};
-ghost use mir.Syntax.{w16};
 ghost use Rattle.series_core.specs.Distance.{squared_distance};
+ghost use Rattle.simd_distance.specs.Blocks.{AreBlocks};
 ghost use Rattle.simd_distance.specs.Lanes.{square_of_half};
 
 use crate::lanes::{LANES, sixteen_differences};
@@ -15,11 +14,7 @@ use std::simd::prelude::*;
 /// At most a quarter of the squared Euclidean distance of two blocks of whole sixteens.
 #[inline(always)]
 pub(crate) fn low_quarter(x: &[i16], q: &[i16]) -> u64
-    requires same_length { length x.now ≡ length q.now }
-    requires short { length x.now ≤ 64 }
-    requires sixteens { length x.now % 16 ≡ 0 }
-    requires x_fits { All (FitsSigned w16) x.now }
-    requires q_fits { All (FitsSigned w16) q.now }
+    requires { AreBlocks x.now q.now }
     ensures { 4 * result ≤ squared_distance x.now q.now }
 {
     let mut sums = u64x4::splat(0);

@@ -1,11 +1,10 @@
 //! Blocks that differ by less than 32768 at each place: two products at a time are multiplied and added in one step.
 //! Whether a block is near is seen of the same differences, so that none is read twice.
 
-ghost use Rattle.std.specs.Prelude.{◌≡◌, ◌+◌, ◌%◌, ◌≤◌, ◌<◌, ◌^◌, length, map, bit_or, FitsSigned, IfSome};
-ghost use Rattle.std.specs.List.{All};
+ghost use Rattle.std.specs.Prelude.{◌≡◌, ◌+◌, ◌≤◌, ◌<◌, ◌^◌, length, map, bit_or, IfSome};
 ghost use Rattle.std.specs.Simd.Lanes.{zip2, sum_l, fold_l, Each1};
-ghost use mir.Syntax.{w16};
 ghost use Rattle.series_core.specs.Distance.{squared_distance};
+ghost use Rattle.simd_distance.specs.Blocks.{AreBlocks};
 ghost use Rattle.simd_distance.specs.Lanes.{square_of_low};
 
 use crate::lanes::{LANES, sixteen_differences};
@@ -18,11 +17,7 @@ const NEAR: u32 = 32768;
 /// where they do not.
 #[inline(always)]
 pub(crate) fn near_distance(x: &[i16], q: &[i16]) -> Option<u64>
-    requires same_length { length x.now ≡ length q.now }
-    requires short { length x.now ≤ 64 }
-    requires sixteens { length x.now % 16 ≡ 0 }
-    requires x_fits { All (FitsSigned w16) x.now }
-    requires q_fits { All (FitsSigned w16) q.now }
+    requires { AreBlocks x.now q.now }
     ensures { IfSome result (λ d. d ≡ squared_distance x.now q.now) }
 {
     let mut bits = u32x16::splat(0);
