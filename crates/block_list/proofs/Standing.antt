@@ -1,5 +1,4 @@
 -- A function of nodes stands once its code meets its clauses: the last step of each proof by hand (`stands`).
-use mathlib.Core.List.{List, [], ◌∷◌}
 use seplogic.Ra.Ura.{Ura}
 use mir.Syntax.{Dict, Fn}
 use prog.Model.{Model}

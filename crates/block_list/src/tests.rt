@@ -28,11 +28,17 @@ fn counted(list: &BlockList<u32>) -> Option<u32> {
 }
 
 #[test]
-fn seventeen_and_twenty_are_thirty_seven(rt: HostRuntime) -> Result<(), Fail> {
+fn two_lists_of_known_lengths(rt: HostRuntime) -> Result<(), Fail> {
     let alloc = rt.alloc();
-    let mut first = numbers(alloc, 0, 17).ok().ok_or(REFUSED)?;
-    first.append(numbers(alloc, 17, 37).ok().ok_or(REFUSED)?);
-    assert_eq!(rt; counted(&first), Some(37));
+    for (first, all) in [(17, 37), (500_000, 1_000_000)] {
+        let mut list = numbers(alloc, 0, first).ok().ok_or(REFUSED)?;
+        list.append(numbers(alloc, first, all).ok().ok_or(REFUSED)?);
+        assert_eq!(rt;
+            counted(&list),
+            Some(all),
+            "{first} numbers, and {all} in all"
+        );
+    }
     Ok(())
 }
 
@@ -52,15 +58,6 @@ fn each_two_lists_in_each_order(rt: HostRuntime) -> Result<(), Fail> {
             );
         }
     }
-    Ok(())
-}
-
-#[test]
-fn a_million_items(rt: HostRuntime) -> Result<(), Fail> {
-    let alloc = rt.alloc();
-    let mut list = numbers(alloc, 0, 500_000).ok().ok_or(REFUSED)?;
-    list.append(numbers(alloc, 500_000, 1_000_000).ok().ok_or(REFUSED)?);
-    assert_eq!(rt; counted(&list), Some(1_000_000));
     Ok(())
 }
 

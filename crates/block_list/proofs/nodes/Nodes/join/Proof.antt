@@ -13,7 +13,6 @@ use base.Fml.{Lft, GName, Share, ftrue, flft, fobs, fbor}
 use prog.Wp.{Env, Calls, Loops, WpFn, Tables}
 use types.Logic.{Logic}
 use contract.Monad.{fact}
-use contract.Running.{tables, tables_of}
 use sound.WpLaws.{WpFn-mono}
 use types.Kit.{Item, ⋆, ‵, ◌⊛◌, at_ret, ◌$◌, ◌∵◌, !, qed, by, move, keep, use1, use2, split, split3, join, rewrite, fsplit3, fjoin, fjoin3, feq_i, feq_l, suffices, frame, done}
 use types.Part.{whole, sub, look_in, store_in}
@@ -28,11 +27,9 @@ use denote.Ref.{MutBor, MutRef}
 use denote.Builtin.{RefMutOf, unit}
 use denote.Signature.{plain}
 use denote.Steps.{nothing}
-use denote.Triple.Carry.{spared}
 use denote.Triple.Clauses.{Clauses, Ended, closing}
 use denote.Triple.Entry.{on_entry}
-use denote.Triple.Spec.{Meets, triple_of}
-use denote.Triple.Table.{entered, run_framed}
+use denote.Triple.Spec.{Meets}
 use denote.Triple.Walked.{says, needs, Stays, stay_ref, walk_of, ends_at, Goes-ref, walk_Meets}
 use Rattle.std_alloc.proofs.VecSteps.Shapes.{after}
 use Rattle.std_alloc.proofs.RcSteps.{Ptr-Good}

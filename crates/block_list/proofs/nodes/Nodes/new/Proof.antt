@@ -9,7 +9,6 @@ use base.Fml.{ftrue}
 use prog.Wp.{Calls, Loops, WpFn, Tables}
 use types.Logic.{Logic}
 use contract.Monad.{fact}
-use contract.Running.{tables, tables_of}
 use sound.WpLaws.{WpFn-mono}
 use types.Kit.{‵, ◌$◌, ◌∵◌, !, qed, keep, join, suffices, done}
 use types.Part.{agg}
@@ -18,11 +17,9 @@ use types.ByLocal.{alloc_all, pass_all, free_all, look_at, get, sets}
 use denote.RawPtr.{Ptr, block_ptr}
 use denote.Signature.{plain}
 use denote.Steps.{nothing}
-use denote.Triple.Carry.{spared}
 use denote.Triple.Clauses.{Clauses, Ended, closing}
 use denote.Triple.Entry.{on_entry}
-use denote.Triple.Spec.{Meets, triple_of}
-use denote.Triple.Table.{entered, run_framed}
+use denote.Triple.Spec.{Meets}
 use denote.Triple.Walked.{says, Stays, walk_of, ends_at, walk_Meets}
 use Rattle.std_alloc.proofs.BoxSteps.Form.{Bx, args}
 use Rattle.block_list.proofs.Standing.{boxed, here, stands}

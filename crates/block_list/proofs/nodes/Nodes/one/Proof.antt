@@ -11,7 +11,6 @@ use base.Fml.{ftrue, froom}
 use prog.Wp.{Env, Calls, Loops, WpFn, Tables}
 use types.Logic.{Logic}
 use contract.Monad.{fact}
-use contract.Running.{tables, tables_of}
 use sound.WpLaws.{WpFn-mono}
 use types.Kit.{Item, ⋆, ‵, at_ret, ◌$◌, ◌∵◌, !, qed, by, move, keep, use1, join, drop, group, fsplit, fjoin, suffices, done}
 use types.Part.{whole, sub, agg}
@@ -24,11 +23,9 @@ use denote.RawPtr.{Ptr, block_ptr, ptr_val}
 use denote.Signature.{plain}
 use denote.Steps.{nothing}
 use denote.Struct.Struct.{as_fields}
-use denote.Triple.Carry.{spared}
 use denote.Triple.Clauses.{Clauses, Ended, closing}
 use denote.Triple.Entry.{on_entry}
-use denote.Triple.Spec.{Meets, triple_of}
-use denote.Triple.Table.{entered, run_framed}
+use denote.Triple.Spec.{Meets}
 use denote.Triple.Walked.{says, Stays, stay_dropped, walk_of, ends_at, Goes-dropped, walk_Meets}
 use Rattle.std_alloc.proofs.VecSteps.Shapes.{after}
 use Rattle.std_alloc.proofs.RcSteps.{Good, Ptr-Good}

@@ -13,7 +13,6 @@ use base.Fml.{Lft, GName, Share, ftrue, flft, fobs, fbor}
 use prog.Wp.{Env, Calls, Loops, WpFn, Tables}
 use types.Logic.{Logic, sem}
 use contract.Monad.{fact}
-use contract.Running.{tables, tables_of}
 use sound.WpLaws.{WpFn-mono}
 use types.Kit.{Item, ⋆, ‵, ◌⊛◌, at_ret, ◌$◌, ◌∵◌, !, qed, by, move, keep, use2, split, join, rewrite, fsplit, fsplit3, fjoin, fjoin3, feq_i, feq_l, suffices, frame, done}
 use types.Part.{whole, sub, agg, look_in, store_in}
@@ -29,11 +28,9 @@ use denote.Builtin.{RefMutOf}
 use denote.Signature.{plain}
 use denote.Steps.{nothing}
 use denote.Struct.Tuple.{Tuple}
-use denote.Triple.Carry.{spared}
 use denote.Triple.Clauses.{Clauses, Ended, closing}
 use denote.Triple.Entry.{on_entry}
-use denote.Triple.Spec.{Meets, triple_of}
-use denote.Triple.Table.{entered, run_framed}
+use denote.Triple.Spec.{Meets}
 use denote.Triple.Walked.{says, needs, Stays, stay_ref, walk_of, ends_at, Goes-ref, walk_Meets}
 use Rattle.std_alloc.proofs.VecSteps.Shapes.{after}
 use Rattle.std_alloc.proofs.RcSteps.{Ptr-Good}

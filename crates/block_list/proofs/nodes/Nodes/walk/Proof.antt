@@ -12,7 +12,6 @@ use base.Fml.{Lft, Share, ftrue, flft}
 use prog.Wp.{Calls, Loops, WpFn, Tables}
 use types.Logic.{Logic}
 use contract.Monad.{fact}
-use contract.Running.{tables, tables_of}
 use sound.WpLaws.{WpFn-mono}
 use types.Kit.{Item, ⋆, ‵, ◌⊛◌, ◌$◌, ◌∵◌, !, qed, by, move, keep, split, join, fsplit, fjoin, feq_l, suffices, done}
 use types.Part.{agg}
@@ -27,11 +26,9 @@ use denote.Builtin.{RefOf}
 use denote.Signature.{plain, named_lft}
 use denote.Steps.{nothing}
 use denote.Struct.Struct.{as_fields}
-use denote.Triple.Carry.{spared}
 use denote.Triple.Clauses.{Clauses, Ended, closing}
 use denote.Triple.Entry.{on_entry}
-use denote.Triple.Spec.{Meets, triple_of}
-use denote.Triple.Table.{entered, run_framed}
+use denote.Triple.Spec.{Meets}
 use denote.Triple.Walked.{says, Stays, stay_dropped, walk_of, ends_at, Goes-dropped, walk_Meets}
 use Rattle.std_alloc.proofs.RcSteps.{Ptr-Good}
 use Rattle.std_alloc.proofs.BoxSteps.Form.{Bx, args, R, P}
