@@ -1,12 +1,13 @@
 -- Lists of pieces that are drawn: numbers that stand as often in two lists give the same pieces, in some order
 -- (`same_pieces`).
-use Rattle.std.proofs.Common.{◌≡◌, ◌⊎◌, true, All, length, ℕ, zero, suc, ◌+◌, ◌<◌, List, [], ◌∷◌, ◌++◌, refl, sym, ap, ◌∙◌, ⊎_elim, subst, append_assoc, arith}
+use Rattle.std.proofs.Common.{◌≡◌, ◌⊎◌, true, All, length, ℕ, zero, suc, ◌+◌, ◌<◌, List, [], ◌∷◌, ◌++◌, refl, sym, ap, ◌∙◌, subst, append_assoc, arith}
 use Rattle.std.specs.List.{range_with_len, flat_map}
 use Rattle.std.specs.List.Sorted.{IsPermutation}
 use Rattle.std.proofs.lemmas.Bool.Decides.{nat_tests}
 use Rattle.std.proofs.lemmas.List.Concat.{flat_map-append}
 use Rattle.std.proofs.lemmas.List.Sorted.{IsPermutation-refl, IsPermutation-trans, IsPermutation-append_left, IsPermutation-append_right, IsPermutation-append_comm}
 use Rattle.list_totals.specs.Totals.{total, one_if_same, times, once_below}
+use Rattle.list_totals.proofs.Splitting.{split_at, split_rest}
 use Rattle.list_totals.proofs.Totals.{times_append, once_below_more}
 use Rattle.claim_word.specs.Passes.{Pass, EachDrawnOnce}
 
@@ -35,25 +36,6 @@ times_below x n =
 -- a number is another, and counts once, or is not
 same_or_not : (x y : ℕ) → (x ≡ y) ⊎ (one_if_same x y ≡ 0)
 same_or_not x y = grind (arith, nat_tests)
-
--- the two parts round a number
-record Split (x : ℕ) (ys : List ℕ) : Type 0 where
-  before : List ℕ
-  behind : List ℕ
-  is : ys ≡ before ++ x ∷ behind
-
--- one more number in front
-further : (x y : ℕ) (ys : List ℕ) → Split x ys → Split x (y ∷ ys)
-further x y ys s = record { before = y ∷ s.before; behind = s.behind; is = ap (λ l. y ∷ l) s.is }
-
--- a number that stands in a list divides it
-split_at : (x : ℕ) (ys : List ℕ) → 0 < times x ys → Split x ys
-split_at x [] some = absurd (omega arith)
-split_at x (y ∷ ys) some = ⊎_elim
-    (λ (same : x ≡ y). let s : Split x (y ∷ ys) =
-    record { before = []; behind = ys; is = ap (λ z. z ∷ ys) (sym same) } in s)
-    (λ (other : one_if_same x y ≡ 0). further x y ys (split_at x ys (omega arith)))
-    (same_or_not x y)
 
 -- a number counts as itself
 one_of : (x : ℕ) → one_if_same x x ≡ 1
@@ -84,15 +66,8 @@ module _ {X : Type 0} (f : ℕ → List X) where
   same_pieces (x ∷ xs) ys same =
       let one = one_of x in
       let here = same x in
-      let s : Split x ys = split_at x ys (omega arith) in
-      let rest = λ (z : ℕ).
-      let had = same z in
-      let cut = ap (times z) s.is in
-      let parts = times_append z s.before (x ∷ s.behind) in
-      let joined = times_append z s.before s.behind in
-      let e : times z xs ≡ times z (s.before ++ s.behind) = omega arith in
-      e in
-      let perm = same_pieces xs (s.before ++ s.behind) rest in
+      let s = split_at (one_if_same x) x ys (same_or_not x) (omega arith) in
+      let perm = same_pieces xs (s.before ++ s.behind) (λ z. split_rest (one_if_same z) x xs ys s (same z)) in
       subst (λ l. IsPermutation (flat_map f (x ∷ xs)) (flat_map f l)) (sym s.is)
       (IsPermutation-trans _ _ _
       (IsPermutation-append_right (f x) (flat_map f xs) (flat_map f (s.before ++ s.behind)) perm)
