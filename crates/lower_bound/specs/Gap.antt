@@ -1,7 +1,7 @@
 -- How far a query's sum lies outside the sums of a prefix, and what that costs. The symbols from a up to b, b left
 -- out, stand for the sums from l * B_a to l * B_b - 1 of a segment of length l: open below where a is 0, and open
 -- above where b is 256.
-use Rattle.std.specs.Prelude.{ℕ, ℤ, pos, negsuc, ◌+◌, ◌-◌, ◌*◌, ◌/◌, ◌^◌, ◌==◌, if◌then◌else◌, ◌-ℤ◌, ◌*ℤ◌, ◌≡◌, ◌<◌, List, length, slice_index, min, max}
+use Rattle.std.specs.Prelude.{ℕ, ℤ, pos, negsuc, ◌+◌, ◌-◌, ◌*◌, ◌/◌, ◌^◌, ◌==◌, if◌then◌else◌, ◌-ℤ◌, ◌*ℤ◌, ◌≤ℤ◌, neg_ℤ, ◌≡◌, ◌<◌, ◌≤◌, List, length, slice_index, min, max}
 use Rattle.breakpoints.specs.declared.table.Table.{Table}
 use Rattle.breakpoints.specs.Breakpoint.{breakpoint}
 use Rattle.isax_word.specs.declared.word.Part.{Part}
@@ -48,6 +48,13 @@ symbol_cost table length sum symbol = cost_of_gap length (gap table length sum s
 -- the symbol nearest to another among those whose first bits are a part's prefix
 abbrev pub nearest_symbol : Part → ℕ → ℕ
 nearest_symbol part symbol = max (first_symbol part) (min (end_symbol part - 1) symbol)
+
+-- the length of a segment and the sum of as many values of 16 bits
+pub record IsSum (long : ℕ) (sum : ℤ) : Type 0 where
+  pub some_values : 1 ≤ long
+  pub few_values : long ≤ 65536
+  pub not_low : neg_ℤ (pos (32768 * long)) ≤ℤ sum
+  pub not_high : sum ≤ℤ pos (32767 * long)
 
 -- a list that holds at each symbol its cost
 pub record HoldsCosts (table : Table) (long : ℕ) (sum : ℤ) (costs : List ℕ) : Type 0 where

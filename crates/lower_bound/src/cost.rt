@@ -1,8 +1,8 @@
 //! The cost of a symbol for a query's segment: how far the query's sum lies outside the symbol's sums.
-ghost use Rattle.std.specs.Prelude.{◌≡◌, ◌+◌, ◌*◌, ◌<◌, ◌≤◌, pos, neg_ℤ, ◌-ℤ◌, ◌*ℤ◌, ◌≤ℤ◌};
+ghost use Rattle.std.specs.Prelude.{◌≡◌, ◌+◌, ◌*◌, ◌<◌, ◌≤◌, pos, ◌-ℤ◌, ◌*ℤ◌};
 ghost use Rattle.breakpoints.specs.Breakpoint.{breakpoint};
 ghost use Rattle.isax_word.specs.declared.word.Part.{Part};
-ghost use Rattle.lower_bound.specs.Gap.{excess, gap, gap_below, gap_above, cost_of_gap, symbol_cost, part_cost, HoldsCosts};
+ghost use Rattle.lower_bound.specs.Gap.{excess, gap, gap_below, gap_above, cost_of_gap, symbol_cost, part_cost, IsSum, HoldsCosts};
 
 use breakpoints::Table;
 
@@ -56,10 +56,7 @@ fn above(table: Table, length: u32, sum: i32, end: u32) -> u64
 
 /// How far a sum lies outside the sums of one symbol.
 fn gap_of_symbol(table: Table, length: u32, sum: i32, symbol: u32) -> u64
-    requires some_values { 1 ≤ length }
-    requires few_values { length ≤ 65536 }
-    requires not_low { neg_ℤ (pos (32768 * length)) ≤ℤ sum }
-    requires not_high { sum ≤ℤ pos (32767 * length) }
+    requires is_sum { IsSum length sum }
     requires eight_bits { symbol < 256 }
     ensures value { result ≡ gap table length sum symbol (symbol + 1) }
     ensures bound { result ≤ 4278190080 }
@@ -84,10 +81,7 @@ fn cost_over(length: u32, gap: u64) -> u64
 
 /// The cost of one symbol for a segment of this length and sum: the square of the gap by the length, rounded up.
 fn cost_of_symbol(table: Table, length: u32, sum: i32, symbol: u32) -> u64
-    requires some_values { 1 ≤ length }
-    requires few_values { length ≤ 65536 }
-    requires not_low { neg_ℤ (pos (32768 * length)) ≤ℤ sum }
-    requires not_high { sum ≤ℤ pos (32767 * length) }
+    requires is_sum { IsSum length sum }
     requires eight_bits { symbol < 256 }
     ensures { result ≡ symbol_cost table length sum symbol }
 {
@@ -97,10 +91,7 @@ fn cost_of_symbol(table: Table, length: u32, sum: i32, symbol: u32) -> u64
 
 /// How far a sum lies outside the sums of the symbols that begin with one bit.
 fn gap_of_bit(table: Table, length: u32, sum: i32, bit: u32) -> u64
-    requires some_values { 1 ≤ length }
-    requires few_values { length ≤ 65536 }
-    requires not_low { neg_ℤ (pos (32768 * length)) ≤ℤ sum }
-    requires not_high { sum ≤ℤ pos (32767 * length) }
+    requires is_sum { IsSum length sum }
     requires one_bit { bit < 2 }
     ensures value { result ≡ gap table length sum (bit * 128) ((bit + 1) * 128) }
     ensures bound { result ≤ 4278190080 }
@@ -110,10 +101,7 @@ fn gap_of_bit(table: Table, length: u32, sum: i32, bit: u32) -> u64
 
 /// The cost of one bit as a part, for a segment of this length and sum.
 pub(crate) fn cost_of_bit(table: Table, length: u32, sum: i32, bit: u32) -> u64
-    requires some_values { 1 ≤ length }
-    requires few_values { length ≤ 65536 }
-    requires not_low { neg_ℤ (pos (32768 * length)) ≤ℤ sum }
-    requires not_high { sum ≤ℤ pos (32767 * length) }
+    requires is_sum { IsSum length sum }
     requires one_bit { bit < 2 }
     ensures { result ≡ part_cost table length sum (record { prefix = bit; bits = 1 }) }
 {
@@ -123,10 +111,7 @@ pub(crate) fn cost_of_bit(table: Table, length: u32, sum: i32, bit: u32) -> u64
 
 /// The costs of all 256 symbols for a segment of this length and sum.
 pub(crate) fn costs_of_symbols(table: Table, length: u32, sum: i32) -> [u64; 256]
-    requires some_values { 1 ≤ length }
-    requires few_values { length ≤ 65536 }
-    requires not_low { neg_ℤ (pos (32768 * length)) ≤ℤ sum }
-    requires not_high { sum ≤ℤ pos (32767 * length) }
+    requires { IsSum length sum }
     ensures { HoldsCosts table length sum result }
 {
     let mut costs = [0; 256];

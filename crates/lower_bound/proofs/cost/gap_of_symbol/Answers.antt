@@ -12,11 +12,11 @@ returns-clause-bound c =
     let here : sum ≡ c.args.sum = to_z-of_z w32 c.args.sum c.ranges.sum in
     let total : gap c.args.table c.args.length sum c.args.symbol (c.args.symbol + 1)
     ≤ 65280 * c.args.length
-    = gap-le c.args.table c.args.length sum c.args.symbol (c.args.symbol + 1) c.requires.some_values
+    = gap-le c.args.table c.args.length sum c.args.symbol (c.args.symbol + 1) c.requires.is_sum.some_values
     (omega arith) (omega (arith, c.requires.eight_bits))
-    (omega (arith, ints, here, c.requires.not_low))
-    (omega (arith, ints, here, c.requires.not_high)) in
-    omega (arith, total, c.below.ensures, c.above.ensures, c.requires.few_values)
+    (omega (arith, ints, here, c.requires.is_sum.not_low))
+    (omega (arith, ints, here, c.requires.is_sum.not_high)) in
+    omega (arith, total, c.below.ensures, c.above.ensures, c.requires.is_sum.few_values)
 
 pub overflow_add-result : goal.overflow_add-result
 overflow_add-result c = omega (arith, returns-clause-bound c)

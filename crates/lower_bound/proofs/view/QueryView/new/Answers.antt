@@ -13,11 +13,18 @@ use Rattle.lower_bound.proofs.Views.{HoldsView-view_of}
 use Rattle.lower_bound.proofs.HalfBounds.{view_of_sums, IsView-of_sums}
 use Rattle.lower_bound.proofs.view.QueryView.new.Goals as goal
 
-pub costs_of_symbols-requires-clause-not_low : goal.costs_of_symbols-requires-clause-not_low
-costs_of_symbols-requires-clause-not_low c =
+pub costs_of_symbols-requires : goal.costs_of_symbols-requires
+costs_of_symbols-requires c =
     let fits : FitsSigned w32 (get_or c.sums.new.into c.loop-j.j (pos 0)) = search rules in
-    (sum_bounds c.args.layout.now.cuts c.args.query.now c.sums.new.into _ c.loop-j.j _ _ c.sums.ensures.sums c.sums.ensures.not_low
-    c.sums.ensures.not_high (omega (arith, c.segments-j-end.ensures.value)) fits c.cut-from.ensures.from c.cut-from.ensures.to).0
+    let bounds = sum_bounds c.args.layout.now.cuts c.args.query.now c.sums.new.into _ c.loop-j.j _ _ c.sums.ensures.sums
+    c.sums.ensures.not_low c.sums.ensures.not_high (omega (arith, c.segments-j-end.ensures.value)) fits
+    c.cut-from.ensures.from c.cut-from.ensures.to in
+    record {
+      some_values = omega (arith, c.cut-from.ensures.not_empty);
+      few_values = omega (arith, c.cut-from.ensures.inside, c.segments-j-end.ensures.divides.short_row);
+      not_low = bounds.0;
+      not_high = bounds.1;
+    }
 
 pub loop-j-preserved : goal.loop-j-preserved
 loop-j-preserved c =
@@ -94,9 +101,3 @@ invariant_of-result c =
             c.bounds_of_bits-low.result) high c.bounds_of_bits-low.ensures);
       },
     )
-
-pub costs_of_symbols-requires-clause-not_high : goal.costs_of_symbols-requires-clause-not_high
-costs_of_symbols-requires-clause-not_high c =
-    let fits : FitsSigned w32 (get_or c.sums.new.into c.loop-j.j (pos 0)) = search rules in
-    (sum_bounds c.args.layout.now.cuts c.args.query.now c.sums.new.into _ c.loop-j.j _ _ c.sums.ensures.sums c.sums.ensures.not_low
-    c.sums.ensures.not_high (omega (arith, c.segments-j-end.ensures.value)) fits c.cut-from.ensures.from c.cut-from.ensures.to).1
