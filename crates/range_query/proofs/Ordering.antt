@@ -7,7 +7,7 @@ use Rattle.std.proofs.lemmas.Bool.Decides.{nat_tests}
 use Rattle.std.proofs.lemmas.List.Recursion.{is_sum_by}
 use Rattle.std.proofs.lemmas.List.Sorted.{sum_by-IsPermutation}
 use Rattle.list_totals.specs.Totals.{total}
-use Rattle.list_totals.proofs.Totals.{total_append}
+use Rattle.list_totals.proofs.Splitting.{split_at, split_rest}
 use Rattle.series_core.specs.declared.pair.Pair.{Pair}
 use Rattle.series_core.specs.Pairs.{is_before, insert, ascending}
 use Rattle.series_core.proofs.Order.{not_before_trans, same_pair}
@@ -38,25 +38,6 @@ same_or_not p q = ⊎_elim
     (cases_Bool (is_before q p)))
     (cases_Bool (is_before p q))
 
--- the two parts round a pair
-record Split (p : Pair) (qs : List Pair) : Type 0 where
-  before : List Pair
-  behind : List Pair
-  is : qs ≡ before ++ p ∷ behind
-
--- one more pair in front
-further : (p q : Pair) (qs : List Pair) → Split p qs → Split p (q ∷ qs)
-further p q qs s = record { before = q ∷ s.before; behind = s.behind; is = ap (λ l. q ∷ l) s.is }
-
--- a pair that stands in a list divides it
-split_at : (p : Pair) (qs : List Pair) → 0 < total (pair_count p) qs → Split p qs
-split_at p [] some = absurd (omega arith)
-split_at p (q ∷ qs) some = ⊎_elim
-    (λ (same : p ≡ q). let s : Split p (q ∷ qs) =
-    record { before = []; behind = qs; is = ap (λ z. z ∷ qs) (sym same) } in s)
-    (λ (other : pair_count p q ≡ 0). further p q qs (split_at p qs (omega arith)))
-    (same_or_not p q)
-
 -- a pair in the middle is inserted
 middle : (p : Pair) (before behind : List Pair)
     → ascending (before ++ p ∷ behind) ≡ insert p (ascending (before ++ behind))
@@ -72,15 +53,8 @@ same_ascending [] (q ∷ qs) same = absurd (let e = same (λ _. 1) in omega arit
 same_ascending (p ∷ ps) qs same =
     let one = one_itself p in
     let here = same (pair_count p) in
-    let s : Split p qs = split_at p qs (omega arith) in
-    let rest = λ (f : Pair → ℕ).
-    let had = same f in
-    let cut = ap (total f) s.is in
-    let parts = total_append f s.before (p ∷ s.behind) in
-    let joined = total_append f s.before s.behind in
-    let e : total f ps ≡ total f (s.before ++ s.behind) = omega arith in
-    e in
-    ap (insert p) (same_ascending ps (s.before ++ s.behind) rest)
+    let s = split_at (pair_count p) p qs (same_or_not p) (omega arith) in
+    ap (insert p) (same_ascending ps (s.before ++ s.behind) (λ f. split_rest f p ps qs s (same f)))
     ∙ sym (middle p s.before s.behind) ∙ sym (ap ascending s.is)
 
 -- a permutation is put into the same order
