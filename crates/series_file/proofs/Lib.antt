@@ -17,3 +17,4 @@ pub mod ReadBack
 pub mod Unique
 pub mod Passing
 pub mod Existence
+pub mod Stays

@@ -1,7 +1,8 @@
-use Rattle.std.proofs.Common.{◌≤◌, ◌-◌, ◌∙◌, length, arith, ℕ, length-take, length-drop}
+use Rattle.std.proofs.Common.{◌≤◌, ◌-◌, length, arith, ℕ, length-take, length-drop}
 use borrow.Rule.Slice.PartMut.{same_len_mid}
 use Rattle.outside.specs.Taken.{taken_then}
 use Rattle.series_file.proofs.Pieces.{take-put_mid_front}
+use Rattle.series_file.proofs.Stays.{stays_then}
 use Rattle.series_file.proofs.fill.fill.Goals as goal
 
 pub loop-done-preserved : goal.loop-done-preserved
@@ -18,12 +19,10 @@ loop-done-preserved g c =
     record {
       within = omega (arith, read.amount.0, length-take {A = ℕ}, length-drop {A = ℕ}, size);
       taken = rw front (taken_then _ _ _ _ _ before.taken read.taken);
-      stays_open = (
-        read.stays_open.0 ∙ before.stays_open.0,
-        read.stays_open.1
-            ∙ before.stays_open.1,
-      );
-      kept = read.kept ∙ before.kept;
-      counts = (omega (arith, read.counts.0), omega (arith, read.counts.1));
-      reliable = λ h. let b = before.reliable h in let r = read.reliable b.1 in (r.1 ∙ b.0, r.2);
+      stays = stays_then _ _ _ before.stays (record {
+        stays_open = read.stays_open;
+        kept = read.kept;
+        counts = read.counts;
+        sure = λ h. let r = read.reliable h in (r.1, r.2);
+      });
     }

@@ -1,9 +1,10 @@
-use Rattle.std.proofs.Common.{◌≡◌, ◌++◌, ◌/◌, ◌%◌, ◌+◌, ◌-◌, ◌≤◌, ◌<◌, ◌∙◌, ap, sym, refl, length, length-take, length-drop, length-append, take, drop, arith, ℕ, min}
+use Rattle.std.proofs.Common.{◌≡◌, ◌++◌, ◌/◌, ◌%◌, ◌+◌, ◌-◌, ◌≤◌, ◌<◌, ◌∙◌, ap, sym, length, length-take, length-drop, length-append, take, drop, arith, ℕ, min}
 use Rattle.std.proofs.Math.Nat.{zero-mod}
 use Rattle.series_file.proofs.Arriving.{Comes-piece, Comes-nothing, whole_sum, whole_less, whole_min}
 use Rattle.std.proofs.lemmas.Result.{err_from_is_err_and}
 use Rattle.outside.specs.Taken.{taken_then}
 use Rattle.series_file.proofs.Leaving.{ok-not-err, Leaves-memory}
+use Rattle.series_file.proofs.Stays.{stays, stays_then}
 use Rattle.series_file.proofs.items.read_pieces.Goals as goal
 
 pub returns-then-count-piece-clause-came : goal.returns-then-count-piece-clause-came
@@ -65,10 +66,12 @@ loop-bytes-preserved g c =
           (length c.loop-bytes.buffer)
           (whole_less g.T.Item.SIZE c.loop-bytes.bytes c.args.want before.limit before.whole c.requires.whole_want) whole_room));
       room = added.cells ∙ before.room ∙ ap (λ m. m / g.T.Item.SIZE) (sym size);
-      stays_open = (still.0 ∙ before.stays_open.0, still.1 ∙ before.stays_open.1);
-      kept = filled.files.kept ∙ before.kept;
-      counts = (omega (arith, filled.files.counts.0), omega (arith, filled.files.counts.1));
-      reliable = λ h. let b = before.reliable h in let r = filled.files.sure b.1 in (r.1 ∙ b.0, r.2);
+      stays = stays_then _ _ _ before.stays (record {
+        stays_open = still;
+        kept = filled.files.kept;
+        counts = filled.files.counts;
+        sure = λ h. let r = filled.files.sure h in (r.1, r.2);
+      });
     }
 
 pub loop-bytes-init : goal.loop-bytes-init
@@ -77,10 +80,7 @@ loop-bytes-init g c = record {
   limit = omega arith;
   whole = zero-mod g.T.Item.SIZE;
   room = c.requires.as_many;
-  stays_open = (refl, refl);
-  kept = refl;
-  counts = (omega arith, omega arith);
-  reliable = λ h. (refl, h);
+  stays = stays _;
 }
 
 -- Memory ran out after at most all that was wanted.

@@ -1,5 +1,6 @@
 use Rattle.std.proofs.Common.{◌-◌, ◌/◌, ◌%◌, ◌≡◌, ◌≤◌, length}
 use Rattle.series_file.specs.Items.{Comes}
+use Rattle.series_file.proofs.Stays.{Stays}
 use Rattle.series_file.proofs.items.read_pieces.Given as goal
 
 abbrev pub invariant-loop-bytes : goal.invariant-loop-bytes
@@ -9,13 +10,8 @@ invariant-loop-bytes g l = record {
   limit : l.bytes ≤ l.want;
   whole : l.bytes % g.T.Item.SIZE ≡ 0;
   room : length l.cells ≡ length l.buffer / g.T.Item.SIZE;
-  stays_open : (g.F.Files.at l.files ≡ g.F.Files.at l.initial.files) ×
-      (g.F.Files.blamed l.files ≡ g.F.Files.blamed l.initial.files);
-  kept : g.F.Files.held l.files ≡ g.F.Files.held l.initial.files;
-  counts : (g.F.Files.faults l.initial.files ≤ g.F.Files.faults l.files) ×
-      (g.F.Files.misses l.initial.files ≤ g.F.Files.misses l.files);
-  reliable : g.F.Files.reliable l.initial.files
-      → (g.F.Files.faults l.files ≡ g.F.Files.faults l.initial.files) × g.F.Files.reliable l.files;
+  stays : Stays g.F.Files.held g.F.Files.at g.F.Files.blamed g.F.Files.faults g.F.Files.misses g.F.Files.reliable
+      l.initial.files l.files;
 }
 
 abbrev pub decreases-loop-bytes : goal.decreases-loop-bytes
