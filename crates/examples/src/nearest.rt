@@ -3,10 +3,8 @@ ghost use Rattle.std.specs.Prelude.{◌≡◌, ◌≤◌, IfOk, length};
 ghost use Rattle.series_core.specs.Answer.{answer};
 
 use breakpoints::Table;
-use isax_word::Layout;
 use outside::{NoGate, NoMemory};
 use query_core::{Task, one_worker_answer};
-use segment_sums::Cuts;
 use series_core::{PairList, Rows};
 use std::alloc::Global;
 use std::thread::Threads;
@@ -25,13 +23,7 @@ pub fn nearest<T: Threads + Sync, R: Rows + Sync>(
     ensures { IfOk result (λ pairs. pairs ≡ answer (R.collection rows.now) query.now k) }
 {
     let length = rows.length();
-    let settings = Settings {
-        layout: Layout {
-            cuts: Cuts::new(length, length.min(16)),
-            table: Table::Bent,
-        },
-        leaf_size: 128,
-    };
+    let settings = Settings::new(length, length.min(16), Table::Bent, 128);
     let index = build(rt, alloc, rows, &settings, 4, &NoGate)?;
     let task = Task::new(rows, query, k, &settings.layout);
     one_worker_answer(alloc, &task, &index, 1)

@@ -3,9 +3,7 @@ ghost use Rattle.std.specs.Prelude.{◌≡◌, IfOk, length};
 ghost use Rattle.series_core.specs.Answer.{within};
 
 use breakpoints::Table;
-use isax_word::Layout;
 use outside::{NoGate, NoMemory};
-use segment_sums::Cuts;
 use series_core::{Pair, Rows};
 use std::alloc::Global;
 use std::thread::Threads;
@@ -23,13 +21,7 @@ pub fn within<T: Threads + Sync, R: Rows + Sync>(
     ensures { IfOk result (λ pairs. pairs.items ≡ within (R.collection rows.now) query.now radius) }
 {
     let length = rows.length();
-    let settings = Settings {
-        layout: Layout {
-            cuts: Cuts::new(length, length.min(16)),
-            table: Table::Bent,
-        },
-        leaf_size: 128,
-    };
+    let settings = Settings::new(length, length.min(16), Table::Bent, 128);
     let index = build(rt, alloc, rows, &settings, 4, &NoGate)?;
     range_query::within(
         rt,
