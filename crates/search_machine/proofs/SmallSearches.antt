@@ -4,10 +4,23 @@ use Rattle.std.proofs.lemmas.Bool.{cond-true, cond_both, lt-ltb, ltb-true}
 use Rattle.std.proofs.lemmas.Bool.Decides.{nat_tests}
 use Rattle.std.proofs.lemmas.Option.{none-some, same_Some}
 use Rattle.std.specs.Prelude.{slice_get}
-use Rattle.list_totals.specs.Totals.{one_if_same, times, total}
+use Rattle.list_totals.specs.Totals.{once_below, one_if_same, times, total}
 use Rattle.search_machine.specs.Examples.{six_bounds, six_distances, six_members, six_series, three_bounds, three_distances, three_members, three_series, two_bounds, two_members, two_series}
 use Rattle.search_machine.specs.Ground.{Fits}
 use Rattle.search_machine.proofs.Counts.{same_counts, times_cons}
+
+-- each leaf below n is below some root child, none twice, and no other is
+abbrev BelowOnce : List (List ℕ) → ℕ → Type 0
+BelowOnce roots n = ((l : ℕ) → l < n → 0 < total (times l) roots) × ((l : ℕ) → total (times l) roots ≤ 1)
+    × ((l : ℕ) → 0 < total (times l) roots → l < n)
+
+-- so it is where the leaves below n are counted once each
+placed : (roots : List (List ℕ)) (n : ℕ) → ((l : ℕ) → total (times l) roots ≡ once_below l n) → BelowOnce roots n
+placed roots n once = (
+  λ l low. let a = once l in let b : once_below l n ≡ 1 = grind (arith, nat_tests) in omega arith,
+  λ l. let a = once l in let b : once_below l n ≤ 1 = grind (arith, nat_tests) in omega arith,
+  λ l h. let a = once l in let b : 0 < once_below l n = omega arith in grind (arith, nat_tests),
+)
 
 -- a leaf of the two has its own number as its one member
 two_member : (l s : ℕ) → 0 < times s (two_members l) → (l ≡ s) × (l < 2)
@@ -46,6 +59,10 @@ two_some (suc (suc c)) ls e = absurd (none-some ls e)
 below_two : (l : ℕ) → total (times l) two_roots ≡ one_if_same l 0 + one_if_same l 1
 below_two l = omega arith
 
+-- each leaf of the two is below a root child once
+two_placed : BelowOnce two_roots 2
+two_placed = placed two_roots 2 (λ l. grind (arith, nat_tests))
+
 -- the search of two series fits, whatever the number of workers
 pub two_fits : (n : ℕ) → Fits (two_series (suc n))
 two_fits n = record {
@@ -58,23 +75,12 @@ two_fits n = record {
   one_home = λ l m s h k. (two_member l s h).0 ∙ sym (two_member m s k).0;
   home_once = two_once;
   bound_low = λ l s low h. two_bound l;
-  below_root = below;
-  below_once = λ l. once l;
-  below_real = λ l h. real l h;
+  below_root = two_placed.0;
+  below_once = two_placed.1;
+  below_real = two_placed.2;
   some_leaf = two_some;
   start_real = λ l e. let a = same_Some 1 l e in omega arith;
 }
-  where
-    below : (l : ℕ) → l < 2 → 0 < total (times l) two_roots
-    below zero h = omega arith
-    below (suc zero) h = omega arith
-    below (suc (suc l)) h = absurd (omega arith)
-
-    once : (l : ℕ) → total (times l) two_roots ≤ 1
-    once l = grind (arith, nat_tests)
-
-    real : (l : ℕ) → 0 < total (times l) two_roots → l < 2
-    real l h = grind (arith, nat_tests)
 
 -- which series is the member of a leaf of the three
 abbrev member_of : ℕ → ℕ
@@ -131,6 +137,10 @@ three_low (suc (suc l)) h = omega arith
 abbrev three_roots : List (List ℕ)
 three_roots = (0 ∷ 1 ∷ 2 ∷ []) ∷ []
 
+-- each leaf of the three is below a root child once
+three_placed : BelowOnce three_roots 3
+three_placed = placed three_roots 3 (λ l. grind (arith, nat_tests))
+
 -- it has leaves
 three_some : (c : ℕ) (ls : List ℕ) → slice_get three_roots c ≡ Some ls → 0 < length ls
 three_some zero ls e = let a = ap length (same_Some (0 ∷ 1 ∷ 2 ∷ []) ls e) in omega arith
@@ -139,10 +149,10 @@ three_some (suc c) ls e = absurd (none-some ls e)
 -- the search of three series fits
 pub three_fits : Fits three_series
 three_fits = record {
+  distance_limit = λ s h. omega (arith, three_limit s);
   some_rank = omega arith;
   some_queue = omega arith;
   some_worker = omega arith;
-  distance_limit = λ s h. let a = three_limit s in omega arith;
   member_real = λ l s low h. let a = three_member l s h in real_member l s a.1 a.0;
   has_home = three_home;
   one_home = λ l m s h k.
@@ -153,9 +163,9 @@ three_fits = record {
   bound_low = λ l s low h.
       let a = three_member l s h in
       subst (λ (n : ℕ). three_bounds l ≤ three_distances n) a.0 (three_low l a.1);
-  below_root = below;
-  below_once = λ l. once l;
-  below_real = λ l h. real l h;
+  below_root = three_placed.0;
+  below_once = three_placed.1;
+  below_real = three_placed.2;
   some_leaf = three_some;
   start_real = λ l e. let a = same_Some 0 l e in omega arith;
 }
@@ -164,18 +174,6 @@ three_fits = record {
     real_member zero s h e = omega arith
     real_member (suc zero) s h e = omega arith
     real_member (suc (suc l)) s h e = omega arith
-
-    below : (l : ℕ) → l < 3 → 0 < total (times l) three_roots
-    below zero h = omega arith
-    below (suc zero) h = omega arith
-    below (suc (suc zero)) h = omega arith
-    below (suc (suc (suc l))) h = absurd (omega arith)
-
-    once : (l : ℕ) → total (times l) three_roots ≤ 1
-    once l = grind (arith, nat_tests)
-
-    real : (l : ℕ) → 0 < total (times l) three_roots → l < 3
-    real l h = grind (arith, nat_tests)
 
 -- a leaf of the six has its own number as its one member
 six_member : (l s : ℕ) → 0 < times s (six_members l) → (l ≡ s) × (l < 6)
@@ -200,27 +198,22 @@ six_home s low =
     let here = cond-true (ltb s 6) (s ∷ []) [] (lt-ltb s 6 low) in
     (s, low, subst (λ (ms : List ℕ). 0 < times s ms) (sym here) (omega arith))
 
--- no distance is above 12
-six_limit : (s : ℕ) → six_distances s ≤ 12
-six_limit zero = omega arith
-six_limit (suc zero) = omega arith
-six_limit (suc (suc zero)) = omega arith
-six_limit (suc (suc (suc zero))) = omega arith
-six_limit (suc (suc (suc (suc zero)))) = omega arith
-six_limit (suc (suc (suc (suc (suc s))))) = omega arith
-
--- a leaf's bound is at most the distance of its member
-six_low : (l : ℕ) → six_bounds l ≤ six_distances l
-six_low zero = omega arith
-six_low (suc zero) = omega arith
-six_low (suc (suc zero)) = omega arith
-six_low (suc (suc (suc zero))) = omega arith
-six_low (suc (suc (suc (suc zero)))) = omega arith
-six_low (suc (suc (suc (suc (suc l))))) = omega arith
+-- a leaf's bound is at most the distance of its member, and no distance is above 12
+six_low : (l : ℕ) → (six_bounds l ≤ six_distances l) × (six_distances l ≤ 12)
+six_low zero = (omega arith, omega arith)
+six_low (suc zero) = (omega arith, omega arith)
+six_low (suc (suc zero)) = (omega arith, omega arith)
+six_low (suc (suc (suc zero))) = (omega arith, omega arith)
+six_low (suc (suc (suc (suc zero)))) = (omega arith, omega arith)
+six_low (suc (suc (suc (suc (suc l))))) = (omega arith, omega arith)
 
 -- the two root children of the six
 abbrev six_roots : List (List ℕ)
 six_roots = (0 ∷ 1 ∷ 2 ∷ []) ∷ (3 ∷ 4 ∷ 5 ∷ []) ∷ []
+
+-- each leaf of the six is below a root child once
+six_placed : BelowOnce six_roots 6
+six_placed = placed six_roots 6 (λ l. grind (arith, nat_tests))
 
 -- each has leaves
 six_some : (c : ℕ) (ls : List ℕ) → slice_get six_roots c ≡ Some ls → 0 < length ls
@@ -228,40 +221,22 @@ six_some zero ls e = let a = ap length (same_Some (0 ∷ 1 ∷ 2 ∷ []) ls e) i
 six_some (suc zero) ls e = let a = ap length (same_Some (3 ∷ 4 ∷ 5 ∷ []) ls e) in omega arith
 six_some (suc (suc c)) ls e = absurd (none-some ls e)
 
--- each leaf is below a root child
-below_six : (l : ℕ) → l < 6 → 0 < total (times l) six_roots
-below_six zero h = omega arith
-below_six (suc zero) h = omega arith
-below_six (suc (suc zero)) h = omega arith
-below_six (suc (suc (suc zero))) h = omega arith
-below_six (suc (suc (suc (suc zero)))) h = omega arith
-below_six (suc (suc (suc (suc (suc zero))))) h = omega arith
-below_six (suc (suc (suc (suc (suc (suc l)))))) h = absurd (omega arith)
-
--- once
-six_below : (l : ℕ) → total (times l) six_roots ≤ 1
-six_below l = grind (arith, nat_tests)
-
--- and nothing else is
-six_real : (l : ℕ) → 0 < total (times l) six_roots → l < 6
-six_real l h = grind (arith, nat_tests)
-
 -- the search of six series fits
 pub six_fits : Fits six_series
 six_fits = record {
   some_rank = omega arith;
   some_queue = omega arith;
   some_worker = omega arith;
-  distance_limit = λ s h. let a = six_limit s in omega arith;
+  distance_limit = λ s h. let a = (six_low s).1 in omega arith;
   member_real = λ l s low h. let a = six_member l s h in let b = a.0 in omega arith;
   has_home = six_home;
   one_home = λ l m s h k. (six_member l s h).0 ∙ sym (six_member m s k).0;
   home_once = six_once;
   bound_low = λ l s low h.
-      subst (λ (n : ℕ). six_bounds l ≤ six_distances n) (six_member l s h).0 (six_low l);
-  below_root = below_six;
-  below_once = λ l. six_below l;
-  below_real = λ l h. six_real l h;
+      subst (λ (n : ℕ). six_bounds l ≤ six_distances n) (six_member l s h).0 (six_low l).0;
+  below_root = six_placed.0;
+  below_once = six_placed.1;
+  below_real = six_placed.2;
   some_leaf = six_some;
   start_real = λ l e. let a = same_Some 0 l e in omega arith;
 }
