@@ -1,6 +1,6 @@
--- A box of means holds each of them (`box_holds`), so its bound is at most the bound of each (`box_below`); and so it is with a box
--- of boxes (`wider_below`).
-use Rattle.std.proofs.Common.{ℕ, zero, suc, ◌-◌, ◌<◌, ◌≤◌, arith, List, [], ◌∷◌, length, map, slice_index_or}
+-- The bound of a box is at most that of what it holds (`held_below`). A box of means holds each of them (`box_holds`), so its bound is at
+-- most the bound of each (`box_below`); and so it is with a box of boxes (`wider_below`).
+use Rattle.std.proofs.Common.{ℕ, zero, suc, ◌-◌, ◌*◌, ◌<◌, ◌≤◌, arith, List, [], ◌∷◌, length, map, slice_index_or}
 use Rattle.std.specs.Prelude.{min, max}
 use Rattle.std.specs.Simd.Lanes.{zip2, sum_l}
 use Rattle.std.proofs.lemmas.Nat.{mul-le}
@@ -41,6 +41,14 @@ squares_grow (l ∷ lows) (h ∷ highs) (e ∷ leasts) (c ∷ cs) (b ∷ bs) (g 
     let here = gap_grows l h e c b g low.0 high.0 in
     let behind = squares_grow lows highs leasts cs bs greatests low.1 high.1 in
     omega (arith, here, behind)
+
+-- the bound of a box is at most that of what lies between other ends within its own
+pub held_below : (v : View) (b : Box) (cs bs : List ℕ) → Under b.lows cs → Over b.highs bs
+    → box_bound v b ≤ v.least_length * sum_l (map square (gaps_between v.lows v.highs cs bs))
+held_below v b cs bs low high =
+    mul-le v.least_length (sum_l (map square (gaps_between v.lows v.highs b.lows b.highs)))
+    v.least_length (sum_l (map square (gaps_between v.lows v.highs cs bs)))
+    (omega arith) (squares_grow v.lows v.highs b.lows cs bs b.highs low high)
 
 -- the lesser of each two numbers lie under both
 lesser_under : (xs ys : List ℕ) → Under (zip2 min xs ys) ys
@@ -86,9 +94,7 @@ pub box_below : (v : View) (all : List (List ℕ)) (i : ℕ) → i < length all
 box_below v all i inside =
     let ms = slice_index_or all i [] in
     let held = box_holds all i inside in
-    mul-le v.least_length (sum_l (map square (gaps_between v.lows v.highs (box_of all).lows (box_of all).highs)))
-    v.least_length (sum_l (map square (gaps_between v.lows v.highs ms ms)))
-    (omega arith) (squares_grow v.lows v.highs (box_of all).lows ms ms (box_of all).highs held.0 held.1)
+    held_below v (box_of all) ms ms held.0 held.1
 
 -- the box that holds nothing
 abbrev none : Box
@@ -111,9 +117,6 @@ boxes_hold (b ∷ rest) (suc i) inside =
 pub wider_below : (v : View) (all : List Box) (i : ℕ) → i < length all
     → box_bound v (box_of_boxes all) ≤ box_bound v (slice_index_or all i (box_of []))
 wider_below v all i inside =
-    let wide = box_of_boxes all in
     let b = slice_index_or all i none in
     let held = boxes_hold all i inside in
-    mul-le v.least_length (sum_l (map square (gaps_between v.lows v.highs wide.lows wide.highs)))
-    v.least_length (sum_l (map square (gaps_between v.lows v.highs b.lows b.highs)))
-    (omega arith) (squares_grow v.lows v.highs wide.lows b.lows b.highs wide.highs held.0 held.1)
+    held_below v (box_of_boxes all) b.lows b.highs held.0 held.1

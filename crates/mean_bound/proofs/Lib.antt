@@ -1,9 +1,11 @@
 -- The lemmas of this crate.
 pub mod Squares
+pub mod Steps
 pub mod Lanes
 pub mod Cuts
 pub mod OfSegments
 pub mod BelowDistances
 pub mod Boxes
+pub mod InCells
 pub mod Fronts
 pub mod Parts

@@ -12,18 +12,21 @@ use Rattle.segment_sums.specs.Division.{IsDivision, cut_place, segment_length}
 use Rattle.segment_sums.proofs.Places.{cut_place_first, cut_place_inside}
 use Rattle.segment_sums.proofs.Sums.{length-segment_values}
 use Rattle.lower_bound.proofs.Bounds.{rest_splits}
-use Rattle.mean_bound.specs.Finer.{part_count, into_parts, within_part, part_values, part_means, part_view, finer_bound, finer_means, finer_view}
+use Rattle.mean_bound.specs.Cells.{box_of_cells}
+use Rattle.mean_bound.specs.Finer.{part_count, into_parts, within_part, part_values, part_means, part_cells, part_view, finer_bound, finer_means, finer_view}
 use Rattle.mean_bound.proofs.BelowDistances.{least_is_least, mean_bound_below}
+use Rattle.mean_bound.proofs.Boxes.{held_below}
+use Rattle.mean_bound.proofs.InCells.{cells_hold, means_reached}
 
--- there is a part for each 64 values at most, and four at most
-counted : (b : Bool) (n : ℕ) → (cond b 0 (min 4 (n / 64)) * 64 ≤ n) × (cond b 0 (min 4 (n / 64)) ≤ 4)
+-- there is a part for each 32 values at most, and eight at most
+counted : (b : Bool) (n : ℕ) → (cond b 0 (min 8 (n / 32)) * 32 ≤ n) × (cond b 0 (min 8 (n / 32)) ≤ 8)
 counted true n = (omega arith, omega arith)
-counted false n = (omega (arith, div-mul-le_self n 64), omega arith)
+counted false n = (omega (arith, div-mul-le_self n 32), omega arith)
 
-pub part_small : (n : ℕ) → part_count n * 64 ≤ n
+pub part_small : (n : ℕ) → part_count n * 32 ≤ n
 part_small n = (counted _ n).0
 
-pub part_few : (n : ℕ) → part_count n ≤ 4
+pub part_few : (n : ℕ) → part_count n ≤ 8
 part_few n = (counted _ n).1
 
 -- a row is divided into its parts
@@ -35,13 +38,13 @@ parts_divide n some short = record {
   short_row = short;
 }
 
--- a part has at least 64 values
-part_long : (n p : ℕ) → 1 ≤ n → n ≤ 65536 → p < part_count n → 64 ≤ segment_length (into_parts n) p
+-- a part has at least 32 values
+part_long : (n p : ℕ) → 1 ≤ n → n ≤ 65536 → p < part_count n → 32 ≤ segment_length (into_parts n) p
 part_long n p some short used =
     let least = least_is_least (into_parts n) p (parts_divide n some short) in
     let count : max (part_count n) 1 ≡ part_count n = omega (arith, used) in
-    let long : 64 ≤ n / max (part_count n) 1
-    = le-div 64 n (max (part_count n) 1) (omega arith) (omega (arith, count, part_small n)) in
+    let long : 32 ≤ n / max (part_count n) 1
+    = le-div 32 n (max (part_count n) 1) (omega arith) (omega (arith, count, part_small n)) in
     omega (arith, least, long)
 
 -- a part is divided into its segments
@@ -58,7 +61,7 @@ part_divides n p some short used =
 -- the bounds of the parts from one on are at most the distance of what is left of the rows from there
 from_part : (n : ℕ) (x q : List ℤ) (p k : ℕ) → 1 ≤ n → n ≤ 65536 → length x ≡ n → length q ≡ n
     → All (FitsSigned w16) x → All (FitsSigned w16) q → p + k ≡ part_count n
-    → finer_bound (map (part_view n q) (range_with_len p k)) (map (part_means n x) (range_with_len p k))
+    → finer_bound (map (part_view n q) (range_with_len p k)) (map (part_cells n x) (range_with_len p k))
     ≤ squared_distance (drop (cut_place (into_parts n) p) x) (drop (cut_place (into_parts n) p) q)
 from_part n x q p zero some short whole_x whole_q fit_x fit_q end = omega arith
 from_part n x q p (suc k) some short whole_x whole_q fit_x fit_q end =
@@ -66,12 +69,15 @@ from_part n x q p (suc k) some short whole_x whole_q fit_x fit_q end =
     let is = parts_divide n some short in
     let used : p < part_count n = omega (arith, end) in
     let within : p < d.segments = omega (arith, used) in
-    let here = mean_bound_below (within_part n p) (part_values n x p) (part_values n q p)
-    (part_divides n p some short used)
-    (length-segment_values d x p is whole_x within) (length-segment_values d q p is whole_q within)
-    (fits x fit_x) (fits q fit_q) in
+    let divides = part_divides n p some short used in
+    let long = length-segment_values d x p is whole_x within in
+    let here = mean_bound_below (within_part n p) (part_values n x p) (part_values n q p) divides
+    long (length-segment_values d q p is whole_q within) (fits x fit_x) (fits q fit_q) in
+    let means = part_means n x p in
+    let held = cells_hold means (means_reached (within_part n p) (part_values n x p) divides long (fits x fit_x)) in
+    let cells = held_below (part_view n q p) (box_of_cells (part_cells n x p)) means means held.0 held.1 in
     let behind = from_part n x q (p + 1) k some short whole_x whole_q fit_x fit_q (omega (arith, end)) in
-    omega (arith, here, behind, rest_splits d x q p is whole_x whole_q within)
+    omega (arith, here, cells, behind, rest_splits d x q p is whole_x whole_q within)
   where
     -- the values of a part fit 16 bits
     fits : (row : List ℤ) → All (FitsSigned w16) row → All (FitsSigned w16) (part_values n row p)

@@ -10,5 +10,5 @@ pub record AreFinerCuts (n count : ℕ) (whole : Division) (parts : List Divisio
   pub limit : n ≤ 65536
   pub counted : count ≡ part_count n
   pub cut : whole ≡ into_parts n
-  pub places : length parts ≡ 4
+  pub places : length parts ≡ 8
   pub each : take count parts ≡ map (within_part n) (range_with_len 0 count)

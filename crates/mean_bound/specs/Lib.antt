@@ -2,6 +2,7 @@
 pub mod Means
 pub mod MeanBound
 pub mod Boxes
+pub mod Cells
 pub mod Finer
 pub mod Kept
 pub use Rattle.segment_sums.specs.Division

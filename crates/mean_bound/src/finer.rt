@@ -1,10 +1,12 @@
-//! Finer means: a row of at least 128 values is cut into two to four parts, and each part into 16 segments. What the bound of
-//! a part tells is at most the distance of that part, so the bounds of all parts together are at most the distance.
-ghost use Rattle.std.specs.Prelude.{◌≡◌, ◌<◌, ◌≤◌, ◌^◌, length};
+//! Finer means: a row of at least 128 values is cut into four to eight parts, and each part into 16 segments, whose means are kept as
+//! cells. What the bound of a part tells is at most the distance of that part, so the bounds of all parts together are at most the
+//! distance.
+ghost use Rattle.std.specs.Prelude.{◌≡◌, ◌<◌, ◌≤◌, leb, length};
 ghost use Rattle.segment_sums.specs.Division.{segment_length};
-ghost use Rattle.mean_bound.specs.Finer.{finer_bound, finer_view, into_parts, part_count, part_means, part_values, part_view};
+ghost use Rattle.mean_bound.specs.Finer.{finer_bound, finer_view, into_parts, part_cells, part_count, part_means, part_values, part_view};
 ghost use Rattle.mean_bound.specs.Finer.{within_part};
 
+use crate::cells::MeanCells;
 use crate::means::Means;
 use crate::view::MeanView;
 use segment_sums::Cuts;
@@ -16,7 +18,7 @@ pub struct FinerCuts {
     length: u32,
     count: u32,
     whole: Cuts,
-    parts: [Cuts; 4],
+    parts: [Cuts; 8],
 }
 
 impl Model for FinerCuts {
@@ -39,7 +41,7 @@ impl FinerCuts {
     {
         let count = parts_of(n);
         let whole = Cuts::new(n, count.max(1));
-        let mut parts = [whole; 4];
+        let mut parts = [whole; 8];
         for p in 0..count {
             let (from, to) = whole.cut(p);
             parts[p as usize] = Cuts::new(to - from, 16);
@@ -52,18 +54,27 @@ impl FinerCuts {
         }
     }
 
-    /// How many parts a row has: none where it has fewer than 128 values, else 2 to 4.
+    /// How many parts a row has: none where it has fewer than 128 values, else 4 to 8.
     pub fn parts(&self) -> u32
         ensures count { result ≡ part_count self.now }
-        ensures few { result ≤ 4 }
+        ensures few { result ≤ 8 }
         ensures some { 1 ≤ self.now }
         ensures limit { self.now ≤ 65536 }
     {
         self.count
     }
 
-    /// The means of part `p` of a row.
-    pub fn means(&self, row: &[i16], p: u32) -> Means
+    /// The cells of the means of part `p` of a row.
+    pub fn cells(&self, row: &[i16], p: u32) -> MeanCells
+        requires length { length row.now ≡ self.now }
+        requires part { p < part_count self.now }
+        ensures { result ≡ part_cells self.now row.now p }
+    {
+        MeanCells::of(&self.means(row, p))
+    }
+
+    // The means of part p of a row.
+    fn means(&self, row: &[i16], p: u32) -> Means
         requires length { length row.now ≡ self.now }
         requires part { p < part_count self.now }
         ensures { result ≡ part_means self.now row.now p }
@@ -104,14 +115,14 @@ impl FinerCuts {
 fn parts_of(n: u32) -> u32
     ensures { result ≡ part_count n }
 {
-    if n < 128 { 0 } else { (n / 64).min(4) }
+    if n < 128 { 0 } else { (n / 32).min(8) }
 }
 
 /// A query as bounds by finer means see it: a view of each of its parts.
 #[derive(Drop)]
 pub struct FinerView {
     count: u32,
-    views: [MeanView; 4],
+    views: [MeanView; 8],
 }
 
 impl Model for FinerView {
@@ -122,7 +133,7 @@ impl Model for FinerView {
 
     ghost view = { λ v. take v.count v.views };
 
-    ghost invariant = { λ v. (v.count ≤ 4) × (length v.views ≡ 4) };
+    ghost invariant = { λ v. (v.count ≤ 8) × (length v.views ≡ 8) };
 }
 
 impl FinerView {
@@ -132,7 +143,7 @@ impl FinerView {
         ensures { result ≡ finer_view cuts.now query.now }
     {
         let count = cuts.parts();
-        let mut views = [MeanView::nothing(); 4];
+        let mut views = [MeanView::nothing(); 8];
         for p in 0..count {
             views[p as usize] = cuts.view(query, p);
         }
@@ -142,21 +153,24 @@ impl FinerView {
     /// How many parts the query has.
     pub fn parts(&self) -> u32
         ensures count { result ≡ length self.now }
-        ensures few { result ≤ 4 }
+        ensures few { result ≤ 8 }
     {
         self.count
     }
 
-    /// The lower bound of a series by its finer means, which are one `Means` for each part.
-    pub fn bound(&self, means: &[Means]) -> u64
-        requires { length means.now ≡ length self.now }
-        ensures value { result ≡ finer_bound self.now means.now }
-        ensures small { result < 2 ^ 50 }
+    /// Whether the lower bound of a series by its finer means, which are one `MeanCells` for each part, is at most a limit. No part is
+    /// looked at behind the one that passes it.
+    pub fn is_within(&self, cells: &[MeanCells], limit: u64) -> bool
+        requires { length cells.now ≡ length self.now }
+        ensures { result ≡ leb (finer_bound self.now cells.now) limit }
     {
         let mut sum = 0;
         for p in 0..self.count as usize {
-            sum += self.views[p].bound(&means[p]);
+            sum += self.views[p].bound_box(&cells[p].around());
+            if sum > limit {
+                return false;
+            }
         }
-        sum
+        true
     }
 }

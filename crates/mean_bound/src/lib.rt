@@ -2,6 +2,7 @@
 //! can be to a query as far as its means tell. A bound is never above the distance.
 #![tactic(auto)]
 
+mod cells;
 mod finer;
 mod gaps;
 mod laws;
@@ -9,6 +10,7 @@ mod mean_box;
 mod means;
 mod view;
 
+pub use cells::MeanCells;
 pub use finer::{FinerCuts, FinerView};
 pub use laws::{
     box_bound_is_no_greater, finer_bound_is_below_distance, mean_bound_is_below_distance,

@@ -36,6 +36,7 @@ impl Means {
         ensures { result ≡ row_means cuts.now row.now }
     {
         match (cuts.segments(), cuts.length()) {
+            (16, 32) => Means::of_equal::<2>(cuts, row),
             (16, 64) => Means::of_equal::<4>(cuts, row),
             (16, 128) => Means::of_equal::<8>(cuts, row),
             (16, 256) => Means::of_equal::<16>(cuts, row),

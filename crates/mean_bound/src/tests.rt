@@ -1,5 +1,5 @@
 //! Worked bounds by means, and bounds of scattered rows against a plain computation of the sums that a mean stands for.
-use crate::{FinerCuts, FinerView, MeanBox, MeanView, Means};
+use crate::{FinerCuts, FinerView, MeanBox, MeanCells, MeanView, Means};
 use segment_sums::Cuts;
 use std::alloc::Global;
 use std::process::Abort;
@@ -45,9 +45,9 @@ fn floor(number: i64, by: i64) -> i64 {
     if by <= 0 { 0 } else { number.div_euclid(by) }
 }
 
-/// How far a query's sum lies outside the sums that the mean of a series' sum stands for, in whole lengths.
-fn plain_gap(length: i64, sum: i64, query: i64) -> i64 {
-    let least = length.wrapping_mul(floor(sum, length));
+/// How far a query's sum lies outside the sums that a mean stands for, in whole lengths.
+fn gap_to_mean(length: i64, mean: i64, query: i64) -> i64 {
+    let least = length.wrapping_mul(mean);
     let most = least.wrapping_add(length).wrapping_sub(1);
     let outside = if query < least {
         least.wrapping_sub(query)
@@ -59,31 +59,61 @@ fn plain_gap(length: i64, sum: i64, query: i64) -> i64 {
     floor(outside, length).min(16383)
 }
 
+/// The length of segment `j` of `w`, and the sums of a series and of a query over it.
+fn plain_sums(series: &[i16], query: &[i16], w: usize, j: usize) -> (i64, i64, i64) {
+    if w == 0 {
+        return (0, 0, 0);
+    }
+    let n = series.len();
+    let from = j.wrapping_mul(n) / w;
+    let length = (j.wrapping_add(1).wrapping_mul(n) / w).wrapping_sub(from);
+    let mut sums = (0i64, 0i64);
+    for (value, asked) in series.iter().zip(query).skip(from).take(length) {
+        sums.0 = sums.0.wrapping_add(i64::from(*value));
+        sums.1 = sums.1.wrapping_add(i64::from(*asked));
+    }
+    (i64::try_from(length).unwrap_or(0), sums.0, sums.1)
+}
+
 /// The bound, from the definition of a gap.
 fn plain_bound(series: &[i16], query: &[i16], w: usize) -> u64 {
-    let n = series.len();
     if w == 0 {
         return 0;
     }
     let mut squares = 0i64;
     for j in 0..w {
-        let from = j.wrapping_mul(n) / w;
-        let to = j.wrapping_add(1).wrapping_mul(n) / w;
-        let mut sums = (0i64, 0i64);
-        for (value, asked) in series
-            .iter()
-            .zip(query)
-            .skip(from)
-            .take(to.wrapping_sub(from))
-        {
-            sums.0 = sums.0.wrapping_add(i64::from(*value));
-            sums.1 = sums.1.wrapping_add(i64::from(*asked));
-        }
-        let length = i64::try_from(to.wrapping_sub(from)).unwrap_or(0);
-        let gap = plain_gap(length, sums.0, sums.1);
+        let (length, sum, asked) = plain_sums(series, query, w, j);
+        let gap = gap_to_mean(length, floor(sum, length), asked);
         squares = squares.wrapping_add(gap.wrapping_mul(gap));
     }
-    (squares.unsigned_abs()).wrapping_mul((n / w) as u64)
+    (squares.unsigned_abs()).wrapping_mul((series.len() / w) as u64)
+}
+
+/// The bound of a part by the cells of its sixteen means, from the definition: a cell begins at a multiple of the least width by
+/// which all means lie in 128 cells to either side, and the gap is that of the nearest mean in it.
+fn plain_part_bound(series: &[i16], query: &[i16]) -> u64 {
+    let mut width = 1i64;
+    for _ in 0..8 {
+        let reached = (0..16usize).all(|j| {
+            let (length, sum, _) = plain_sums(series, query, 16, j);
+            let mean = floor(sum, length);
+            width.wrapping_mul(-128) <= mean && mean < width.wrapping_mul(128)
+        });
+        if !reached {
+            width = width.wrapping_mul(2);
+        }
+    }
+    let mut squares = 0i64;
+    for j in 0..16 {
+        let (length, sum, asked) = plain_sums(series, query, 16, j);
+        let first = floor(floor(sum, length), width).wrapping_mul(width);
+        let gap = (0..width)
+            .map(|i| gap_to_mean(length, first.wrapping_add(i), asked))
+            .min()
+            .unwrap_or(0);
+        squares = squares.wrapping_add(gap.wrapping_mul(gap));
+    }
+    (squares.unsigned_abs()).wrapping_mul((series.len() / 16) as u64)
 }
 
 /// Values scattered over `bits` bits.
@@ -147,7 +177,7 @@ fn a_box_bounds_what_lies_in_it(rt: HostRuntime) -> Result<(), Fail> {
 
 #[test]
 fn bounds_of_the_usual_lengths_are_those_of_the_sums(rt: HostRuntime) -> Result<(), Fail> {
-    for n in [64usize, 128, 256, 512, 1024] {
+    for n in [32usize, 64, 128, 256, 512, 1024] {
         for seed in 1..=12u64 {
             let series = scattered(seed, 2 + (seed % 15) as u32);
             let query = scattered(seed + 100, 16);
@@ -188,21 +218,57 @@ fn a_box_of_boxes_bounds_what_lies_in_each(rt: HostRuntime) -> Result<(), Fail> 
     Ok(())
 }
 
-/// The bound by the finer means of two series of one length.
-fn finer_bound(rt: &impl Abort, alloc: Global, series: &[i16], query: &[i16]) -> Result<u64, Fail> {
+#[test]
+fn cells_are_as_narrow_as_can_be(rt: HostRuntime) -> Result<(), Fail> {
+    // a value beside zeros, and the least and the greatest mean of the cells of both, less 32768
+    let rows: [(i16, (i32, i32), (i32, i32)); 9] = [
+        (0, (0, 0), (0, 0)),
+        (127, (127, 127), (0, 0)),
+        (-128, (-128, -128), (0, 0)),
+        (128, (128, 129), (0, 1)),
+        (-129, (-130, -129), (0, 1)),
+        (1000, (1000, 1007), (0, 7)),
+        (-16384, (-16384, -16257), (0, 127)),
+        (16384, (16384, 16639), (0, 255)),
+        (-32768, (-32768, -32513), (0, 255)),
+    ];
+    for (value, own, others) in rows {
+        for place in 0..16 {
+            let mut row = [0; 16];
+            row[place] = value;
+            let around = MeanCells::of(&Means::of(&Cuts::new(16, 16), &row)).around();
+            for j in 0..16 {
+                let (low, high) = if j == place { own } else { others };
+                let expected = (low.wrapping_add(32768), high.wrapping_add(32768));
+                let found = (i32::from(around.lows[j]), i32::from(around.highs[j]));
+                assert_eq!(rt; found, expected, "cell {j} of {value} at {place}");
+            }
+        }
+    }
+    Ok(())
+}
+
+/// Whether the bound by the finer means of two series of one length is at most a limit.
+fn is_within(
+    rt: &impl Abort,
+    alloc: Global,
+    series: &[i16],
+    query: &[i16],
+    limit: u64,
+) -> Result<bool, Fail> {
     let n = series.len();
     assert!(rt; n == query.len() && 1 <= n && n <= 65536, "{n} values");
     let cuts = FinerCuts::new(n as u32);
-    let mut means = Vec::new(alloc);
+    let mut cells = Vec::new(alloc);
     for p in 0..cuts.parts() {
-        means.push(cuts.means(series, p))?;
+        cells.push(cuts.cells(series, p))?;
     }
     let view = FinerView::new(&cuts, query);
     assert!(rt;
-        means.len() == view.parts() as usize,
-        "means of all parts of {n} values"
+        cells.len() == view.parts() as usize,
+        "cells of all parts of {n} values"
     );
-    Ok(view.bound(&means))
+    Ok(view.is_within(&cells, limit))
 }
 
 #[test]
@@ -211,10 +277,10 @@ fn finer_bounds_are_those_of_the_parts(rt: HostRuntime) -> Result<(), Fail> {
     let rows: [(usize, &[usize]); 6] = [
         (1, &[]),
         (127, &[]),
-        (128, &[64, 128]),
-        (191, &[95, 191]),
-        (200, &[66, 133, 200]),
-        (299, &[74, 149, 224, 299]),
+        (128, &[32, 64, 96, 128]),
+        (191, &[38, 76, 114, 152, 191]),
+        (200, &[33, 66, 100, 133, 166, 200]),
+        (299, &[37, 74, 112, 149, 186, 224, 261, 299]),
     ];
     for (n, ends) in rows {
         for seed in 1..=5u64 {
@@ -224,15 +290,17 @@ fn finer_bounds_are_those_of_the_parts(rt: HostRuntime) -> Result<(), Fail> {
             let mut from = 0;
             for end in ends {
                 assert!(rt; from <= *end && *end <= 1024, "a part up to {end}");
-                let bound = plain_bound(&series[from..*end], &query[from..*end], 16);
+                let bound = plain_part_bound(&series[from..*end], &query[from..*end]);
                 expected = expected.wrapping_add(bound);
                 from = *end;
             }
-            assert_eq!(rt;
-                finer_bound(&rt, rt.alloc(), &series[..n], &query[..n])?,
-                expected,
-                "{n} values from {seed}"
-            );
+            for (limit, within) in [(expected, true), (expected.wrapping_sub(1), expected == 0)] {
+                assert_eq!(rt;
+                    is_within(&rt, rt.alloc(), &series[..n], &query[..n], limit)?,
+                    within,
+                    "{n} values from {seed} within {limit}"
+                );
+            }
         }
     }
     Ok(())

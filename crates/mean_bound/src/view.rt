@@ -48,6 +48,7 @@ impl MeanView {
         ensures { result ≡ mean_view_of cuts.now query.now }
     {
         match (cuts.segments(), cuts.length()) {
+            (16, 32) => MeanView::of_equal::<2>(cuts, query),
             (16, 64) => MeanView::of_equal::<4>(cuts, query),
             (16, 128) => MeanView::of_equal::<8>(cuts, query),
             (16, 256) => MeanView::of_equal::<16>(cuts, query),

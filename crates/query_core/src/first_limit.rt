@@ -6,7 +6,7 @@ ghost use Rattle.query_core.specs.Questions.{last_of};
 use crate::index_laws::search_law;
 use crate::scan::distance_of_worst;
 use crate::task::Task;
-use mean_bound::Means;
+use mean_bound::{MeanCells, Means};
 use outside::NoMemory;
 use series_core::{KBest, NONE, Rows};
 use std::alloc::Global;
@@ -61,14 +61,14 @@ impl<'a, R: Rows> Task<'a, R> {
     }
 
     // Whether neither the means nor the finer means of the member at a place of a leaf lie above the limit.
-    fn may_be_near(&self, means: &Means, finer: &[Means], place: usize, limit: u64) -> bool {
+    fn may_be_near(&self, means: &Means, finer: &[MeanCells], place: usize, limit: u64) -> bool {
         if self.means().bound(means) > limit {
             return false;
         }
         let parts = self.finer().parts() as usize;
         let first = place.saturating_mul(parts);
         match finer.get(first..first.saturating_add(parts)) {
-            Some(own) if own.len() == parts => self.finer().bound(own) <= limit,
+            Some(own) if own.len() == parts => self.finer().is_within(own, limit),
             _ => true,
         }
     }

@@ -14,7 +14,7 @@ use crate::index_laws::search_law;
 use crate::scan::most_to_add;
 use crate::task::Task;
 use isax_word::Member;
-use mean_bound::Means;
+use mean_bound::{MeanCells, Means};
 use series_core::{KBest, Rows};
 use subtree_build::Index;
 
@@ -46,7 +46,7 @@ impl<'a, R: Rows> Task<'a, R> {
         &self,
         member: &Member,
         means: &Means,
-        finer: &[Means],
+        finer: &[MeanCells],
         limit: u64,
         most: u64,
         list: &mut KBest,
@@ -70,7 +70,7 @@ impl<'a, R: Rows> Task<'a, R> {
     }
 
     // Whether neither the member's means nor its finer means lie above the limit. Where one does, so does its distance.
-    fn may_be_within(&self, member: &Member, means: &Means, finer: &[Means], limit: u64) -> bool
+    fn may_be_within(&self, member: &Member, means: &Means, finer: &[MeanCells], limit: u64) -> bool
         requires member { IsMemberOf self.now member.now }
         requires means { means.now ≡ means_of self.now.collection self.now.layout member.now }
         requires finer { finer.now ≡ finer_of self.now.collection member.now }
@@ -79,12 +79,12 @@ impl<'a, R: Rows> Task<'a, R> {
             → limit < squared_distance (series_at self.now.collection member.now.number) self.now.query }
     {
         let _ = member;
-        self.means().bound(means) <= limit && self.finer().bound(finer) <= limit
+        self.means().bound(means) <= limit && self.finer().is_within(finer, limit)
     }
 }
 
 // The finer means of member `i` among those of all, with `parts` parts a member.
-fn of_member(finer: &[Means], parts: usize, i: usize) -> &[Means]
+fn of_member(finer: &[MeanCells], parts: usize, i: usize) -> &[MeanCells]
     requires { i * parts + parts ≤ length finer.now }
     ensures { result.now ≡ take parts (drop (i * parts) finer.now) }
 {

@@ -96,6 +96,7 @@ impl Cuts {
     {
         match (self.segments(), self.length()) {
             (8, 8) => self.equal_sums::<8, 1>(row, into),
+            (16, 32) => self.equal_sums::<16, 2>(row, into),
             (16, 64) => self.equal_sums::<16, 4>(row, into),
             (16, 128) => self.equal_sums::<16, 8>(row, into),
             (16, 256) => self.equal_sums::<16, 16>(row, into),
@@ -231,9 +232,10 @@ mod tests {
         for i in 0..1040u32 {
             row[i as usize] = value_at(i);
         }
-        let divisions: [(u32, u32); 9] = [
+        let divisions: [(u32, u32); 10] = [
             (8, 8),
             (16, 16),
+            (32, 16),
             (64, 16),
             (65, 16),
             (128, 16),

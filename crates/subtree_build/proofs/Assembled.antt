@@ -12,6 +12,7 @@ use Rattle.std.proofs.lemmas.Option.{same_Some, none-some}
 use Rattle.isax_word.specs.declared.member.Member.{Member}
 use Rattle.isax_word.specs.declared.word.Part.{Part}
 use Rattle.isax_word.specs.Word.{child_word, one_bit_word}
+use Rattle.mean_bound.specs.Cells.{Cells}
 use Rattle.subtree_build.specs.declared.leaf.GrownLeaf.{GrownLeaf}
 use Rattle.subtree_build.specs.declared.leaf.TreeLeaf.{TreeLeaf}
 use Rattle.subtree_build.specs.declared.node.Node.{Node}
@@ -203,7 +204,7 @@ parts_are_index w roots nodes words lists ix some few short make words_are w_is 
     }
 
 -- the same with other means is an index too
-pub other_means : (ix : IndexParts) (means finer : List (List (List ℕ))) → IsIndex ix
+pub other_means : (ix : IndexParts) (means : List (List (List ℕ))) (finer : List (List Cells)) → IsIndex ix
     → IsIndex (record ix { means = means; finer = finer })
 other_means ix means finer is = record {
   some_segments = is.some_segments;
@@ -282,7 +283,7 @@ module _ {w : ℕ} {roots : List ℕ} {nodes : List Node} {words : List (List Pa
     {lists : List (List Member)} {leaves : List GrownLeaf} {members : List Member} {places : List LeafPlace}
     (row : IsRow w roots nodes words firsts lists leaves members places) where
   -- the parts and the row, with some means
-  abbrev as_parts : (means finer : List (List (List ℕ))) → IndexParts
+  abbrev as_parts : (means : List (List (List ℕ))) (finer : List (List Cells)) → IndexParts
   as_parts means finer = record {
     segments = w;
     roots = roots;
@@ -297,7 +298,7 @@ module _ {w : ℕ} {roots : List ℕ} {nodes : List Node} {words : List (List Pa
   row_seen = ap (leaves_seen members) row.places_are ∙ seen_is_cut members 0 leaves ∙ row.cut
 
   -- make an index
-  pub row_is_index : (means finer : List (List (List ℕ))) → IsIndex (as_parts means finer)
+  pub row_is_index : (means : List (List (List ℕ))) (finer : List (List Cells)) → IsIndex (as_parts means finer)
   row_is_index means finer =
       parts_are_index w roots nodes words lists _ row.some row.few row.short row.make row.words_are refl refl refl row_seen
 
@@ -337,7 +338,7 @@ module _ {w : ℕ} {roots : List ℕ} {nodes : List Node} {words : List (List Pa
   )
 
   -- and it is one of these parts
-  pub row_of_parts : (means finer : List (List (List ℕ))) → IsOfParts w roots nodes lists (as_parts means finer)
+  pub row_of_parts : (means : List (List (List ℕ))) (finer : List (List Cells)) → IsOfParts w roots nodes lists (as_parts means finer)
   row_of_parts means finer = record {
     segments = refl;
     roots = refl;

@@ -8,7 +8,8 @@ use Rattle.std.proofs.Math.Nat.{mod-lt}
 use Rattle.std.proofs.lemmas.List.Elements.{All-nil, All-append, All-head, All-tail}
 use Rattle.series_core.specs.Collection.{Collection}
 use Rattle.mean_bound.proofs.Parts.{part_few}
-use Rattle.mean_bound.specs.Finer.{part_count, part_means}
+use Rattle.mean_bound.specs.Cells.{Cells, no_cells}
+use Rattle.mean_bound.specs.Finer.{part_cells, part_count}
 use Rattle.isax_word.specs.declared.layout.Layout.{Layout}
 use Rattle.isax_word.specs.declared.member.Member.{Member}
 use Rattle.subtree_build.specs.declared.leaf.GrownLeaf.{GrownLeaf}
@@ -96,29 +97,29 @@ pub means_there : (c : Collection) (layout : Layout) (members : List Member) (i 
 means_there c layout members i m inside item =
     ap (means_of c layout) item ∙ sym (get_or-map (means_of c layout) members i m [] inside)
 
--- a member has a `Means` for each part
+-- a member has cells for each part
 finer_long : (c : Collection) (m : Member) → length (finer_of c m) ≡ part_count (finer_points c)
-finer_long c m = length-map-range_with_len (part_means (finer_points c) (series_at c m.number)) 0 (part_count (finer_points c))
+finer_long c m = length-map-range_with_len (part_cells (finer_points c) (series_at c m.number)) 0 (part_count (finer_points c))
 
 -- so the finer means of all members are as many as the members times the parts of each
 pub length_finer : (c : Collection) (members : List Member)
     → length (all_finer c members) ≡ length members * part_count (finer_points c)
 length_finer c members = length_pieces (finer_of c) (part_count (finer_points c)) (finer_long c) members
 
--- the finer means at a place are those of a part of a member
+-- the cells at a place are those of a part of a member
 pub finer_there : (c : Collection) (members : List Member) (i : ℕ) (m : Member)
     → i < length members * part_count (finer_points c) → m ≡ get_or members (i / part_count (finer_points c)) m
-    → part_means (finer_points c) (series_at c m.number) (i % part_count (finer_points c)) ≡ get_or (all_finer c members) i []
+    → part_cells (finer_points c) (series_at c m.number) (i % part_count (finer_points c)) ≡ get_or (all_finer c members) i no_cells
 finer_there c members i m low item =
     let n = part_count (finer_points c) in
     let some : 0 < n = above_none (length members) n i low in
-    ap (λ (x : Member). part_means (finer_points c) (series_at c x.number) (i % n)) item
-    ∙ sym (get_or-map-range_with_len (part_means (finer_points c) (series_at c (get_or members (i / n) m).number)) 0 n (i % n)
-    (i % n) [] (mod-lt i some) (omega arith))
-    ∙ sym (in_pieces (finer_of c) n (finer_long c) members i m [] low)
+    ap (λ (x : Member). part_cells (finer_points c) (series_at c x.number) (i % n)) item
+    ∙ sym (get_or-map-range_with_len (part_cells (finer_points c) (series_at c (get_or members (i / n) m).number)) 0 n (i % n)
+    (i % n) no_cells (mod-lt i some) (omega arith))
+    ∙ sym (in_pieces (finer_of c) n (finer_long c) members i m no_cells low)
 
 -- the finer means of all members, cut by places, are those of the leaves at the places
-pub finer_are_own : (c : Collection) (members : List Member) (finer : List (List ℕ)) (places : List LeafPlace)
+pub finer_are_own : (c : Collection) (members : List Member) (finer : List Cells) (places : List LeafPlace)
     → finer ≡ all_finer c members
     → finer_seen (part_count (finer_points c)) finer places ≡ map (leaf_finer c) (leaves_seen members places)
 finer_are_own c members finer [] are = refl
@@ -126,7 +127,7 @@ finer_are_own c members finer (p ∷ places) are =
     let n = part_count (finer_points c) in
     let count = p.end - p.first in
     let here : take (count * n) (drop (p.first * n) finer) ≡ all_finer c (take count (drop p.first members))
-    = ap (λ (ms : List (List ℕ)). take (count * n) (drop (p.first * n) ms)) are
+    = ap (λ (ms : List Cells). take (count * n) (drop (p.first * n) ms)) are
     ∙ ap (take (count * n)) (drop_pieces (finer_of c) n (finer_long c) p.first members)
     ∙ take_pieces (finer_of c) n (finer_long c) count (drop p.first members) in
     let rest = finer_are_own c members finer places are in
@@ -136,7 +137,7 @@ finer_are_own c members finer (p ∷ places) are =
 pub finer_of_leaf : (c : Collection) (layout : Layout) (ix : IndexParts) (l : ℕ) → Fits c layout ix
     → l < length ix.leaves → finer_at ix.finer l ≡ all_finer c (leaf_at ix.leaves l).members
 finer_of_leaf c layout ix l fits real =
-    ap (λ (ms : List (List (List ℕ))). finer_at ms l) fits.own_finer
+    ap (λ (ms : List (List Cells)). finer_at ms l) fits.own_finer
     ∙ get_or-map (leaf_finer c) ix.leaves l no_leaf [] real
 
 -- and those of each of them stand behind those of the members before it
@@ -155,7 +156,7 @@ pub tables_are : (rows : Collection) (layout : Layout) (members : List Member) (
 tables_are rows layout members places t are = record {
   means_each = ap (λ (ms : List (List ℕ)). length ms) are.means ∙ length-map members (means_of rows layout);
   few_parts = omega (arith, are.parts, part_few (finer_points rows));
-  finer_each = ap (λ (ms : List (List ℕ)). length ms) are.finer ∙ length_finer rows members
+  finer_each = ap (λ (ms : List Cells). length ms) are.finer ∙ length_finer rows members
       ∙ ap (λ n. length members * n) (sym are.parts);
   boxes_are = are.boxes;
 }

@@ -3,6 +3,7 @@ use Rattle.std.specs.Prelude.{◌≡◌, ℕ, ◌^◌, ◌<◌, ◌≤◌, List,
 use Rattle.std.specs.List.{All, range_with_len, flat_map}
 use Rattle.std.specs.List.Sorted.{IsStrictlyIncreasing}
 use Rattle.isax_word.specs.declared.word.Part.{Part}
+use Rattle.mean_bound.specs.Cells.{Cells}
 use Rattle.isax_word.specs.Word.{part_at, child_word, one_bit_word}
 use Rattle.subtree_build.specs.declared.node.Node.{Node}
 use Rattle.subtree_build.specs.declared.leaf.TreeLeaf.{TreeLeaf}
@@ -17,7 +18,7 @@ pub record IndexParts : Type 0 where
   pub nodes : List Node
   pub leaves : List TreeLeaf
   pub means : List (List (List ℕ))
-  pub finer : List (List (List ℕ))
+  pub finer : List (List Cells)
 
 -- the leaf that stands past the end
 abbrev pub no_leaf : TreeLeaf

@@ -6,6 +6,7 @@ use Rattle.series_core.specs.declared.rows.TheConstants.{MAX_VALUES}
 use Rattle.isax_word.specs.declared.layout.Layout.{Layout}
 use Rattle.isax_word.specs.declared.member.Member.{Member}
 use Rattle.mean_bound.specs.Means.{row_means}
+use Rattle.mean_bound.specs.Cells.{Cells}
 use Rattle.mean_bound.specs.Finer.{finer_means}
 use Rattle.subtree_build.specs.declared.leaf.TreeLeaf.{TreeLeaf}
 use Rattle.subtree_build.specs.Members.{series_at}
@@ -32,17 +33,17 @@ abbrev pub finer_points : Collection → ℕ
 finer_points c = cond (ltb MAX_VALUES (length c.series * c.points)) 1 c.points
 
 -- the finer means of a member's series, part by part
-abbrev pub finer_of : Collection → Member → List (List ℕ)
+abbrev pub finer_of : Collection → Member → List Cells
 finer_of c m = finer_means (finer_points c) (series_at c m.number)
 
 -- the finer means of members, one after another
-abbrev pub all_finer : Collection → List Member → List (List ℕ)
+abbrev pub all_finer : Collection → List Member → List Cells
 all_finer c members = flat_map (finer_of c) members
 
 -- the finer means of a leaf's members
-abbrev pub leaf_finer : Collection → TreeLeaf → List (List ℕ)
+abbrev pub leaf_finer : Collection → TreeLeaf → List Cells
 leaf_finer c x = all_finer c x.members
 
 -- the finer means that stand for leaf l
-abbrev pub finer_at : List (List (List ℕ)) → ℕ → List (List ℕ)
+abbrev pub finer_at : List (List Cells) → ℕ → List Cells
 finer_at finer l = slice_index_or finer l []

@@ -3,6 +3,7 @@ use Rattle.std.specs.Prelude.{◌≡◌, ℕ, ◌+◌, ◌-◌, ◌*◌, ◌^◌
 use Rattle.std.specs.List.{All, range_with_len, flat_map}
 use Rattle.series_core.specs.Collection.{Collection}
 use Rattle.mean_bound.specs.Boxes.{Box, box_of, box_of_boxes}
+use Rattle.mean_bound.specs.Cells.{Cells}
 use Rattle.mean_bound.specs.Finer.{part_count}
 use Rattle.isax_word.specs.declared.layout.Layout.{Layout}
 use Rattle.subtree_build.specs.Means.{all_finer, all_means, finer_points}
@@ -51,7 +52,7 @@ pub record AreBoxes (means : List (List ℕ)) (places : List LeafPlace) (b : Box
   pub wide_groups : AreGroups 256 b.leaves.items b.wide_groups.items
 
 -- the finer means of the members at places, with `parts` parts a member
-abbrev pub finer_seen : ℕ → List (List ℕ) → List LeafPlace → List (List (List ℕ))
+abbrev pub finer_seen : ℕ → List Cells → List LeafPlace → List (List Cells)
 finer_seen parts finer places =
     map (λ p. take ((p.end - p.first) * parts) (drop (p.first * parts) finer)) places
 
@@ -71,7 +72,7 @@ AreAllSeen members places = (flat_map (λ x. x.members) (leaves_seen members pla
 -- the tables beside the members: the means of each, the finer means of its parts, and the boxes of the means at places
 pub record AreTables (members : List Member) (places : List LeafPlace) (t : Tables) : Type 0 where
   pub means_each : length t.means.items ≡ length members
-  pub few_parts : t.parts ≤ 4
+  pub few_parts : t.parts ≤ 8
   pub finer_each : length t.finer.items ≡ length members * t.parts
   pub boxes_are : AreBoxes t.means.items places t.boxes
 

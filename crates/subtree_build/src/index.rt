@@ -22,7 +22,7 @@ use crate::part::{Joined, placed};
 use crate::settings::Settings;
 use crate::tables::{Tables, blank_tables, tables_of};
 use isax_word::{Layout, Word};
-use mean_bound::{MeanBox, Means};
+use mean_bound::{MeanBox, MeanCells, Means};
 use outside::NoMemory;
 use series_core::Rows;
 use std::alloc::Global;
@@ -312,8 +312,8 @@ impl Index {
         &self.tables.means[place.first as usize..place.end as usize]
     }
 
-    /// The finer means of the members of leaf number `l`, in the order of the members: one `Means` for each part of a series.
-    pub fn leaf_finer(&self, l: u32) -> &[Means]
+    /// The finer means of the members of leaf number `l`, in the order of the members: one `MeanCells` for each part of a series.
+    pub fn leaf_finer(&self, l: u32) -> &[MeanCells]
         requires { l < length self.now.leaves }
         ensures { result.now ≡ finer_at self.now.finer l }
     {

@@ -1,12 +1,13 @@
 //! The means of members and their finer means, in the order of the members. Workers make them side by side, each for a
 //! stretch of members, so that a row is read once for either.
 ghost use Rattle.std.specs.Prelude.{◌≡◌, ℕ, ◌*◌, ◌^◌, ◌<◌, ◌≤◌, [], All, IfOk, length, slice_index_or};
-ghost use Rattle.mean_bound.specs.Finer.{part_count, part_means};
+ghost use Rattle.mean_bound.specs.Cells.{no_cells};
+ghost use Rattle.mean_bound.specs.Finer.{part_cells, part_count};
 ghost use Rattle.subtree_build.specs.Means.{all_finer, all_means, finer_points};
 ghost use Rattle.subtree_build.specs.Members.{series_at};
 
 use isax_word::Layout;
-use mean_bound::{FinerCuts, Means};
+use mean_bound::{FinerCuts, MeanCells, Means};
 use outside::NoMemory;
 use series_core::{MAX_VALUES, Rows};
 use std::alloc::Global;
@@ -86,7 +87,7 @@ pub fn finer_length<R: Rows>(rows: &R) -> u32
     }
 }
 
-/// The finer means of members, each of which is a series of the rows: one `Means` for each part of it.
+/// The finer means of members, each of which is a series of the rows: one `MeanCells` for each part of it.
 pub(crate) fn finer_of_all<H: Threads + Sync, R: Rows + Sync>(
     rt: &H,
     alloc: Global,
@@ -94,34 +95,34 @@ pub(crate) fn finer_of_all<H: Threads + Sync, R: Rows + Sync>(
     cuts: &FinerCuts,
     members: &[Member],
     workers: u32,
-) -> Result<Vec<Means>, NoMemory>
+) -> Result<Vec<MeanCells>, NoMemory>
     requires length { cuts.now ≡ finer_points (R.collection rows.now) }
     requires series { All (λ m. m.number < length (R.collection rows.now).series) members.now }
     requires few { length members.now < 2 ^ 32 }
     requires some { 1 ≤ workers }
     ensures { IfOk result (λ finer. finer.items ≡ all_finer (R.collection rows.now) members.now) }
 {
-    let mut finer = vec![in alloc; Means::zeros(); members.len() * cuts.parts() as usize]?;
+    let mut finer = vec![in alloc; MeanCells::zeros(); members.len() * cuts.parts() as usize]?;
     fill_finer(rt, rows, cuts, members, workers, finer.as_mut_slice());
     Ok(finer)
 }
 
-/// Puts the means of each part of each member at their place.
+/// Puts the cells of each part of each member at their place.
 fn fill_finer<H: Threads + Sync, R: Rows + Sync>(
     rt: &H,
     rows: &R,
     cuts: &FinerCuts,
     members: &[Member],
     workers: u32,
-    finer: &mut [Means],
+    finer: &mut [MeanCells],
 )
     requires length { cuts.now ≡ finer_points (R.collection rows.now) }
     requires series { All (λ m. m.number < length (R.collection rows.now).series) members.now }
     requires some { 1 ≤ workers }
     requires places { length finer.old ≡ length members.now * part_count cuts.now }
     ensures len { length finer.new ≡ length finer.old }
-    ensures each { (i : ℕ) (d : Means) → i < length finer.old
-        → slice_index_or finer.new i d ≡ slice_index_or (all_finer (R.collection rows.now) members.now) i [] }
+    ensures each { (i : ℕ) (d : MeanCells) → i < length finer.old
+        → slice_index_or finer.new i d ≡ slice_index_or (all_finer (R.collection rows.now) members.now) i no_cells }
 {
     thread::for_each_mut(
         rt,
@@ -131,26 +132,26 @@ fn fill_finer<H: Threads + Sync, R: Rows + Sync>(
     );
 }
 
-/// The means at place `i`: those of the part whose number is `i` by the number of parts, of the member before it.
-fn finer_at<R: Rows>(rows: &R, cuts: &FinerCuts, members: &[Member], i: usize) -> Means
+/// The cells at place `i`: those of the part whose number is `i` by the number of parts, of the member before it.
+fn finer_at<R: Rows>(rows: &R, cuts: &FinerCuts, members: &[Member], i: usize) -> MeanCells
     requires length { cuts.now ≡ finer_points (R.collection rows.now) }
     requires series { All (λ m. m.number < length (R.collection rows.now).series) members.now }
     requires inside { i < length members.now * part_count cuts.now }
-    ensures { result ≡ slice_index_or (all_finer (R.collection rows.now) members.now) i [] }
+    ensures { result ≡ slice_index_or (all_finer (R.collection rows.now) members.now) i no_cells }
 {
     let parts = cuts.parts() as usize;
     let part = (i % parts) as u32;
-    means_of_part(rows, cuts, &members[i / parts], part)
+    cells_of_part(rows, cuts, &members[i / parts], part)
 }
 
-/// The means of one part of a member.
-fn means_of_part<R: Rows>(rows: &R, cuts: &FinerCuts, member: &Member, part: u32) -> Means
+/// The cells of the means of one part of a member.
+fn cells_of_part<R: Rows>(rows: &R, cuts: &FinerCuts, member: &Member, part: u32) -> MeanCells
     requires length { cuts.now ≡ finer_points (R.collection rows.now) }
     requires series { member.now.number < length (R.collection rows.now).series }
     requires part { part < part_count cuts.now }
-    ensures { result ≡ part_means cuts.now (series_at (R.collection rows.now) member.now.number) part }
+    ensures { result ≡ part_cells cuts.now (series_at (R.collection rows.now) member.now.number) part }
 {
     // for the fact that the rows are a collection
     let _count = rows.count();
-    cuts.means(rows.row(member.number), part)
+    cuts.cells(rows.row(member.number), part)
 }

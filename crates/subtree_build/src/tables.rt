@@ -6,7 +6,7 @@ use crate::boxes::{Boxes, boxes_of};
 use crate::leaf::LeafPlace;
 use crate::means::{finer_length, finer_of_all, means_of_all};
 use isax_word::Layout;
-use mean_bound::{FinerCuts, Means};
+use mean_bound::{FinerCuts, MeanCells, Means};
 use outside::NoMemory;
 use series_core::Rows;
 use std::alloc::Global;
@@ -18,7 +18,7 @@ use summary_phase::Member;
 pub(crate) struct Tables {
     pub(crate) means: Vec<Means>,
     pub(crate) parts: u32,
-    pub(crate) finer: Vec<Means>,
+    pub(crate) finer: Vec<MeanCells>,
     pub(crate) boxes: Boxes,
 }
 

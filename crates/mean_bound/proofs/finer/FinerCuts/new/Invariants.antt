@@ -6,6 +6,6 @@ use Rattle.mean_bound.proofs.finer.FinerCuts.new.Given as goal
 
 abbrev pub invariant-loop-p : goal.invariant-loop-p
 invariant-loop-p l = record {
-  places : length l.parts ≡ 4;
+  places : length l.parts ≡ 8;
   each : take l.p l.parts ≡ map (within_part l.n) (range_with_len 0 l.p);
 }

@@ -1,10 +1,10 @@
 -- One more least and one more greatest mean stand behind those so far, in place of zeros.
-use Rattle.std.proofs.Common.{ℕ, List, ◌≡◌, ◌∙◌, ◌+◌, ◌-◌, ◌*◌, ◌/◌, ◌<◌, arith, ap, sym}
+use Rattle.std.proofs.Common.{ℕ, List, ◌≡◌, ◌∙◌, ◌+◌, ◌-◌, ◌/◌, ◌<◌, arith, ap, sym}
 use Rattle.segment_sums.specs.Division.{segment_length}
 use Rattle.segment_sums.proofs.Filled.{fill_next, filled}
 use Rattle.segment_sums.proofs.Places.{equal_lengths}
 use Rattle.mean_bound.specs.Means.{raised_sum}
-use Rattle.mean_bound.specs.MeanBound.{View, low_mean, high_mean}
+use Rattle.mean_bound.specs.MeanBound.{low_mean, high_mean}
 use Rattle.mean_bound.proofs.OfSegments.{at_segment}
 use Rattle.mean_bound.proofs.view.MeanView.of_equal.Goals as goal
 

@@ -5,6 +5,7 @@ use Rattle.std.proofs.Math.Nat.{mul-le-mul_right}
 use Rattle.std.proofs.lemmas.List.Elements.{All-get_or}
 use Rattle.std.proofs.lemmas.List.FromFn.{length-map-range_with_len}
 use Rattle.isax_word.specs.declared.member.Member.{Member}
+use Rattle.mean_bound.specs.Cells.{Cells}
 use Rattle.mean_bound.specs.Finer.{finer_view, part_count, part_view}
 use Rattle.mean_bound.specs.MeanBound.{View}
 use Rattle.subtree_build.specs.Index.{IndexParts, leaf_at}
@@ -23,7 +24,7 @@ within i n count long inside is =
     omega (arith, low, is)
 
 -- the finer means of a leaf are those of its members
-own_finer : (a : Question) (ix : IndexParts) (l : ℕ) (members : List Member) (finer : List (List ℕ))
+own_finer : (a : Question) (ix : IndexParts) (l : ℕ) (members : List Member) (finer : List Cells)
     → IndexFits a.collection a.layout ix → l < length ix.leaves → members ≡ (leaf_at ix.leaves l).members
     → finer ≡ finer_at ix.finer l → finer ≡ all_finer a.collection members
 own_finer a ix l members finer fits real are is =
@@ -47,7 +48,7 @@ of_member-own-requires g c =
     let parts = same_parts a c.finer.result.now c.parts-parts.result
     c.parts-parts.ensures.count c.finer.ensures.finer in
     let long : length finer ≡ length members * c.parts-parts.result
-    = ap (λ (ms : List (List ℕ)). length ms) own ∙ length_finer a.collection members
+    = ap (λ (ms : List Cells). length ms) own ∙ length_finer a.collection members
     ∙ ap (λ n. length members * n) (sym parts) in
     within c.loop-i.i c.parts-parts.result (length members) (length finer) c.loop-i-test.true long
 
@@ -75,7 +76,7 @@ meet_finely-most-requires-clause-finer g c =
     c.leaf_members-members.ensures c.leaf_finer-finer.ensures in
     let parts = same_parts a c.finer.result.now n c.parts-parts.ensures.count c.finer.ensures.finer in
     c.of_member-own.ensures
-    ∙ ap (λ (ms : List (List ℕ)). take n (drop (i * n) ms)) own
+    ∙ ap (λ (ms : List Cells). take n (drop (i * n) ms)) own
     ∙ ap (λ k. take k (drop (i * k) (all_finer a.collection members))) parts
     ∙ finer_of_one a.collection members i c.index-members-i.result c.loop-i-test.true c.index-members-i.is
 

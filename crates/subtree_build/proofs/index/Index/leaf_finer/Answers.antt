@@ -2,6 +2,7 @@
 use Rattle.std.proofs.Common.{◌≡◌, ◌∙◌, ◌-◌, ◌*◌, ℕ, List, [], take, drop, ap, sym, arith}
 use Rattle.std.proofs.Math.Nat.{mul-sub}
 use Rattle.std.proofs.lemmas.List.{get_or-map}
+use Rattle.mean_bound.specs.Cells.{Cells}
 use Rattle.subtree_build.specs.declared.leaf.LeafPlace.{LeafPlace}
 use Rattle.subtree_build.specs.Index.{IndexParts}
 use Rattle.subtree_build.specs.Means.{finer_at}
@@ -14,10 +15,10 @@ returns c =
     let l = c.args.l in
     let n = x.tables.parts in
     let p = c.index-place.result.now in
-    let part : LeafPlace → List (List ℕ) = λ q. take ((q.end - q.first) * n) (drop (q.first * n) x.tables.finer.items) in
+    let part : LeafPlace → List Cells = λ q. take ((q.end - q.first) * n) (drop (q.first * n) x.tables.finer.items) in
     let low = has_place x c.self.view_is l c.requires in
     let same : p.end * n - p.first * n ≡ (p.end - p.first) * n = omega (arith, mul-sub n p.end p.first) in
-    ap (λ (ms : List (List ℕ)). take (p.end * n - p.first * n) (drop (p.first * n) ms)) c.deref.ensures.value
+    ap (λ (ms : List Cells). take (p.end * n - p.first * n) (drop (p.first * n) ms)) c.deref.ensures.value
     ∙ ap (λ k. take k (drop (p.first * n) x.tables.finer.items)) same
     ∙ ap part c.index-place.ensures
     ∙ sym (get_or-map part x.leaves.items l p [] low)

@@ -2,10 +2,10 @@
 use Rattle.std.proofs.Common.{◌≡◌, ◌∙◌, ℤ, List, length, ap, sym}
 use Rattle.std.proofs.lemmas.Option.{get_or_from_slice_get}
 use Rattle.subtree_build.proofs.FinerPoints.{cut_whole}
-use Rattle.subtree_build.proofs.means.means_of_part.Goals as goal
+use Rattle.subtree_build.proofs.means.cells_of_part.Goals as goal
 
-pub means-requires-clause-length : goal.means-requires-clause-length
-means-requires-clause-length g c =
+pub cells-requires-clause-length : goal.cells-requires-clause-length
+cells-requires-clause-length g c =
     let all = g.R.Rows.collection c.args.rows.now in
     let row = c.row.result.now in
     let number = c.args.member.now.number in
