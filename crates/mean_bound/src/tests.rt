@@ -218,9 +218,25 @@ fn a_box_of_boxes_bounds_what_lies_in_each(rt: HostRuntime) -> Result<(), Fail> 
     Ok(())
 }
 
+/// The least and the greatest mean, less 32768, of the cell of each of sixteen values, one of which stands among zeros.
+fn ends_of_cells(value: i16, place: usize) -> [(i32, i32); 16] {
+    let mut row = [0; 16];
+    if let Some(there) = row.get_mut(place) {
+        *there = value;
+    }
+    let around = MeanCells::of(&Means::of(&Cuts::new(16, 16), &row)).around();
+    let mut ends = [(0, 0); 16];
+    for j in 0..16 {
+        let low = i32::from(around.lows[j]).wrapping_sub(32768);
+        let high = i32::from(around.highs[j]).wrapping_sub(32768);
+        ends[j] = (low, high);
+    }
+    ends
+}
+
 #[test]
 fn cells_are_as_narrow_as_can_be(rt: HostRuntime) -> Result<(), Fail> {
-    // a value beside zeros, and the least and the greatest mean of the cells of both, less 32768
+    // a value beside zeros, and the ends of its cell and of those of the zeros
     let rows: [(i16, (i32, i32), (i32, i32)); 9] = [
         (0, (0, 0), (0, 0)),
         (127, (127, 127), (0, 0)),
@@ -234,15 +250,10 @@ fn cells_are_as_narrow_as_can_be(rt: HostRuntime) -> Result<(), Fail> {
     ];
     for (value, own, others) in rows {
         for place in 0..16 {
-            let mut row = [0; 16];
-            row[place] = value;
-            let around = MeanCells::of(&Means::of(&Cuts::new(16, 16), &row)).around();
-            for j in 0..16 {
-                let (low, high) = if j == place { own } else { others };
-                let expected = (low.wrapping_add(32768), high.wrapping_add(32768));
-                let found = (i32::from(around.lows[j]), i32::from(around.highs[j]));
-                assert_eq!(rt; found, expected, "cell {j} of {value} at {place}");
-            }
+            let mut expected = [others; 16];
+            expected[place] = own;
+            let found = ends_of_cells(value, place);
+            assert_eq!(rt; &found[..], &expected[..], "cells of {value} at {place}");
         }
     }
     Ok(())
