@@ -4,5 +4,6 @@ mod Linking
 mod Made
 mod Rows
 mod Seeing
+mod Signing
 mod Steps
 mod Standing

@@ -39,6 +39,7 @@ use Rattle.std_alloc.proofs.BoxSteps.Form.{Bx, args, X, R}
 use Rattle.block_list.specs.Links.{Link, links_of, IsLinked}
 use Rattle.block_list.specs.Following.{with_last}
 use Rattle.block_list.proofs.Linking.{IsLinked-had, IsLinked-last}
+use Rattle.block_list.proofs.Signing.{signed, to_nodes}
 use Rattle.block_list.proofs.Standing.{boxed, here, stands}
 use Rattle.block_list.proofs.Steps.{last_of, words, Hd, D, Nr, eo, Held, One, last_out, last_in, nodes_made, nodes_opens, one_opens, one_closes, pointer, Frees}
 use Rattle.block_list.specs.contracts.nodes.Nodes.back_mut.Key.{name as #self}
@@ -51,12 +52,7 @@ module _ (E : Bx) where
 
   abbrev ended : Ended
   ended = record {
-    signature = record {
-      lifetimes = 1;
-      outlives = [];
-      params = RefMutOf (0 ∷ []) tt (plain (λ _. Nr E)) (λ _. tt) ∷ [];
-      result = RefMutOf (0 ∷ []) tt (plain (λ _. R E)) (λ _. tt);
-    };
+    signature = signed 1 (to_nodes E 0 tt ∷ []) (RefMutOf (0 ∷ []) tt (plain (λ _. R E)) (λ _. tt));
     kept = (no, tt);
   }
 

@@ -24,7 +24,7 @@ use denote.RattleType.{owns}
 use denote.Memory.{mem}
 use denote.RawPtr.{Ptr, block_ptr, ptr_val}
 use denote.Ref.{MutBor, MutRef}
-use denote.Builtin.{RefMutOf, unit}
+use denote.Builtin.{unit}
 use denote.Signature.{plain}
 use denote.Steps.{nothing}
 use denote.Triple.Clauses.{Clauses, Ended, closing}
@@ -36,6 +36,7 @@ use Rattle.std_alloc.proofs.RcSteps.{Ptr-Good}
 use Rattle.std_alloc.proofs.BoxSteps.Form.{Bx, args, X}
 use Rattle.block_list.specs.Links.{Link, links_of, IsLinked}
 use Rattle.block_list.proofs.Linking.{IsLinked-had, IsLinked-last, IsLinked-join}
+use Rattle.block_list.proofs.Signing.{signed, to_nodes}
 use Rattle.block_list.proofs.Standing.{boxed, here, stands}
 use Rattle.block_list.proofs.Steps.{first_of, last_of, Hd, D, Nr, Held, One, last_out, last_in, append_in, nodes_opens, nodes_closes, one_opens, one_closes}
 use Rattle.block_list.specs.contracts.nodes.Nodes.join.Key.{name as #self}
@@ -48,12 +49,7 @@ module _ (E : Bx) where
 
   abbrev ended : Ended
   ended = record {
-    signature = record {
-      lifetimes = 2;
-      outlives = [];
-      params = RefMutOf (0 ∷ []) tt (plain (λ _. Nr E)) (λ _. tt) ∷ RefMutOf (1 ∷ []) tt (plain (λ _. Nr E)) (λ _. tt) ∷ [];
-      result = plain (λ _. unit);
-    };
+    signature = signed 2 (to_nodes E 0 tt ∷ to_nodes E 1 tt ∷ []) (plain (λ _. unit));
     kept = (yes, (yes, tt));
   }
 

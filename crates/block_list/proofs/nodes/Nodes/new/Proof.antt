@@ -22,6 +22,7 @@ use denote.Triple.Entry.{on_entry}
 use denote.Triple.Spec.{Meets}
 use denote.Triple.Walked.{says, Stays, walk_of, ends_at, walk_Meets}
 use Rattle.std_alloc.proofs.BoxSteps.Form.{Bx, args}
+use Rattle.block_list.proofs.Signing.{signed}
 use Rattle.block_list.proofs.Standing.{boxed, here, stands}
 use Rattle.block_list.proofs.Steps.{words, D, Nr, nodes_made}
 use Rattle.block_list.specs.contracts.nodes.Nodes.new.Key.{name as #self}
@@ -34,7 +35,7 @@ module _ (E : Bx) where
 
   abbrev ended : Ended
   ended = record {
-    signature = record { lifetimes = 0; outlives = []; params = []; result = plain (λ _. Nr E) };
+    signature = signed 0 [] (plain (λ _. Nr E));
     kept = tt;
   }
 

@@ -17,7 +17,7 @@ use types.Part.{whole, sub, agg}
 use types.Run.{init, stop, fld, of_opd, and_then, no_more, assigns_last, first, blocks, exec, returns, enter}
 use types.ByLocal.{alloc_all, pass_all, free_all, look_at, get, get_in, through, sets, env}
 use denote.Exit.{no}
-use denote.RattleType.{RattleType, owns}
+use denote.RattleType.{owns}
 use denote.Memory.{lone}
 use denote.RawPtr.{Ptr, block_ptr, ptr_val}
 use denote.Signature.{plain}
@@ -33,8 +33,9 @@ use Rattle.core.proofs.alloc.Calls.{α, token, Fits, Goes-blank}
 use Rattle.std_alloc.proofs.RawLayout.{as_written}
 use Rattle.std_alloc.proofs.BoxSteps.Form.{Bx, args, X, τ, own, R, P}
 use Rattle.std_alloc.proofs.BoxSteps.Steps.{el_tells}
-use Rattle.std_alloc.proofs.OfVacant.{Vacant, vacant_val, vacant_typed, Vacant-had}
+use Rattle.std_alloc.proofs.OfVacant.{vacant_val, vacant_typed, Vacant-had}
 use Rattle.block_list.specs.contracts.nodes.Node as Block
+use Rattle.block_list.proofs.Signing.{Node, Room, signed}
 use Rattle.block_list.proofs.Standing.{boxed, here, stands}
 use Rattle.block_list.proofs.Steps.{words, node_val, Hd, D, Nr, block_ty, One, nodes_made}
 use Rattle.block_list.proofs.Made.{node_made}
@@ -46,25 +47,14 @@ module _ (E : Bx) where
   abbrev function : Fn
   function = inst_fn (args E) code.function
 
-  abbrev Node : RattleType
-  Node = Block.the_row (R E) (P E)
-
-  abbrev Room : RattleType
-  Room = Vacant E.al Node
-
   abbrev ended : Ended
   ended = record {
-    signature = record {
-      lifetimes = 0;
-      outlives = [];
-      params = plain (λ _. Room) ∷ plain (λ _. R E) ∷ [];
-      result = plain (λ _. Nr E);
-    };
+    signature = signed 0 (plain (λ _. Room E) ∷ plain (λ _. R E) ∷ []) (plain (λ _. Nr E));
     kept = (no, (no, tt));
   }
 
   abbrev stayed : Stays ended.signature.params ended.kept
-  stayed = (stay_dropped (plain (λ _. Room)) no, (stay_dropped (plain (λ _. R E)) no, tt))
+  stayed = (stay_dropped (plain (λ _. Room E)) no, (stay_dropped (plain (λ _. R E)) no, tt))
 
   abbrev spec : {M : Type 1} {𝓤 : Ura M} (𝓛 : Logic 𝓤) → Clauses 𝓤 ended
   spec {𝓤 = 𝓤} 𝓛 κs a = record {

@@ -24,7 +24,6 @@ use denote.RattleType.{RattleType, owns}
 use denote.Memory.{mem}
 use denote.RawPtr.{block_ptr, ptr_val}
 use denote.Ref.{MutBor, MutRef}
-use denote.Builtin.{RefMutOf}
 use denote.Signature.{plain}
 use denote.Steps.{nothing}
 use denote.Struct.Tuple.{Tuple}
@@ -34,12 +33,12 @@ use denote.Triple.Spec.{Meets}
 use denote.Triple.Walked.{says, needs, Stays, stay_ref, walk_of, ends_at, Goes-ref, walk_Meets}
 use Rattle.std_alloc.proofs.VecSteps.Shapes.{after}
 use Rattle.std_alloc.proofs.RcSteps.{Ptr-Good}
-use Rattle.std_alloc.proofs.BoxSteps.Form.{Bx, args, X, τ, R, P}
-use Rattle.std_alloc.proofs.OfVacant.{Vacant, vacant_val, vacant_ty, vacant_typed, Vacant-made}
+use Rattle.std_alloc.proofs.BoxSteps.Form.{Bx, args, X, τ, R}
+use Rattle.std_alloc.proofs.OfVacant.{vacant_val, vacant_ty, vacant_typed, Vacant-made}
 use Rattle.std_alloc.proofs.Pairs.{pair_val, pair_Typed, pair_of}
-use Rattle.block_list.specs.contracts.nodes.Node as Block
 use Rattle.block_list.specs.Links.{Link, links_of, IsLinked}
 use Rattle.block_list.proofs.Linking.{IsLinked-had, IsLinked-tail}
+use Rattle.block_list.proofs.Signing.{Node, Room, signed, to_nodes}
 use Rattle.block_list.proofs.Standing.{boxed, here, stands}
 use Rattle.block_list.proofs.Steps.{first_of, Hd, D, Nr, Held, nodes_opens, nodes_closes, one_opens, node_unmade, block_back}
 use Rattle.block_list.specs.contracts.nodes.Nodes.unlink_front.Key.{name as #self}
@@ -50,23 +49,12 @@ module _ (E : Bx) where
   abbrev function : Fn
   function = inst_fn (args E) code.function
 
-  abbrev Node : RattleType
-  Node = Block.the_row (R E) (P E)
-
-  abbrev Room : RattleType
-  Room = Vacant E.al Node
-
   abbrev Out : RattleType
-  Out = Tuple (R E ∷ Room ∷ [])
+  Out = Tuple (R E ∷ Room E ∷ [])
 
   abbrev ended : Ended
   ended = record {
-    signature = record {
-      lifetimes = 1;
-      outlives = [];
-      params = RefMutOf (0 ∷ []) tt (plain (λ _. Nr E)) (λ _. tt) ∷ [];
-      result = plain (λ _. Out);
-    };
+    signature = signed 1 (to_nodes E 0 tt ∷ []) (plain (λ _. Out));
     kept = (yes, tt);
   }
 

@@ -38,6 +38,7 @@ use Rattle.block_list.specs.contracts.walk.Walk as W
 use Rattle.block_list.specs.Links.{links_of}
 use Rattle.block_list.proofs.Linking.{IsLinked-had}
 use Rattle.block_list.proofs.Seeing.{walk_val, nodes_Seen, walk_made}
+use Rattle.block_list.proofs.Signing.{signed}
 use Rattle.block_list.proofs.Standing.{boxed, here, stands}
 use Rattle.block_list.proofs.Steps.{D, Nr}
 use Rattle.block_list.specs.contracts.nodes.Nodes.walk.Key.{name as #self}
@@ -50,12 +51,7 @@ module _ (E : Bx) where
 
   abbrev ended : Ended
   ended = record {
-    signature = record {
-      lifetimes = 1;
-      outlives = [];
-      params = RefOf (0 ∷ []) tt (plain (λ _. Nr E)) (λ _. tt) ∷ [];
-      result = plain (λ κs. W.the_row (named_lft 1 0 tt κs) (R E));
-    };
+    signature = signed 1 (RefOf (0 ∷ []) tt (plain (λ _. Nr E)) (λ _. tt) ∷ []) (plain (λ κs. W.the_row (named_lft 1 0 tt κs) (R E)));
     kept = (yes, tt);
   }
 
