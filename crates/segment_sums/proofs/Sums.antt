@@ -1,6 +1,6 @@
 -- Sums of the values of a segment: one of l values of 16 bits lies from -32768 * l to 32767 * l
 -- (`segment_sum_within`), and so does what was summed between two cut points (`sum_between_cuts`).
-use Rattle.std.proofs.Common.{◌≡◌, ℕ, ◌+◌, ◌*◌, ◌<◌, ◌≤◌, ℤ, pos, neg_ℤ, ◌≤ℤ◌, arith, List, [], ◌∷◌, ◌++◌, length, drop, get_or, replicate, ap, ◌∙◌, subst}
+use Rattle.std.proofs.Common.{◌≡◌, ℕ, ◌+◌, ◌*◌, ◌<◌, ◌≤◌, ℤ, pos, neg_ℤ, ◌≤ℤ◌, arith, List, [], ◌∷◌, ◌++◌, length, drop, get_or, replicate, set, ap, ◌∙◌, subst, below_more}
 use Rattle.std.specs.Prelude.{FitsSigned, slice_range}
 use Rattle.std.specs.Int.{w16}
 use Rattle.std.specs.List.{All}
@@ -9,7 +9,8 @@ use Rattle.std.proofs.lemmas.List.{length-take-le, length-drop, get_or_append_le
 use Rattle.std.proofs.lemmas.List.FromFn.{length-map-range_with_len, get_or-map-range_with_len}
 use Rattle.std.proofs.lemmas.List.Elements.{All-take, All-drop, All-head, All-tail}
 use Rattle.segment_sums.specs.Division.{Division, IsDivision, cut_place, segment_length}
-use Rattle.segment_sums.specs.Sum.{signed_sum, segment_values, segment_sum, segment_sums}
+use Rattle.segment_sums.specs.Sum.{signed_sum, segment_values, segment_sum, segment_sums, NoSumBelow, NoSumAbove}
+use Rattle.segment_sums.proofs.Filled.{filled, fill_next}
 use Rattle.segment_sums.proofs.Places.{cut_place_inside}
 
 -- a sum of values of 16 bits lies within the number of values times the least and the greatest
@@ -73,6 +74,28 @@ sum_between_cuts d row j from to sum is whole used first last summed not_low not
             (subst (λ n. sum ≤ℤ pos (32767 * n)) long not_high),
       ),
     )
+
+-- the sums of the first k segments, with zeros behind them up to n places, each sum within its bounds
+pub record SumsTo (d : Division) (row : List ℤ) (n k : ℕ) (xs : List ℤ) : Type 0 where
+  pub sums : xs ≡ filled (segment_sum d row) (pos 0) n k
+  pub not_low : NoSumBelow d row k
+  pub not_high : NoSumAbove d row k
+
+-- one more sum in place of the first zero: what sums the values between the next two cut points
+pub next_sum : (d : Division) (row : List ℤ) (j from to n : ℕ) (sum kept : ℤ) (sums : List ℤ) → IsDivision d
+    → length row ≡ d.row_length → j < d.segments → j < n
+    → from ≡ cut_place d j → to ≡ cut_place d (j + 1)
+    → sum ≡ signed_sum (slice_range row from to)
+    → neg_ℤ (pos (32768 * length (slice_range row from to))) ≤ℤ sum
+    → sum ≤ℤ pos (32767 * length (slice_range row from to))
+    → kept ≡ sum → SumsTo d row n j sums → SumsTo d row n (j + 1) (set sums j kept)
+next_sum d row j from to n sum kept sums is whole used room first last summed not_low not_high same before =
+    let sum_is = sum_between_cuts d row j from to sum is whole used first last summed not_low not_high in
+    record {
+      sums = fill_next (segment_sum d row) (pos 0) n j sums kept room before.sums (same ∙ sum_is.0);
+      not_low = below_more _ _ before.not_low sum_is.1.0;
+      not_high = below_more _ _ before.not_high sum_is.1.1;
+    }
 
 -- the sums of all segments with a padding behind them hold at each segment its sum
 pub segment_sums_at : (d : Division) (row sums : List ℤ) (n j : ℕ)

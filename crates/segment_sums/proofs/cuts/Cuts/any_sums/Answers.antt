@@ -1,11 +1,9 @@
 -- One more sum stands behind the sums so far, in place of a zero, and is within its bounds.
-use Rattle.std.proofs.Common.{rules, ◌∙◌, ◌<◌, pos, arith, below_more}
+use Rattle.std.proofs.Common.{rules, ◌<◌, arith}
 use Rattle.std.specs.Prelude.{FitsSigned}
 use Rattle.std.specs.Int.{w32}
 use Rattle.std.proofs.lemmas.Int.{to_z-of_z}
-use Rattle.segment_sums.specs.Sum.{segment_sum}
-use Rattle.segment_sums.proofs.Filled.{fill_next}
-use Rattle.segment_sums.proofs.Sums.{sum_between_cuts}
+use Rattle.segment_sums.proofs.Sums.{next_sum}
 use Rattle.segment_sums.proofs.cuts.Cuts.any_sums.Goals as goal
 
 pub loop-j-preserved : goal.loop-j-preserved
@@ -16,14 +14,7 @@ loop-j-preserved c =
     let is = c.segments-j-end.ensures.divides in
     let used : j < cuts.segments = omega (arith, c.segments-j-end.ensures.value) in
     let fits : FitsSigned w32 c.sum_of.result = search rules in
-    let sum = sum_between_cuts cuts row j c.cut-from.result.0 c.cut-from.result.1 c.sum_of.result is c.requires used
-    c.cut-from.ensures.from c.cut-from.ensures.to
-    c.sum_of.ensures.value c.sum_of.ensures.not_low c.sum_of.ensures.not_high in
-    record {
-      sums =
-          fill_next (segment_sum cuts row) (pos 0) 16 j c.loop-j.into _
-          (omega (arith, is.few_segments))
-          c.loop-j.invariant.sums (to_z-of_z w32 c.sum_of.result fits ∙ sum.0);
-      not_low = below_more _ _ c.loop-j.invariant.not_low sum.1.0;
-      not_high = below_more _ _ c.loop-j.invariant.not_high sum.1.1;
-    }
+    next_sum cuts row j c.cut-from.result.0 c.cut-from.result.1 16 c.sum_of.result _ c.loop-j.into is c.requires used
+    (omega (arith, is.few_segments)) c.cut-from.ensures.from c.cut-from.ensures.to
+    c.sum_of.ensures.value c.sum_of.ensures.not_low c.sum_of.ensures.not_high
+    (to_z-of_z w32 c.sum_of.result fits) c.loop-j.invariant

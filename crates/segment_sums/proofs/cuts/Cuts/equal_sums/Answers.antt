@@ -1,19 +1,15 @@
 -- One more sum stands behind the sums so far, in place of a zero, and is within its bounds.
-use Rattle.std.proofs.Common.{rules, ◌≡◌, ◌∙◌, ◌+◌, ◌*◌, ◌<◌, ◌≤◌, pos, sym, arith, below_more}
+use Rattle.std.proofs.Common.{rules, ◌≡◌, ◌∙◌, ◌+◌, ◌*◌, ◌<◌, ◌≤◌, sym, arith}
 use Rattle.std.specs.Prelude.{FitsSigned}
 use Rattle.std.specs.Int.{w32}
 use Rattle.std.proofs.lemmas.Int.{to_z-of_z}
-use Rattle.segment_sums.specs.Division.{cut_place}
-use Rattle.segment_sums.specs.Sum.{segment_sum}
-use Rattle.segment_sums.proofs.Filled.{fill_next}
 use Rattle.segment_sums.proofs.Places.{equal_places}
-use Rattle.segment_sums.proofs.Sums.{sum_between_cuts}
+use Rattle.segment_sums.proofs.Sums.{next_sum}
 use Rattle.segment_sums.proofs.cuts.Cuts.equal_sums.Goals as goal
 
 pub loop-j-preserved : goal.loop-j-preserved
 loop-j-preserved g c =
     let cuts = c.args.self.now in
-    let row = c.args.row.now in
     let j = c.loop-j.j in
     let w = g.row.W in
     let l = g.row.L in
@@ -22,15 +18,9 @@ loop-j-preserved g c =
     let used : j < cuts.segments = omega (arith, c.requires.segments) in
     let fits : FitsSigned w32 c.sum_of.result = search rules in
     let one_more : j * l + l ≡ (j + 1) * l = omega arith in
-    let sum = sum_between_cuts cuts row j (j * l) (j * l + l) c.sum_of.result is c.requires.length used
+    next_sum cuts c.args.row.now j (j * l) (j * l + l) 16 c.sum_of.result _ c.loop-j.into is c.requires.length used
+    (omega (arith, is.few_segments))
     (sym (equal_places cuts w l j some c.requires.segments c.requires.equal))
     (one_more ∙ sym (equal_places cuts w l (j + 1) some c.requires.segments c.requires.equal))
-    c.sum_of.ensures.value c.sum_of.ensures.not_low c.sum_of.ensures.not_high in
-    record {
-      sums =
-          fill_next (segment_sum cuts row) (pos 0) 16 j c.loop-j.into _
-          (omega (arith, is.few_segments))
-          c.loop-j.invariant.sums (to_z-of_z w32 c.sum_of.result fits ∙ sum.0);
-      not_low = below_more _ _ c.loop-j.invariant.not_low sum.1.0;
-      not_high = below_more _ _ c.loop-j.invariant.not_high sum.1.1;
-    }
+    c.sum_of.ensures.value c.sum_of.ensures.not_low c.sum_of.ensures.not_high
+    (to_z-of_z w32 c.sum_of.result fits) c.loop-j.invariant
