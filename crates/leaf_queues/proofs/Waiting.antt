@@ -147,6 +147,15 @@ module _ {Z : Type 0} (v : Vec Entry Z) (now ys : List Entry) (next : ℕ) (same
       ) in
       with_items_is v put_back (omega (arith, ap length is, count, v.ok.0)) ∙ is
 
+  -- all of it at once: what was moved, what the vector holds, and how many those are
+  pub record PutBack : Type 0 where
+    pub moved : IsPermutation (drop next v.items) ys
+    pub held : (with_items v put_back).items ≡ written v.items ys next inside
+    pub count : length (written v.items ys next inside) ≡ next + length ys
+
+  pub back : IsPermutation (mid_of next (length now - next) now) ys → PutBack
+  back p = record { moved = moves p; held = stored (moves p); count = written_count v.items ys next inside }
+
 module _ (entries : List Entry) (next capacity : ℕ) (kept : Option ℕ) (unshut : kept ≡ None)
     (inside : next ≤ length entries) where
   -- the queue

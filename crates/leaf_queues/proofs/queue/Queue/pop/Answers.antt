@@ -5,7 +5,7 @@ use Rattle.series_core.specs.declared.queue_words.PopReply.TheVariants.{Leaf, Cl
 use Rattle.leaf_queues.specs.PlainQueue.{pop, shut_with}
 use Rattle.leaf_queues.specs.Lines.{IsLeast, IsRun, IsDealt, ascending, waits_within}
 use Rattle.leaf_queues.proofs.Lines.{run_least}
-use Rattle.leaf_queues.proofs.Waiting.{none_left, queue_of, written, written_behind, same_queue, written_first, written_count, first_within, none_without_run, none_within, at_most, not_at_most, pop_leaf, pop_shuts, moves, stored}
+use Rattle.leaf_queues.proofs.Waiting.{none_left, queue_of, written, written_behind, same_queue, written_first, first_within, none_without_run, none_within, at_most, not_at_most, pop_leaf, pop_shuts, back}
 use Rattle.leaf_queues.proofs.queue.Queue.pop.Goals as goal
 use Rattle.leaf_queues.proofs.queue.Queue.pop.Goals.{then-self-gt0+else-least-far, else-self-gt0}
 
@@ -18,23 +18,20 @@ returns-then-least-far c =
     let run = c.reach-self-inside.ensures in
     let inside : q.next ≤ length xs = omega (arith, c.self.invariant.inside) in
     let unshut : q.kept ≡ None = none_left q.kept c.in_default.not-Some in
-    let p = moves q.entries c.deref_mut.result.now ys q.next c.deref_mut.ensures.value inside
-    run.permutation in
-    let held = stored q.entries c.deref_mut.result.now ys q.next c.deref_mut.ensures.value inside p in
+    let put = back q.entries c.deref_mut.result.now ys q.next c.deref_mut.ensures.value inside run.permutation in
     let ws = written xs ys q.next inside in
-    let count = written_count xs ys q.next inside in
-    let more : q.next < length ws = omega (arith, run.inside, c.if-self-gt0.true, count) in
-    let here : x ≡ get_or ws q.next x = c.index-least.ensures ∙ ap (λ l. get_or l q.next x) held in
+    let more : q.next < length ws = omega (arith, run.inside, c.if-self-gt0.true, put.count) in
+    let here : x ≡ get_or ws q.next x = c.index-least.ensures ∙ ap (λ l. get_or l q.next x) put.held in
     let first : x ≡ get_or ys 0 x = here ∙ written_first xs ys q.next inside x in
     let least : IsLeast x (drop q.next ws)
     = subst (IsLeast x) (sym (written_behind xs ys q.next inside))
     (run_least c.reach-self-inside.result ys x run.run c.if-self-gt0.true first) in
     let near : nat_le x.bound c.args.limit ≡ true
     = at_most x.bound c.args.limit (omega (arith, c.if-least-far.true, c.far.ensures)) in
-    (λ i. (queue_of (held i) (q.next + 1) q.capacity q.kept, Leaf x))
+    (λ i. (queue_of (put.held i) (q.next + 1) q.capacity q.kept, Leaf x))
     ∙ (sym (pop_leaf ws q.next q.capacity q.kept unshut (omega (arith, more)) c.args.limit x more here
     least near)
-    ∙ (ap (pop c.args.limit) (same_queue xs q.next q.capacity q.kept unshut inside ys p)
+    ∙ (ap (pop c.args.limit) (same_queue xs q.next q.capacity q.kept unshut inside ys put.moved)
     ∙ ap (pop c.args.limit) c.self.view_is))
 
 pub invariant_of-self-2 : goal.invariant_of-self-2
@@ -45,12 +42,10 @@ invariant_of-self-2 c =
     let ys = c.reach-self-inside.new.entries in
     let run = c.reach-self-inside.ensures in
     let inside : q.next ≤ length xs = omega (arith, c.self.invariant.inside) in
-    let p = moves q.entries c.deref_mut.result.now ys q.next c.deref_mut.ensures.value inside
-    run.permutation in
-    let held = stored q.entries c.deref_mut.result.now ys q.next c.deref_mut.ensures.value inside p in
-    let behind = ap (drop q.next) held ∙ written_behind xs ys q.next inside in
-    let count = ap length held ∙ written_count xs ys q.next inside in
-    let same = length_permutation (drop q.next xs) ys p in
+    let put = back q.entries c.deref_mut.result.now ys q.next c.deref_mut.ensures.value inside run.permutation in
+    let behind = ap (drop q.next) put.held ∙ written_behind xs ys q.next inside in
+    let count = ap length put.held ∙ put.count in
+    let same = length_permutation (drop q.next xs) ys put.moved in
     let rest = length-drop q.next xs in record {
       inside = omega (arith, count, run.inside);
       run = subst (IsRun c.reach-self-inside.result) (sym behind) run.run;
@@ -69,16 +64,13 @@ returns c =
     let run = c.reach-self-inside.ensures in
     let inside : q.next ≤ length xs = omega (arith, c.self.invariant.inside) in
     let unshut : q.kept ≡ None = none_left q.kept c.in_default.not-Some in
-    let p = moves q.entries c.deref_mut.result.now ys q.next c.deref_mut.ensures.value inside
-    run.permutation in
-    let held = stored q.entries c.deref_mut.result.now ys q.next c.deref_mut.ensures.value inside p in
+    let put = back q.entries c.deref_mut.result.now ys q.next c.deref_mut.ensures.value inside run.permutation in
     let ws = written xs ys q.next inside in
-    let count = written_count xs ys q.next inside in
     let beyond : waits_within c.args.limit (ascending ys) ≡ false = elim c.if-self-gt0.branch [
       | then-self-gt0+else-least-far w ↦
           let x = w.index-least.result.now in
           let first : x ≡ get_or ys 0 x = w.index-least.ensures
-          ∙ (ap (λ l. get_or l q.next x) held ∙ written_first xs ys q.next inside x) in
+          ∙ (ap (λ l. get_or l q.next x) put.held ∙ written_first xs ys q.next inside x) in
           sym (first_within c.reach-self-inside.result x ys c.args.limit run.run w.if-self-gt0.true
           (omega (arith, run.inside, w.if-self-gt0.true)) first)
           ∙ not_at_most x.bound c.args.limit
@@ -89,7 +81,7 @@ returns c =
     ] in
     let beyond' = ap (λ l. waits_within c.args.limit (ascending l)) (written_behind xs ys q.next inside)
     ∙ beyond in
-    (λ i. (shut_with c.args.limit (queue_of (held i) q.next q.capacity q.kept), Closed c.args.limit))
-    ∙ (sym (pop_shuts ws q.next q.capacity q.kept unshut (omega (arith, count)) c.args.limit beyond')
-    ∙ (ap (pop c.args.limit) (same_queue xs q.next q.capacity q.kept unshut inside ys p)
+    (λ i. (shut_with c.args.limit (queue_of (put.held i) q.next q.capacity q.kept), Closed c.args.limit))
+    ∙ (sym (pop_shuts ws q.next q.capacity q.kept unshut (omega (arith, put.count)) c.args.limit beyond')
+    ∙ (ap (pop c.args.limit) (same_queue xs q.next q.capacity q.kept unshut inside ys put.moved)
     ∙ ap (pop c.args.limit) c.self.view_is))
