@@ -11,7 +11,7 @@ use Rattle.series_core.specs.Collection.{Collection}
 use Rattle.series_core.specs.Answer.{answer, pair_of, pairs_from}
 use Rattle.series_core.specs.Pairs.{is_before, insert, ascending, smallest}
 use Rattle.series_core.specs.declared.pair.Pair.{Pair}
-use Rattle.series_core.proofs.Plain.{answer-smallest, has_ascending}
+use Rattle.series_core.proofs.Plain.{answer-smallest, has_ascending, number_within}
 use Rattle.series_core.proofs.Parts.{has_take}
 use Rattle.series_core.proofs.Smallest.{smallest-append, ascending-append_swap}
 use Rattle.series_core.proofs.Sorting.{insert_front, insert_behind}
@@ -86,16 +86,6 @@ counted_on k xs ys q held found h f =
     ∙ ap (λ (b : List Pair). smallest k (first ++ b)) numbered
     ∙ sym (ap (smallest k) (pairs_both 0 xs ys q))
 
--- each pair has the number of a series
-number_below : (s : ℕ) (rows : List (List ℤ)) (q : List ℤ) (p : Pair) → In p (pairs_from s rows q)
-    → p.number < s + length rows
-number_below s [] q p has = absurd has
-number_below s (row ∷ rows) q p has =
-    ⊎_elim
-    (λ (t : p ≡ pair_of q s row). let e : p.number ≡ s = ap (λ (r : Pair). r.number) t in omega arith)
-    (λ (t : In p (pairs_from (s + 1) rows q)). let low = number_below (s + 1) rows q p t in omega arith)
-    has
-
 all_in : {X : Type 0} (P : X → Type 0) (xs : List X) → ((x : X) → In x xs → P x) → All P xs
 all_in P [] h k d i = absurd (omega arith)
 all_in P (x ∷ xs) h zero d i = h x (inl refl)
@@ -106,8 +96,8 @@ pub answer_below : (c : Collection) (q : List ℤ) (k : ℕ) → All (λ p. p.nu
 answer_below c q k =
     subst (All (λ (p : Pair). p.number < length c.series)) (sym (answer-smallest c q k))
     (all_in (λ (p : Pair). p.number < length c.series) (smallest k (pairs_from 0 c.series q))
-    (λ p has. let low = number_below 0 c.series q p
-    (has_ascending p (pairs_from 0 c.series q) (has_take k p (ascending (pairs_from 0 c.series q)) has)) in omega arith))
+    (λ p has. let low = (number_within 0 c.series q p
+    (has_ascending p (pairs_from 0 c.series q) (has_take k p (ascending (pairs_from 0 c.series q)) has))).1 in omega arith))
 
 -- the pairs that are held are the best of themselves
 pub best_itself : (best : Best) → IsBest best → best.pairs ≡ smallest best.k best.pairs

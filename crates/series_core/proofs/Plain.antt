@@ -18,13 +18,15 @@ use Rattle.series_core.proofs.Tallies.{count_by-tally, tally-ascending}
 use Rattle.std.proofs.lemmas.Option.{none-some}
 use Rattle.series_core.proofs.Room.{length-insert}
 
--- the numbers begin with the first
-number_from : (s : ℕ) (rows : List (List ℤ)) (q : List ℤ) (p : Pair) → In p (pairs_from s rows q) → s ≤ p.number
-number_from s [] q p has = absurd has
-number_from s (row ∷ rows) q p has =
+-- the numbers begin with the first, and each is that of a series
+pub number_within : (s : ℕ) (rows : List (List ℤ)) (q : List ℤ) (p : Pair) → In p (pairs_from s rows q)
+    → (s ≤ p.number) × (p.number < s + length rows)
+number_within s [] q p has = absurd has
+number_within s (row ∷ rows) q p has =
     ⊎_elim
-    (λ (e : p ≡ pair_of q s row). let n : p.number ≡ s = ap (λ (x : Pair). x.number) e in omega arith)
-    (λ (t : In p (pairs_from (s + 1) rows q)). let low = number_from (s + 1) rows q p t in omega arith)
+    (λ (e : p ≡ pair_of q s row). let n : p.number ≡ s = ap (λ (x : Pair). x.number) e in (omega arith, omega arith))
+    (λ (t : In p (pairs_from (s + 1) rows q)). let rest = number_within (s + 1) rows q p t in
+    (omega (arith, rest.0), omega (arith, rest.1)))
     has
 
 -- putting a list into order changes nothing in what stands in it
@@ -63,8 +65,8 @@ strict_from s (row ∷ rows) q =
   where
     new : In (pair_of q s row) (ascending (pairs_from (s + 1) rows q)) → ⊥
     new has =
-        let low = number_from (s + 1) rows q (pair_of q s row)
-        (has_ascending (pair_of q s row) (pairs_from (s + 1) rows q) has) in
+        let low = (number_within (s + 1) rows q (pair_of q s row)
+        (has_ascending (pair_of q s row) (pairs_from (s + 1) rows q) has)).0 in
         omega arith
 
 -- so do those that are within a radius
@@ -82,9 +84,9 @@ strict_within r s (row ∷ rows) q =
 
     new : In (pair_of q s row) (ascending near) → ⊥
     new has =
-        let low = number_from (s + 1) rows q (pair_of q s row)
+        let low = (number_within (s + 1) rows q (pair_of q s row)
         (has_filter (λ p. nat_le p.distance r) (pair_of q s row) (pairs_from (s + 1) rows q)
-        (has_ascending (pair_of q s row) near has)) in
+        (has_ascending (pair_of q s row) near has))).0 in
         omega arith
 
 -- the pairs within a radius are those that pass, ascending
