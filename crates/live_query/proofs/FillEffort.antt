@@ -1,6 +1,6 @@
 -- Each turn in the fill part leaves less to do.
-use Rattle.std.proofs.Common.{◌≡◌, ℕ, zero, suc, ◌+◌, ◌*◌, ◌<◌, ◌≤◌, ◌-◌, List, [], ◌∷◌, None, Some, Option, true, length, drop, take, min, ltb, eqb, sym, refl, ap, ◌∙◌, ⊎_elim, arith}
-use Rattle.std.specs.Prelude.{slice_get, not, ◌&&◌, nat_le}
+use Rattle.std.proofs.Common.{◌≡◌, ℕ, zero, suc, ◌+◌, ◌*◌, ◌<◌, ◌≤◌, ◌-◌, List, [], ◌∷◌, None, Some, Option, true, length, drop, take, min, sym, refl, ap, ◌∙◌, ⊎_elim, arith}
+use Rattle.std.specs.Prelude.{slice_get, ◌&&◌, nat_le}
 use Rattle.std.proofs.lemmas.Bool.{cond_both, true≢false}
 use Rattle.std.proofs.Math.Nat.{mul-le-mul_right}
 use Rattle.std.proofs.lemmas.List.{drop-drop, take-append-drop}
@@ -13,34 +13,17 @@ use Rattle.search_machine.specs.declared.phase.Phase.{Phase}
 use Rattle.search_machine.specs.declared.phase.Phase.TheVariants.{Claim, Look, Give, Late, Aim, Pop, Offer, Done}
 use Rattle.search_machine.specs.declared.phase.Onward.TheVariants.{Look as ToLook, Aim as ToAim}
 use Rattle.search_machine.specs.Ground.{Ground, scan}
-use Rattle.search_machine.specs.Workers.{Worker, after_reply, fills, after_claim, after_late, improves, in_phase, is_new, leaves_below, scanned_by, skip, stopped, without}
+use Rattle.search_machine.specs.Workers.{Worker, after_reply, fills, after_claim, after_late, improves, in_phase, is_new, leaves_below, scanned_by, skip, stopped}
 use Rattle.search_machine.specs.Calls.{call_in}
 use Rattle.query_core.specs.Turning.{Turns, search_of}
 use Rattle.query_core.specs.Working.{IsOf, Working}
-use Rattle.search_machine.proofs.Opening.{remove}
+use Rattle.search_machine.proofs.Effort.{length_skip, length_without}
 use Rattle.search_machine.proofs.Places.{get_some, total_drop}
 use Rattle.live_query.specs.RootClaims.{DidClaim, Drawn, GivesFirst, GivesNext, Roots}
 use Rattle.live_query.specs.FillHands.{FillKept, FillDid}
 use Rattle.live_query.specs.Efforts.{phase_left, own_left, root_left, roots_left, fill_left, undrawn}
 use Rattle.live_query.specs.Knowing.{FillServes, FillKnows}
 use Rattle.live_query.proofs.FillKnowing.{same_search}
-
-length_remove : (m : ℕ) (ls : List ℕ) → length (remove m ls) ≤ length ls
-length_remove m [] = omega arith
-length_remove m (l ∷ ls) =
-    let rest = length_remove m ls in
-    cond_both (not (eqb l m)) (l ∷ remove m ls) (remove m ls)
-    (λ r. length r ≤ length (l ∷ ls)) (λ _. omega arith) (λ _. omega arith)
-
-length_without : (o : Option ℕ) (ls : List ℕ) → length (without o ls) ≤ length ls
-length_without None ls = omega arith
-length_without (Some m) ls = length_remove m ls
-
-length_skip : (g : Ground) (v : ℕ) (ls : List ℕ) → length (skip g v ls) ≤ length ls
-length_skip g v [] = omega arith
-length_skip g v (l ∷ ls) =
-    cond_both (ltb v (g.bound l)) (skip g v ls) (l ∷ ls) (λ r. length r ≤ length (l ∷ ls))
-    (λ _. let a = length_skip g v ls in omega arith) (λ _. omega arith)
 
 -- less is left of a list the more of it is dropped
 drop_less : (f : List ℕ → ℕ) (xs : List (List ℕ)) (m n : ℕ) → m ≤ n → total f (drop n xs) ≤ total f (drop m xs)

@@ -14,13 +14,7 @@ use Rattle.search_machine.specs.Workers.{Worker, after_claim, after_late, after_
 -- whether a phase is that of a worker that is done
 abbrev pub is_end : Phase → Bool
 is_end Done = true
-is_end Claim = false
-is_end Look = false
-is_end (Give l) = false
-is_end (Late l) = false
-is_end (Aim j) = false
-is_end (Pop j v) = false
-is_end (Offer next) = false
+is_end _ = false
 
 pub not_end : (p : Phase) → is_end p ≡ false → p ≢ Done
 not_end p e is = true≢false (sym (ap is_end is) ∙ e)

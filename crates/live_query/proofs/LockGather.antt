@@ -145,7 +145,7 @@ module _ {roots : Roots} {best : Best} {queues : List PlainQueue} {team : List B
 
     pub all_locks : All (λ (e : Locking). e.hand.locks ≡ locks) later
     all_locks = all_from (λ (e : Locking). e.hand.locks ≡ locks) later (λ i e at.
-        let r = came i e at in r.goes.locks ∙ ap (λ (h : LockKept). h.locks) r.hand.is)
+        let r = came i e at in r.goes.same.locks ∙ ap (λ (h : LockKept). h.locks) r.hand.is)
 
     row_count : length rows ≡ length later
     row_count = sym (length-map rows (λ (row : Row). row.items)) ∙ ap (λ (l : List (List QueuePass)). length l) worked.passes
@@ -170,12 +170,12 @@ module _ {roots : Roots} {best : Best} {queues : List PlainQueue} {team : List B
         let there : slice_get e.0.hand.passes m ≡ Some p
         = ap (λ (ps : List QueuePass). slice_get ps m) (sym (row_is i e.0 row e.1 at_row)) ∙ at_p in
         let q = get_some r.began.hand.passes m
-        (let low = slice_get_within e.0.hand.passes m p there in let a = r.goes.passes.count in omega arith) in
+        (let low = slice_get_within e.0.hand.passes m p there in let a = r.goes.same.passes.count in omega arith) in
         let new_at : slice_get r.hand.passes m ≡ Some q.0
         = ap (λ (h : LockKept). slice_get h.passes m) (sym r.hand.is) ∙ q.1 in
         let k = get_some locks m
         (let low = slice_get_within r.hand.passes m q.0 new_at in let a = r.hand.count in omega arith) in
-        r.goes.passes.each m q.0 p q.1 there ∙ (r.hand.fresh m k.0 q.0 k.1 new_at).1
+        r.goes.same.passes.each m q.0 p q.1 there ∙ (r.hand.fresh m k.0 q.0 k.1 new_at).1
 
     module _ (part : Part) (in_part : All (λ (e : Locking). InPart part e.worker.phase) later)
         (ends : All (λ (e : Locking). EndsPart part e.worker.phase) later)

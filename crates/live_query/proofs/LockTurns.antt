@@ -29,24 +29,15 @@ use Rattle.search_machine.proofs.Places.{get_set}
 use Rattle.query_core.specs.Questions.{last_of}
 use Rattle.query_core.specs.Turning.{Turns, search_of}
 use Rattle.query_core.specs.Working.{IsOf, Working}
-use Rattle.live_query.specs.RootClaims.{IsOwn, Roots}
+use Rattle.live_query.specs.RootClaims.{Roots}
 use Rattle.live_query.specs.LockHands.{Called, LockDid, LockKept, QueuePass, calls_at}
-use Rattle.live_query.specs.LockKnowing.{LockServes, LocksBy, LocksOn, PopsAlone, PutsAlone, SamePlaces, Earlier}
+use Rattle.live_query.specs.LockKnowing.{LockServes, LocksBy, LocksOn, PopsAlone, PutsAlone, SameLocks, SamePlaces, Earlier}
 use Rattle.live_query.proofs.FillKnowing.{same_search}
 use Rattle.live_query.proofs.FillRunning.{fills_runs, not_end}
 use Rattle.live_query.proofs.GoingOn.{place_on, same_place}
 use Rattle.live_query.proofs.Places.{in_pushed}
 use Rattle.live_query.proofs.RootTies.{still_own}
 use Rattle.live_query.proofs.LockTies.{QueueThere, called_here, called_length, called_there, lock_ties}
-
--- a call leaves the objects of the hand as they are
-pub record SameLocks (h k : LockKept) : Type 0 where
-  pub roots : k.roots ≡ h.roots
-  pub own : IsOwn h.roots h.drawn → IsOwn k.roots k.drawn
-  pub best : k.best ≡ h.best
-  pub floor : k.floor ≡ h.floor
-  pub locks : k.locks ≡ h.locks
-  pub passes : SamePlaces h.passes k.passes
 
 places_stay : (h : LockKept) → SamePlaces h.passes h.passes
 places_stay h = record {
@@ -86,6 +77,7 @@ same_called h k m call reply d =
       };
     })
 
+-- a call leaves the objects of the hand as they are
 pub did_same : (h k : LockKept) (call : Call) (reply : Reply) → LockDid h call reply k → SameLocks h k
 did_same h k ToClaim (Claimed o) d =
     subst (SameLocks h) (sym d.2) (record {
@@ -103,21 +95,6 @@ did_same h k (PutCall m e) (PutTold reply) (inr d) = same_called h k m _ _ d
 did_same h k (PopCall m v) (PopTold reply) (inl none) = same_of h k none.1
 did_same h k (PopCall m v) (PopTold reply) (inr d) = same_called h k m _ _ d
 did_same h k _ _ d = absurd d
-
--- whatever the record was, there is a later one, over the same objects
-goes_on : (w v : Working) (h k : LockKept) → IsOf w.question w.index w.queues w.number v → SameLocks h k
-    → ((earlier : Earlier) (x : RecordedWorker) → LocksBy earlier w h x → (y : RecordedWorker) × LocksBy earlier v k y)
-    → LocksOn w h v k
-goes_on w v h k is same on = record {
-  place = is;
-  roots = same.roots;
-  own = same.own;
-  best = same.best;
-  floor = same.floor;
-  locks = same.locks;
-  passes = same.passes;
-  on = on;
-}
 
 -- the queue that a phase calls is there
 queue_there : (g : Ground) (i n : ℕ) (phase : Phase) → n ≡ g.queues → 0 < g.queues → QueueThere g i n phase
@@ -218,7 +195,7 @@ module _ (w v : Working) (h k : LockKept) (serves : LockServes w h)
   }
 
   pub locks_on : LocksOn w h v k
-  locks_on = goes_on w v h k is same (λ earlier y known. (after g w.number y t.0, later earlier y known))
+  locks_on = record { place = is; same = same; on = λ earlier y known. (after g w.number y t.0, later earlier y known) }
 
   -- a worker that fills is not done, and one that does not fill fills no more
   pub locks_run : fills w.phase ≡ true → v.phase ≢ Done
@@ -242,11 +219,11 @@ module _ (w v : Working) (h k : LockKept) (serves : LockServes w h)
       (t.1.called 1 x serves.shows)
 
 pub locks_stay : (w : Working) (h : LockKept) → LocksOn w h w h
-locks_stay w h = goes_on w w h h (same_place w) (same_of h h refl) (λ earlier x known. (x, known))
+locks_stay w h = record { place = same_place w; same = same_of h h refl; on = λ earlier x known. (x, known) }
 
-pub locks_then : (w v u : Working) (h k m : LockKept) → LocksOn w h v k → LocksOn v k u m → LocksOn w h u m
-locks_then w v u h k m first second = record {
-  place = place_on w v u first.place second.place;
+-- what stayed the same twice stayed the same
+same_then : (h k m : LockKept) → SameLocks h k → SameLocks k m → SameLocks h m
+same_then h k m first second = record {
   roots = second.roots ∙ first.roots;
   own = λ own. second.own (first.own own);
   best = second.best ∙ first.best;
@@ -260,6 +237,12 @@ locks_then w v u h k m first second = record {
         let b = second.passes.count in omega arith) in
         second.passes.each n r.0 q r.1 at_q ∙ first.passes.each n p r.0 at_p r.1;
   };
+}
+
+pub locks_then : (w v u : Working) (h k m : LockKept) → LocksOn w h v k → LocksOn v k u m → LocksOn w h u m
+locks_then w v u h k m first second = record {
+  place = place_on w v u first.place second.place;
+  same = same_then h k m first.same second.same;
   on = λ earlier x known.
       let y = first.on earlier x known in
       second.on earlier y.0 y.1;

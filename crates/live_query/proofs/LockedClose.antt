@@ -230,12 +230,12 @@ module _ {a : Question} {ix : IndexParts} {m : ℕ} {roots : Roots} {best : Best
           place = place;
           own = y.0;
           knows = y.1;
-          roots_are = w.on.roots ∙ first;
-          draws_own = subst (λ (r : Roots). IsOwn r k.0.drawn) (w.on.roots ∙ first) (w.on.own
+          roots_are = w.on.same.roots ∙ first;
+          draws_own = subst (λ (r : Roots). IsOwn r k.0.drawn) (w.on.same.roots ∙ first) (w.on.same.own
               (subst (λ (r : Roots). IsOwn r w.first.drawn) (sym first)
               (subst (λ (h : Held). IsOwn roots h.drawn) (sym w.begins) (opener_own a ix m roots best some team opens i c.0 o))));
-          word = w.on.best ∙ ap (λ (h : Held). h.best) w.begins ∙ opener_word a ix m roots best some team opens i c.0 o;
-          floor = w.on.floor ∙ ap (λ (h : Held). h.floor) w.begins ∙ opener_floor a ix m roots best some team opens i c.0 o;
+          word = w.on.same.best ∙ ap (λ (h : Held). h.best) w.begins ∙ opener_word a ix m roots best some team opens i c.0 o;
+          floor = w.on.same.floor ∙ ap (λ (h : Held). h.floor) w.begins ∙ opener_floor a ix m roots best some team opens i c.0 o;
         }
 
     placed_then : (i : ℕ) (d : Between) → FilledAt i d → Placed i d
@@ -302,10 +302,10 @@ module _ {a : Question} {ix : IndexParts} {m : ℕ} {roots : Roots} {best : Best
               calls = λ j low.
                   subst (λ cs. Agrees j f.own (calls_at f.hand j ++ cs)) (sym (w.fresh j))
                   (subst (Agrees j f.own) (sym (with_none (calls_at f.hand j)))
-                  (t.calls j (let x = w.count in let y = f.went.count in let z = f.went.on.passes.count in
+                  (t.calls j (let x = w.count in let y = f.went.count in let z = f.went.on.same.passes.count in
                   let u = count0 in let v = count1 in omega arith)));
               named = λ j l low.
-                  let old = t.named j l (let x = w.count in let y = f.went.count in let z = f.went.on.passes.count in
+                  let old = t.named j l (let x = w.count in let y = f.went.count in let z = f.went.on.same.passes.count in
                   let u = count0 in let v = count1 in omega arith) in
                   let s = ap (λ cs. total (puts_at l) (calls_at f.hand j ++ cs)) (w.fresh j)
                   ∙ ap (total (puts_at l)) (with_none (calls_at f.hand j)) in
@@ -323,12 +323,12 @@ module _ {a : Question} {ix : IndexParts} {m : ℕ} {roots : Roots} {best : Best
               went = w;
               place = moved a ix m i d.0.worker e.0.worker f.place w.on.place;
               knows = y.1;
-              roots_are = w.on.roots ∙ w.roots;
-              draws_own = subst (λ (r : Roots). IsOwn r k.0.drawn) (w.on.roots ∙ w.roots) (w.on.own
+              roots_are = w.on.same.roots ∙ w.roots;
+              draws_own = subst (λ (r : Roots). IsOwn r k.0.drawn) (w.on.same.roots ∙ w.roots) (w.on.same.own
                   (subst (λ (r : Roots). IsOwn r w.first.drawn) (sym w.roots)
                   (subst (λ (h : Held). IsOwn roots h.drawn) (sym begins) f.draws_own)));
-              word = w.on.best ∙ ap (λ (h : Held). h.best) begins ∙ f.word;
-              floor = w.on.floor ∙ ap (λ (h : Held). h.floor) begins ∙ f.floor;
+              word = w.on.same.best ∙ ap (λ (h : Held). h.best) begins ∙ f.word;
+              floor = w.on.same.floor ∙ ap (λ (h : Held). h.floor) begins ∙ f.floor;
             },
           )
 
@@ -457,7 +457,7 @@ module _ {a : Question} {ix : IndexParts} {m : ℕ} {roots : Roots} {best : Best
                 (sym (calls_joined i first.log second.log
                 ∙ ap (λ cs. cs ++ calls_by i second.log) (fill_calls i y at)
                 ∙ ap (λ cs. calls_at e.fill.hand j ++ cs) (drain_calls i y at)))
-                (e.knows.tied.calls j (let x = e.went.count in let z = e.went.on.passes.count in let v = count1 in omega arith));
+                (e.knows.tied.calls j (let x = e.went.count in let z = e.went.on.same.passes.count in let v = count1 in omega arith));
           }
 
           -- a call of the fill part is some member's
@@ -508,7 +508,7 @@ module _ {a : Question} {ix : IndexParts} {m : ℕ} {roots : Roots} {best : Best
               let most = totals_most (total (puts_at l)) (puts_by l) hs.items ys hs.count
               (λ i h y at_h at_y.
               let e = all.each i y at_y in
-              let named = e.knows.tied.named j l (let x = e.went.count in let z = e.went.on.passes.count in let v = count1 in omega arith) in
+              let named = e.knows.tied.named j l (let x = e.went.count in let z = e.went.on.same.passes.count in let v = count1 in omega arith) in
               let both = total_append (puts_at l) (calls_at e.fill.hand j) (calls_at e.hand j) in
               let is = ap (total (puts_at l)) (hs.each i h at_h ∙ fill_calls i y at_y) in
               omega arith) in

@@ -21,7 +21,7 @@ use Rattle.subtree_build.specs.Outline.{leaf_numbers}
 use Rattle.search_machine.specs.declared.phase.Phase.TheVariants.{Done}
 use Rattle.search_machine.specs.declared.outcome.QueueLine.{QueueLine}
 use Rattle.search_machine.specs.Basics.{Between, Ordered, entered}
-use Rattle.search_machine.specs.Closes.{AllStand, CameByPop, CameByPut, ClaimedOnce, Closes, ClosesStraight, QueueCloses, claimed_by, placed_by, placed_of, popped_by}
+use Rattle.search_machine.specs.Closes.{AllStand, CameBy, CameByPop, CameByPut, ClaimedOnce, Closes, ClosesStraight, QueueCloses, claimed_by, placed_by, placed_of, popped_by}
 use Rattle.search_machine.specs.Ground.{Fits, Ground, entry_of, queue_of, start_limit}
 use Rattle.search_machine.specs.Machine.{capacity_of}
 use Rattle.search_machine.specs.Outcome.{line_of}
@@ -48,6 +48,11 @@ use Rattle.live_query.proofs.Openers.{moved, search_at}
 use Rattle.live_query.proofs.Marks.{entry_same}
 use Rattle.live_query.proofs.Places.{Chosen, all_at, all_from, choose, map_at, maps_same, totals_same}
 use Rattle.live_query.proofs.RunQueues.{ascending_ordered, entered_in, in_filter, is_left, least_from, least_some, left_of, left_or_taken, once_entered, ordered_filter, round_covers}
+
+-- a call that came by some worker may be named by whatever else holds of it
+came_too : {X : Type 0} {team : List RecordedWorker} {list : OwnRecord → List X} {P Q : X → Type 0} (c : CameBy team list P)
+    → Q c.made → CameBy team list Q
+came_too c also = record { place = c.place; member = c.member; at = c.at; made = c.made; has = c.has; such = also }
 
 module _ {a : Question} {ix : IndexParts} {m : ℕ} {best : Best} {team : List Resting} {runs : List Run} {roots : ℕ}
     (outset : Outset a ix m best team runs roots) {before cells : List Draining} (turned : Turned team runs roots before cells)
@@ -142,13 +147,8 @@ module _ {a : Question} {ix : IndexParts} {m : ℕ} {best : Best} {team : List R
       e.way.has.tied.placed p (subst (λ ps. In p ps) e.later.puts put)
 
   -- a marked leaf was put, and a leaf that was put is marked
-  record PutBy (l : ℕ) : Type 0 where
-    place : ℕ
-    member : RecordedWorker
-    at : slice_get ys place ≡ Some member
-    made : PutMade
-    has : In made member.own.puts
-    leaf : made.entry.leaf ≡ l
+  abbrev PutBy : ℕ → Type 0
+  PutBy l = CameBy ys (λ r. r.puts) (λ (p : PutMade). p.entry.leaf ≡ l)
 
   marked_put : (l : ℕ) → IsMarked (marks_of team) l → PutBy l
   marked_put l marked =
@@ -166,7 +166,7 @@ module _ {a : Question} {ix : IndexParts} {m : ℕ} {best : Best} {team : List R
         at = y.1;
         made = w.0;
         has = subst (λ ps. In w.0 ps) (sym e.later.puts) w.1;
-        leaf = w.2;
+        such = w.2;
       }
 
   put_marked : (i : ℕ) (y : RecordedWorker) (p : PutMade) → slice_get ys i ≡ Some y → In p y.own.puts
@@ -245,16 +245,10 @@ module _ {a : Question} {ix : IndexParts} {m : ℕ} {best : Best} {team : List R
         let r = (is_run.exactly e).0 (either e h) in
         let p = marked_put e.leaf r.0.marked in
         let right = (stands p.place p.member p.at).puts p.made p.has in
-        record {
-          place = p.place;
-          member = p.member;
-          at = p.at;
-          made = p.made;
-          has = p.has;
-          queue = right.queue ∙ ap (queue_of g) p.leaf ∙ r.1;
-          entry = right.entry ∙ ap (entry_of g) p.leaf
-              ∙ entry_same (entry_of g e.leaf) e (sym r.0.bound) refl;
-        }
+        came_too p (
+          right.queue ∙ ap (queue_of g) p.such ∙ r.1,
+          right.entry ∙ ap (entry_of g) p.such ∙ entry_same (entry_of g e.leaf) e (sym r.0.bound) refl,
+        )
 
     -- where the leaf is of the run, its put placed it here
     placed_here : (l : ℕ) → 0 < entered l run.entries → 0 < total (placed_by j l) ys
@@ -263,8 +257,8 @@ module _ {a : Question} {ix : IndexParts} {m : ℕ} {best : Best} {team : List R
         let r = (is_run.exactly f.0).0 f.1 in
         let p = marked_put f.0.leaf r.0.marked in
         let right = (stands p.place p.member p.at).puts p.made p.has in
-        let at_queue : p.made.queue ≡ j = right.queue ∙ ap (queue_of g) p.leaf ∙ r.1 in
-        let leaf : p.made.entry.leaf ≡ l = p.leaf ∙ sym f.2 in
+        let at_queue : p.made.queue ≡ j = right.queue ∙ ap (queue_of g) p.such ∙ r.1 in
+        let leaf : p.made.entry.leaf ≡ l = p.such ∙ sym f.2 in
         let counted = cond-true (eqb p.made.queue j && not (is_refused p.made.reply)) (one_if_same l p.made.entry.leaf) 0
         (and_from (eqb p.made.queue j) (not (is_refused p.made.reply)) (eq-eqb p.made.queue j at_queue)
         (ap not (placed_all p.place p.member p.made p.at p.has))) in
@@ -347,7 +341,7 @@ module _ {a : Question} {ix : IndexParts} {m : ℕ} {best : Best} {team : List R
         let same = same_Some (visit_at w.cell.hand.visits j) r.1 (sym (visit_of r.0 y.0 y.1) ∙ r.2) in
         let k = w.later.known.tied.kept j v (let b = ap (λ rs. length rs) w.way.goes.runs ∙ outset.count in omega arith)
         (ap (λ (x : Visit). x.closed) same ∙ r.3) in
-        record { place = r.0; member = y.0; at = y.1; made = k.0; has = k.1; limit = k.3 }
+        record { place = r.0; member = y.0; at = y.1; made = k.0; has = k.1; such = k.3 }
       where
         vs_count : length vs ≡ length cells
         vs_count = length-map passes (λ (vs : List Visit). visit_at vs j) ∙ ap (λ ps. length ps) are

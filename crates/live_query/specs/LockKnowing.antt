@@ -54,16 +54,20 @@ pub record SamePlaces (ps qs : List QueuePass) : Type 0 where
   pub count : length qs ≡ length ps
   pub each : (m : ℕ) (p q : QueuePass) → slice_get ps m ≡ Some p → slice_get qs m ≡ Some q → q.number ≡ p.number
 
--- a worker and its hand, and the same after some turns: the worker has its place, the hand its objects, and whatever the record
--- was, there is a later one
-pub record LocksOn (w : Working) (h : LockKept) (v : Working) (k : LockKept) : Type 0 where
-  pub place : IsOf w.question w.index w.queues w.number v
+-- the objects of the hand are as they were
+pub record SameLocks (h k : LockKept) : Type 0 where
   pub roots : k.roots ≡ h.roots
   pub own : IsOwn h.roots h.drawn → IsOwn k.roots k.drawn
   pub best : k.best ≡ h.best
   pub floor : k.floor ≡ h.floor
   pub locks : k.locks ≡ h.locks
   pub passes : SamePlaces h.passes k.passes
+
+-- a worker and its hand, and the same after some turns: the worker has its place, the hand its objects, and whatever the record
+-- was, there is a later one
+pub record LocksOn (w : Working) (h : LockKept) (v : Working) (k : LockKept) : Type 0 where
+  pub place : IsOf w.question w.index w.queues w.number v
+  pub same : SameLocks h k
   pub on : (earlier : Earlier) (x : RecordedWorker) → LocksBy earlier w h x
       → (y : RecordedWorker) × LocksBy earlier v k y
 

@@ -1,5 +1,5 @@
 -- Searchers over locked queues before, in and after a part, and the histories of the queues.
-use Rattle.std.specs.Prelude.{◌≡◌, ℕ, ◌+◌, ◌<◌, ◌∷◌, List, [], Option, None, Vec, Some, length, map, slice_get, slice_index_or}
+use Rattle.std.specs.Prelude.{◌≡◌, ℕ, ◌+◌, ◌<◌, ◌∷◌, List, [], Option, None, Vec, Some, length, map, slice_get}
 use Rattle.std.specs.Global.{Global}
 use Rattle.best_word.specs.Passes.{Best}
 use Rattle.leaf_queues.specs.PlainQueue.{PlainQueue}
@@ -16,7 +16,7 @@ use Rattle.live_query.specs.declared.part.Part.{Part}
 use Rattle.live_query.specs.declared.searcher.Searcher.{Searcher}
 use Rattle.live_query.specs.Holding.{Held}
 use Rattle.live_query.specs.RootClaims.{IsOwn, Roots}
-use Rattle.live_query.specs.Parts.{Between}
+use Rattle.live_query.specs.Parts.{Between, EachOn}
 use Rattle.live_query.specs.LockHands.{LockKept, QueueLock, QueuePass, calls_at, calls_of, lock_over}
 use Rattle.live_query.specs.LockKnowing.{CallsOf, EndsPart, InPart, LocksOn}
 
@@ -74,10 +74,7 @@ Locking = Searcher Working LockKept
 
 -- each searcher at its place, before some turns and after them
 abbrev pub AllLocksOn : List Locking → List Locking → Type 0
-AllLocksOn old new =
-    (i : ℕ) (d : Locking) → i < length old
-    → LocksOn (slice_index_or old i d).worker (slice_index_or old i d).hand
-    (slice_index_or new i d).worker (slice_index_or new i d).hand
+AllLocksOn old new = EachOn LocksOn old new
 
 -- the searcher that keeps this of its hand
 abbrev pub held_of : LockKept → Held

@@ -42,19 +42,19 @@ Filling = Searcher Working FillKept
 abbrev pub Draining : Type 0
 Draining = Searcher Working DrainKept
 
--- each searcher of the fill part at its place, before some turns and after them
-abbrev pub AllFillOn : List Filling → List Filling → Type 0
-AllFillOn old new =
-    (i : ℕ) (d : Filling) → i < length old
-    → FillsOn (slice_index_or old i d).worker (slice_index_or old i d).hand
+-- each searcher at its place, before some turns and after them: On holds of its worker and its hand before and after
+abbrev pub EachOn : {H : Type 0} → (Working → H → Working → H → Type 0) → List (Searcher Working H) → List (Searcher Working H) → Type 0
+EachOn {H} On old new =
+    (i : ℕ) (d : Searcher Working H) → i < length old
+    → On (slice_index_or old i d).worker (slice_index_or old i d).hand
     (slice_index_or new i d).worker (slice_index_or new i d).hand
 
--- each searcher of the drain part at its place, before some turns and after them
+-- so for the fill part, and for the drain part
+abbrev pub AllFillOn : List Filling → List Filling → Type 0
+AllFillOn old new = EachOn FillsOn old new
+
 abbrev pub AllDrainOn : List Draining → List Draining → Type 0
-AllDrainOn old new =
-    (i : ℕ) (d : Draining) → i < length old
-    → DrainsOn (slice_index_or old i d).worker (slice_index_or old i d).hand
-    (slice_index_or new i d).worker (slice_index_or new i d).hand
+AllDrainOn old new = EachOn DrainsOn old new
 
 -- the searcher with its draws of these root children, over `queues` queues, with no mark of any of `leaves` leaves
 abbrev pub filling : Roots → ℕ → ℕ → Between → Filling

@@ -15,8 +15,8 @@ use Rattle.series_core.specs.declared.queue_words.PutReply.TheVariants.{Placed}
 use Rattle.leaf_queues.specs.PlainQueue.{PlainQueue}
 use Rattle.search_machine.specs.Ground.{Ground}
 use Rattle.search_machine.specs.Machine.{capacity_of}
-use Rattle.search_machine.specs.OwnRecord.{RecordedWorker, WasClosed, is_refused}
-use Rattle.search_machine.specs.Closes.{CameByPop, CameByPut, QueueCloses, placed_by, popped_by}
+use Rattle.search_machine.specs.OwnRecord.{OwnRecord, PopMade, PutMade, RecordedWorker, WasClosed, is_refused}
+use Rattle.search_machine.specs.Closes.{CameBy, CameByPop, CameByPut, QueueCloses, placed_by, popped_by}
 use Rattle.search_machine.proofs.Places.{get_some}
 use Rattle.queue_histories.specs.Histories.{History, Holds, Leads, Past, PlacedIn, PoppedIn, Shaped, placed_at, taken_at}
 use Rattle.queue_histories.specs.Closings.{NoneRefusedAt, TeamAgrees}
@@ -69,34 +69,27 @@ module _ (g : Ground) (team : List RecordedWorker) (m : ℕ) (closed : PlainQueu
       get_some team y.caller
       (in_all (λ (x : Made Call Reply). x.caller < length team) log y agrees.callers h)
 
+  -- what stands in the record of a call's caller came by some member
+  came_by : {X : Type 0} (list : OwnRecord → List X) (P : X → Type 0) (y : Made Call Reply) → In y log
+      → ((x : RecordedWorker) → slice_get team y.caller ≡ Some x → (p : X) × In p (list x.own) × P p)
+      → CameBy team list P
+  came_by list P y h found =
+      let who = member_of y h in
+      let p = found who.0 who.1 in
+      record { place = y.caller; member = who.0; at = who.1; made = p.0; has = p.1; such = p.2 }
+
   -- an entry came by some member's put
   came_by_put : (e : Entry) → PlacedIn log e → CameByPut team m e
   came_by_put e made =
-      let who = member_of made.0 made.1 in
-      let p = (agrees.members made.0.caller who.0 who.1).puts made.0 e
-      (of_caller made.0 log made.1) made.2 in record {
-        place = made.0.caller;
-        member = who.0;
-        at = who.1;
-        made = p.0;
-        has = p.1;
-        queue = p.2;
-        entry = p.3;
-      }
+      came_by (λ r. r.puts) (λ (p : PutMade). (p.queue ≡ m) × (p.entry ≡ e)) made.0 made.1
+      (λ x at. let p = (agrees.members made.0.caller x at).puts made.0 e (of_caller made.0 log made.1) made.2 in
+      (p.0, p.1, (p.2, p.3)))
 
   -- and a limit by some member's pop
   came_by_pop : (v : ℕ) → PoppedIn log v → CameByPop team v
   came_by_pop v made =
-      let who = member_of made.0 made.1 in
-      let p = (agrees.members made.0.caller who.0 who.1).pops made.0 v
-      (of_caller made.0 log made.1) made.2 in record {
-        place = made.0.caller;
-        member = who.0;
-        at = who.1;
-        made = p.0;
-        has = p.1;
-        limit = p.2;
-      }
+      came_by (λ r. r.pops) (λ (p : PopMade). p.limit ≡ v) made.0 made.1
+      (λ x at. (agrees.members made.0.caller x at).pops made.0 v (of_caller made.0 log made.1) made.2)
 
   -- a Closed reply of a member's record shut it
   shut_by : (i : ℕ) (x : RecordedWorker) → slice_get team i ≡ Some x → WasClosed x.own m

@@ -82,11 +82,11 @@ module _ (g : Ground) (fits : Fits g) (team : List RecordedWorker) (qs : List Pl
   -- each entry of a closed queue is right
   entry_right : (m : ℕ) (q : PlainQueue) → slice_get qs m ≡ Some q → (e : Entry)
       → In e q.waiting ⊎ In e q.taken → EntryRight g m e
-  entry_right m q at e h = subst (EntryRight g m) r.entry (record {
+  entry_right m q at e h = subst (EntryRight g m) r.such.1 (record {
     bound = ap (λ (d : Entry). d.bound) right.entry;
     real = below_real g fits r.member.own r.made.entry.leaf right.below;
     other = right.other;
-    queue = sym right.queue ∙ r.queue;
+    queue = sym right.queue ∙ r.such.0;
     near =
         let a = near_limit r.place r.member r.made.entry.leaf r.at right.near in
         let b = ap (λ (d : Entry). d.bound) right.entry in
@@ -104,7 +104,7 @@ module _ (g : Ground) (fits : Fits g) (team : List RecordedWorker) (qs : List Pl
       → Between g v
   kept_between m q at v e =
       let r = (c.queues m q at).kept v e in
-      subst (Between g) r.limit
+      subst (Between g) r.such
       (c.reads r.place r.member r.made.limit r.at
       ((c.stands r.place r.member r.at).pops r.made r.has).0)
 

@@ -91,7 +91,7 @@ together g s i m w x q r at at_queue less =
     omega arith
 
 -- no more leaves than before where one is removed
-length_remove : (m : ℕ) (ls : List ℕ) → length (remove m ls) ≤ length ls
+pub length_remove : (m : ℕ) (ls : List ℕ) → length (remove m ls) ≤ length ls
 length_remove m [] = omega arith
 length_remove m (l ∷ ls) =
     let rest = length_remove m ls in
@@ -99,12 +99,12 @@ length_remove m (l ∷ ls) =
     (λ r. length r ≤ length (l ∷ ls)) (λ _. omega arith) (λ _. omega arith)
 
 -- nor where the start leaf is left out
-length_without : (o : Option ℕ) (ls : List ℕ) → length (without o ls) ≤ length ls
+pub length_without : (o : Option ℕ) (ls : List ℕ) → length (without o ls) ≤ length ls
 length_without None ls = omega arith
 length_without (Some m) ls = length_remove m ls
 
 -- nor where the front is dropped
-length_skip : (g : Ground) (v : ℕ) (ls : List ℕ) → length (skip g v ls) ≤ length ls
+pub length_skip : (g : Ground) (v : ℕ) (ls : List ℕ) → length (skip g v ls) ≤ length ls
 length_skip g v [] = omega arith
 length_skip g v (l ∷ ls) =
     cond_both (ltb v (g.bound l)) (skip g v ls) (l ∷ ls) (λ r. length r ≤ length (l ∷ ls))

@@ -75,7 +75,7 @@ queue_closes = record {
     at = refl;
     made = record { queue = 0; limit = 1; reply = Closed 1 };
     has = inl refl;
-    limit = same_Some 1 v e;
+    such = same_Some 1 v e;
   };
   above = λ v e d h. absurd h;
 }
@@ -87,8 +87,7 @@ queue_closes = record {
       at = refl;
       made = record { queue = 0; entry = entry 1 0; reply = Placed };
       has = inl refl;
-      queue = refl;
-      entry = sym (⊎_elim (λ s. s) (λ n. absurd n) h);
+      such = (refl, sym (⊎_elim (λ s. s) (λ n. absurd n) h));
     }
 
 -- and so does the search

@@ -11,7 +11,7 @@ use Rattle.search_machine.specs.Ground.{Ground, start_limit}
 use Rattle.search_machine.specs.Machine.{State, capacity_of}
 use Rattle.search_machine.specs.Sound.{waits, takes}
 use Rattle.search_machine.specs.Basics.{Between, Ordered}
-use Rattle.search_machine.specs.OwnRecord.{PutMade, PopMade, RecordedWorker, is_refused, WasClosed, claims_of, put_of}
+use Rattle.search_machine.specs.OwnRecord.{OwnRecord, PutMade, PopMade, RecordedWorker, is_refused, WasClosed, claims_of, put_of}
 use Rattle.search_machine.specs.Stands.{StandsFor}
 
 -- how often a put placed leaf l in queue m
@@ -69,24 +69,22 @@ NoneRefused team =
 abbrev pub TakenInOrder : List PlainQueue → Type 0
 TakenInOrder qs = (m : ℕ) (q : PlainQueue) → slice_get qs m ≡ Some q → Ordered q.taken
 
--- some worker's put of this entry named queue m
-pub record CameByPut (team : List RecordedWorker) (m : ℕ) (e : Entry) : Type 0 where
+-- some worker made a call of which P holds: it stands in the list that the worker's record has of such calls
+pub record CameBy {X : Type 0} (team : List RecordedWorker) (list : OwnRecord → List X) (P : X → Type 0) : Type 0 where
   pub place : ℕ
   pub member : RecordedWorker
   pub at : slice_get team place ≡ Some member
-  pub made : PutMade
-  pub has : In made member.own.puts
-  pub queue : made.queue ≡ m
-  pub entry : made.entry ≡ e
+  pub made : X
+  pub has : In made (list member.own)
+  pub such : P made
+
+-- some worker's put of this entry named queue m
+abbrev pub CameByPut : List RecordedWorker → ℕ → Entry → Type 0
+CameByPut team m e = CameBy team (λ r. r.puts) (λ (p : PutMade). (p.queue ≡ m) × (p.entry ≡ e))
 
 -- some worker's pop had the limit v
-pub record CameByPop (team : List RecordedWorker) (v : ℕ) : Type 0 where
-  pub place : ℕ
-  pub member : RecordedWorker
-  pub at : slice_get team place ≡ Some member
-  pub made : PopMade
-  pub has : In made member.own.pops
-  pub limit : made.limit ≡ v
+abbrev pub CameByPop : List RecordedWorker → ℕ → Type 0
+CameByPop team v = CameBy team (λ r. r.pops) (λ (p : PopMade). p.limit ≡ v)
 
 -- what the closed queue m says by the calls of all workers
 pub record QueueCloses (g : Ground) (team : List RecordedWorker) (m : ℕ) (q : PlainQueue) : Type 0 where
