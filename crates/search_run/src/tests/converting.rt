@@ -1,14 +1,11 @@
 //! Files that are written again with a label for each series: the bytes that come out, and the files that are refused.
 
-use super::fixture::{LABELLED, Outside, Row, end_as_they_should, run_line};
+use super::fixture::{LABELLED, Outside, ends_with};
 use crate::{Status, Which};
-use outside::{NoGate, NoMemory};
+use outside::NoMemory;
 use series_file::FileError;
 use std::alloc::Global;
-use std::process::Abort;
-use std::sync::Wait;
 use std::test::Fail;
-use std::thread::Threads;
 
 // The file `A`: four series of four values each, in version 1.
 const PLAIN: &[u8; 48] = b"ISER\x01\0\x04\0\x04\0\0\0\0\0\0\0\
@@ -49,86 +46,6 @@ const CONVERTED: [(&str, &[u8], &[u8]); 10] = [
     ),
 ];
 
-// Words whose file or command is refused, and the status and the line of their run.
-const REFUSED: [Row; 10] = [
-    (
-        "convert A2shorter",
-        Status::Format(Which::Series, FileError::Truncated { at: 79, want: 80 }),
-        "",
-        "isearch: data: ends at byte 79 of 80\n",
-    ),
-    (
-        "convert A2longer",
-        Status::Format(Which::Series, FileError::Trailing(80)),
-        "",
-        "isearch: data: bytes after 80\n",
-    ),
-    (
-        "convert A2reserved",
-        Status::Format(Which::Series, FileError::Reserved(1)),
-        "",
-        "isearch: data: reserved 1\n",
-    ),
-    (
-        "convert A2long",
-        Status::Format(Which::Series, FileError::Length(65537)),
-        "",
-        "isearch: data: length 65537\n",
-    ),
-    (
-        "convert seven --raw 2",
-        Status::Format(Which::Series, FileError::Uneven(7)),
-        "",
-        "isearch: data: 7 bytes are no whole number of series\n",
-    ),
-    (
-        "convert nobody",
-        Status::Missing(Which::Series),
-        "",
-        "isearch: data: no such file\n",
-    ),
-    (
-        "convert",
-        Status::Usage,
-        "",
-        "isearch: the words are not a command\n",
-    ),
-    (
-        "convert A Q",
-        Status::Usage,
-        "",
-        "isearch: the words are not a command\n",
-    ),
-    (
-        "convert A --k 1",
-        Status::Usage,
-        "",
-        "isearch: the words are not a command\n",
-    ),
-    (
-        "convert A --segments 2",
-        Status::Usage,
-        "",
-        "isearch: the words are not a command\n",
-    ),
-];
-
-// Runs words over a file `C` of these bytes, and compares the status and what was written.
-fn ends_with<H: Threads + Wait + Abort + Sync>(
-    rt: &H,
-    alloc: Global,
-    line: &str,
-    file: &[u8],
-    outside: Outside,
-    wanted: (Status, &[u8]),
-) -> Result<(), Fail> {
-    let (status, text) = wanted;
-    let ended = run_line(rt, alloc, line, file, outside, &NoGate)?;
-    assert_eq!(rt; ended.status, status, "{line}, {outside:?}");
-    assert_eq!(rt; ended.out.written(), text, "{line}, {outside:?}");
-    Ok(())
-}
-
 #[test]
 fn files_of_each_form(rt: HostRuntime) -> Result<(), Fail> {
     for piece in [1, 2, 7, 16, 4096] {
@@ -150,21 +67,9 @@ fn a_series_of_the_greatest_length(rt: HostRuntime) -> Result<(), Fail> {
         room: 200000,
         ..Outside::sound(4096)
     };
-    ends_with(
-        &rt,
-        rt.alloc(),
-        "convert lowest --raw 65536",
-        b"",
-        outside,
-        (Status::Done, &text),
-    )
-}
-
-#[test]
-fn files_that_are_refused(rt: HostRuntime) -> Result<(), Fail> {
-    for piece in [1, 7, 4096] {
-        end_as_they_should(&rt, rt.alloc(), &REFUSED, piece)?;
-    }
+    let line = "convert lowest --raw 65536";
+    let wanted = (Status::Done, text.as_slice());
+    ends_with(&rt, rt.alloc(), line, b"", outside, wanted)?;
     Ok(())
 }
 
@@ -191,14 +96,8 @@ fn headers_that_are_refused(rt: HostRuntime) -> Result<(), Fail> {
     for (changes, fault) in table {
         let file = changed(rt.alloc(), changes)?;
         let wanted = (Status::Format(Which::Series, fault), [].as_slice());
-        ends_with(
-            &rt,
-            rt.alloc(),
-            "convert C",
-            &file,
-            Outside::sound(7),
-            wanted,
-        )?;
+        let outside = Outside::sound(7);
+        ends_with(&rt, rt.alloc(), "convert C", &file, outside, wanted)?;
     }
     Ok(())
 }
@@ -214,14 +113,8 @@ fn each_beginning_of_a_file(rt: HostRuntime) -> Result<(), Fail> {
             };
             let file = &whole[..whole.len().min(at as usize)];
             let wanted = (Status::Format(Which::Series, fault), [].as_slice());
-            ends_with(
-                &rt,
-                rt.alloc(),
-                "convert C",
-                file,
-                Outside::sound(16),
-                wanted,
-            )?;
+            let outside = Outside::sound(16);
+            ends_with(&rt, rt.alloc(), "convert C", file, outside, wanted)?;
         }
     }
     Ok(())

@@ -1,7 +1,7 @@
 //! Runs whose outside fails at one place: each open, each read and each write in turn, until none is left. What was written
 //! before is a beginning of the right text.
 
-use super::fixture::{Outside, run_line};
+use super::fixture::{Outside, ends_with, run_line};
 use crate::{Status, Which};
 use outside::NoGate;
 use saved_index::IndexFault;
@@ -58,6 +58,15 @@ fn status_of(read: u64, reads: [u64; 4]) -> Status {
     Status::Done
 }
 
+// What is written of a text where the run ends so: all of it, or nothing.
+fn text_at(status: Status, text: &str) -> &[u8] {
+    if status == Status::Done {
+        text.as_bytes()
+    } else {
+        b""
+    }
+}
+
 #[test]
 fn each_read_may_fail(rt: HostRuntime) -> Result<(), Fail> {
     for (line, reads, text) in COMMANDS {
@@ -66,16 +75,16 @@ fn each_read_may_fail(rt: HostRuntime) -> Result<(), Fail> {
                 read,
                 ..Outside::sound(16)
             };
-            let certificate = CERTIFICATE.as_bytes();
-            let ended = run_line(&rt, rt.alloc(), line, certificate, outside, &NoGate)?;
-            let wanted = status_of(read, reads);
-            assert_eq!(rt; ended.status, wanted, "{line}, read {read}");
-            let written = if wanted == Status::Done { text } else { "" };
-            assert_eq!(rt;
-                ended.out.written(),
-                written.as_bytes(),
-                "{line}, read {read}"
-            );
+            let status = status_of(read, reads);
+            let wanted = (status, text_at(status, text));
+            ends_with(
+                &rt,
+                rt.alloc(),
+                line,
+                CERTIFICATE.as_bytes(),
+                outside,
+                wanted,
+            )?;
         }
     }
     Ok(())
@@ -107,17 +116,12 @@ fn reads_fail_in_turn<H: Threads + Wait + Abort + Sync>(
             read,
             ..Outside::sound(piece)
         };
-        let certificate = CERTIFICATE.as_bytes();
-        let ended = run_line(rt, alloc, line, certificate, outside, &NoGate)?;
+        let ended = run_line(rt, alloc, line, CERTIFICATE.as_bytes(), outside, &NoGate)?;
         let place = place_of(ended.status);
-        assert!(rt; last <= place, "{line}, read {read} of {piece}");
+        assert!(rt; last <= place, "{line}, {outside:?}");
         last = place;
-        let written = if place == Some(4) { text } else { "" };
-        assert_eq!(rt;
-            ended.out.written(),
-            written.as_bytes(),
-            "{line}, read {read} of {piece}"
-        );
+        let written = text_at(ended.status, text);
+        assert_eq!(rt; ended.out.written(), written, "{line}, {outside:?}");
         if place == Some(4) {
             break;
         }
@@ -144,29 +148,23 @@ fn each_open_may_fail(rt: HostRuntime) -> Result<(), Fail> {
                 open,
                 ..Outside::sound(16)
             };
-            let ended = run_line(
-                &rt,
-                rt.alloc(),
-                line,
-                CERTIFICATE.as_bytes(),
-                outside,
-                &NoGate,
-            )?;
             let [_, _, certificate, index] = reads;
-            let wanted = match open {
+            let status = match open {
                 1 => Status::ReadFault(Which::Series),
                 2 => Status::ReadFault(Which::Queries),
                 3 if certificate > 0 => Status::ReadFault(Which::Certificate),
                 3 if index > 0 => Status::ReadFault(Which::Index),
                 _ => Status::Done,
             };
-            assert_eq!(rt; ended.status, wanted, "{line}, open {open}");
-            let written = if wanted == Status::Done { text } else { "" };
-            assert_eq!(rt;
-                ended.out.written(),
-                written.as_bytes(),
-                "{line}, open {open}"
-            );
+            let wanted = (status, text_at(status, text));
+            ends_with(
+                &rt,
+                rt.alloc(),
+                line,
+                CERTIFICATE.as_bytes(),
+                outside,
+                wanted,
+            )?;
         }
     }
     Ok(())
@@ -185,21 +183,21 @@ fn writes_fail_in_turn<H: Threads + Wait + Abort + Sync>(
             write: write as u64,
             ..Outside::sound(piece)
         };
-        let certificate = CERTIFICATE.as_bytes();
-        let ended = run_line(rt, alloc, line, certificate, outside, &NoGate)?;
         let before = write.saturating_sub(1).saturating_mul(piece);
-        let wanted = if before < text.len() {
+        let status = if before < text.len() {
             Status::WriteFault
         } else {
             Status::Done
         };
-        assert_eq!(rt; ended.status, wanted, "{line}, write {write} of {piece}");
         let written = &text.as_bytes()[..before.min(text.len())];
-        assert_eq!(rt;
-            ended.out.written(),
-            written,
-            "{line}, write {write} of {piece}"
-        );
+        ends_with(
+            rt,
+            alloc,
+            line,
+            CERTIFICATE.as_bytes(),
+            outside,
+            (status, written),
+        )?;
     }
     Ok(())
 }
@@ -233,16 +231,15 @@ fn a_line_that_is_not_told_changes_no_status(rt: HostRuntime) -> Result<(), Fail
             tell: 1,
             ..Outside::sound(1000)
         };
-        let ended = run_line(
+        let wanted = (status, [].as_slice());
+        let ended = ends_with(
             &rt,
             rt.alloc(),
             line,
             CERTIFICATE.as_bytes(),
             outside,
-            &NoGate,
+            wanted,
         )?;
-        assert_eq!(rt; ended.status, status, "{line}");
-        assert!(rt; ended.out.written().is_empty(), "{line}");
         assert!(rt; ended.err.written().is_empty(), "{line}");
     }
     Ok(())

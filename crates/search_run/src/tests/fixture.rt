@@ -11,9 +11,6 @@ use std::sync::atomic::{AtomicU64, Ordering};
 use std::test::Fail;
 use std::thread::Threads;
 
-/// Words, and the status, the text and the line of their run.
-pub type Row = (&'static str, Status, &'static str, &'static str);
-
 /// The line of a run whose words are no command.
 pub const NO_COMMAND: &str = "isearch: the words are not a command\n";
 
@@ -230,27 +227,39 @@ pub fn run_line<T: Threads + Wait + Sync, G: Gate + Sync>(
     Ok(Ended { status, out, err })
 }
 
-/// Runs each row in pieces of `piece` bytes, and compares how it ends.
-pub fn end_as_they_should<H: Threads + Wait + Abort + Sync>(
+/// Runs words over a file `C` of these bytes, and compares the status and what was written.
+pub fn ends_with<H: Threads + Wait + Abort + Sync>(
     rt: &H,
     alloc: Global,
-    rows: &[Row],
+    line: &str,
+    file: &[u8],
+    outside: Outside,
+    wanted: (Status, &[u8]),
+) -> Result<Ended, Fail> {
+    let (status, text) = wanted;
+    let ended = run_line(rt, alloc, line, file, outside, &NoGate)?;
+    assert_eq!(rt; ended.status, status, "{line}, {outside:?}");
+    assert_eq!(rt; ended.out.written(), text, "{line}, {outside:?}");
+    Ok(ended)
+}
+
+/// The same with pieces of `piece` bytes where nothing fails. It compares the line that is told too.
+pub fn tells<H: Threads + Wait + Abort + Sync>(
+    rt: &H,
+    alloc: Global,
+    line: &str,
+    file: &[u8],
     piece: usize,
+    wanted: (Status, &str, &str),
 ) -> Result<(), Fail> {
-    for (line, status, text, told) in rows {
-        let ended = run_line(rt, alloc, line, b"", Outside::sound(piece), &NoGate)?;
-        assert_eq!(rt; ended.status, *status, "{line}, pieces of {piece}");
-        assert_eq!(rt;
-            ended.out.written(),
-            text.as_bytes(),
-            "{line}, pieces of {piece}"
-        );
-        assert_eq!(rt;
-            ended.err.written(),
-            told.as_bytes(),
-            "{line}, pieces of {piece}"
-        );
-    }
+    let (status, text, told) = wanted;
+    let wanted = (status, text.as_bytes());
+    let ended = ends_with(rt, alloc, line, file, Outside::sound(piece), wanted)?;
+    assert_eq!(rt;
+        ended.err.written(),
+        told.as_bytes(),
+        "{line}, pieces of {piece}"
+    );
     Ok(())
 }
 

@@ -1,6 +1,6 @@
 //! The tree of a collection, saved as bytes, and searches over a saved index: what they write, and each fault that is reported.
 
-use super::fixture::{INDEX, NO_COMMAND, Outside, Row, end_as_they_should, run_line};
+use super::fixture::{INDEX, Outside, ends_with, run_line, tells};
 use crate::{Status, Which};
 use outside::{NoGate, NoMemory};
 use saved_index::IndexFault;
@@ -23,38 +23,13 @@ const SAVED: [(&str, &[u8]); 4] = [
     ),
 ];
 
-// Words of `save` that are refused, and the status and the line of their run.
-const REFUSED: [Row; 4] = [
-    (
-        "save A --segments 5",
-        Status::Settings(5, 4),
-        "",
-        "isearch: 5 segments are more than length 4\n",
-    ),
-    (
-        "save nobody",
-        Status::Missing(Which::Series),
-        "",
-        "isearch: data: no such file\n",
-    ),
-    (
-        "save shorter --segments 5",
-        Status::Format(Which::Series, FileError::Truncated { at: 47, want: 48 }),
-        "",
-        "isearch: data: ends at byte 47 of 48\n",
-    ),
-    ("save", Status::Usage, "", NO_COMMAND),
-];
-
 #[test]
 fn trees_are_saved(rt: HostRuntime) -> Result<(), Fail> {
     for piece in [1, 7, 4096] {
         for (line, text) in SAVED {
-            let ended = run_line(&rt, rt.alloc(), line, b"", Outside::sound(piece), &NoGate)?;
-            assert_eq!(rt; ended.status, Status::Done, "{line}, pieces of {piece}");
-            assert_eq!(rt; ended.out.written(), text, "{line}, pieces of {piece}");
+            let outside = Outside::sound(piece);
+            ends_with(&rt, rt.alloc(), line, b"", outside, (Status::Done, text))?;
         }
-        end_as_they_should(&rt, rt.alloc(), &REFUSED, piece)?;
     }
     Ok(())
 }
@@ -71,17 +46,15 @@ fn changed(alloc: Global, changes: &[(usize, u8)], end: usize) -> Result<Vec<u8>
     Ok(bytes)
 }
 
-// Changes of the index of `A`, the place where it ends, words that search over it, and the status, the text and the line that
-// they end with. The member of root child 0 stands at byte 33, those of root child 3 at 46, 50 and 54.
-const SEARCHES: [(&[(usize, u8)], usize, Row); 12] = [
+// Changes of the index of `A`, the place where it ends, words that search over it, and their text. The member of root child 0
+// stands at byte 33, those of root child 3 at 46, 50 and 54.
+const SEARCHES: [(&[(usize, u8)], usize, (&str, &str)); 3] = [
     (
         &[],
         58,
         (
             "nearest A Q --k 3 --index C",
-            Status::Done,
             "query 0\n1 0 4\n2 3 164\n3 1 324\n",
-            "",
         ),
     ),
     (
@@ -89,18 +62,20 @@ const SEARCHES: [(&[(usize, u8)], usize, Row); 12] = [
         58,
         (
             "nearest A2 Q --k 2 --index C --sealed --workers 2 --queues 3",
-            Status::Done,
             "query 0\n1 0 4 100\n2 3 164 18446744073709551615\n",
-            "",
         ),
     ),
+    (&[], 58, ("nearest A none --index C", "")),
+];
+
+// The same where the index, or a file, is refused, with the status and the line.
+const UNFIT: [(&[(usize, u8)], usize, (&str, Status, &str)); 9] = [
     (
         &[(33, 3)],
         58,
         (
             "nearest A Q --index C",
             Status::Index(IndexFault::Unfit(2)),
-            "",
             "isearch: index: series 2 does not fit\n",
         ),
     ),
@@ -110,7 +85,6 @@ const SEARCHES: [(&[(usize, u8)], usize, Row); 12] = [
         (
             "nearest A Q --index C",
             Status::Index(IndexFault::Unfit(1)),
-            "",
             "isearch: index: series 1 does not fit\n",
         ),
     ),
@@ -120,7 +94,6 @@ const SEARCHES: [(&[(usize, u8)], usize, Row); 12] = [
         (
             "nearest A Q --index C",
             Status::Index(IndexFault::NotIndex),
-            "",
             "isearch: index: not an index\n",
         ),
     ),
@@ -130,7 +103,6 @@ const SEARCHES: [(&[(usize, u8)], usize, Row); 12] = [
         (
             "nearest A Q --index C",
             Status::Index(IndexFault::NotIndex),
-            "",
             "isearch: index: not an index\n",
         ),
     ),
@@ -140,7 +112,6 @@ const SEARCHES: [(&[(usize, u8)], usize, Row); 12] = [
         (
             "nearest zeros Q --index C",
             Status::Index(IndexFault::Count(4, 3)),
-            "",
             "isearch: index: count 4 is not 3\n",
         ),
     ),
@@ -150,7 +121,6 @@ const SEARCHES: [(&[(usize, u8)], usize, Row); 12] = [
         (
             "nearest five ends --index C",
             Status::Index(IndexFault::Length(4, 5)),
-            "",
             "isearch: index: length 4 is not 5\n",
         ),
     ),
@@ -160,7 +130,6 @@ const SEARCHES: [(&[(usize, u8)], usize, Row); 12] = [
         (
             "nearest A Q --index nobody",
             Status::Missing(Which::Index),
-            "",
             "isearch: index: no such file\n",
         ),
     ),
@@ -170,7 +139,6 @@ const SEARCHES: [(&[(usize, u8)], usize, Row); 12] = [
         (
             "nearest A three --index C",
             Status::Mismatch(4, 3),
-            "",
             "isearch: lengths differ: 4 and 3\n",
         ),
     ),
@@ -180,30 +148,28 @@ const SEARCHES: [(&[(usize, u8)], usize, Row); 12] = [
         (
             "nearest A nobody --index C",
             Status::Missing(Which::Queries),
-            "",
             "isearch: queries: no such file\n",
         ),
     ),
-    (&[], 58, ("nearest A none --index C", Status::Done, "", "")),
 ];
 
 #[test]
 fn searches_over_a_saved_index(rt: HostRuntime) -> Result<(), Fail> {
     for piece in [1, 7, 4096] {
-        for (changes, end, (line, status, text, told)) in SEARCHES {
+        for (changes, end, (line, text)) in SEARCHES {
             let file = changed(rt.alloc(), changes, end)?;
-            let ended = run_line(&rt, rt.alloc(), line, &file, Outside::sound(piece), &NoGate)?;
-            assert_eq!(rt; ended.status, status, "{line}, {changes:?}, {end}");
-            assert_eq!(rt;
-                ended.out.written(),
-                text.as_bytes(),
-                "{line}, {changes:?}, {end}"
-            );
-            assert_eq!(rt;
-                ended.err.written(),
-                told.as_bytes(),
-                "{line}, {changes:?}, {end}"
-            );
+            tells(
+                &rt,
+                rt.alloc(),
+                line,
+                &file,
+                piece,
+                (Status::Done, text, ""),
+            )?;
+        }
+        for (changes, end, (line, status, told)) in UNFIT {
+            let file = changed(rt.alloc(), changes, end)?;
+            tells(&rt, rt.alloc(), line, &file, piece, (status, "", told))?;
         }
     }
     let fault = Status::Index(IndexFault::NotIndex);

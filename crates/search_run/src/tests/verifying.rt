@@ -1,14 +1,10 @@
 //! Certificates that are checked, as tables: words, the text of a certificate, and the status and the line of the run.
 //! What each change of a certificate gives was found by hand.
 
-use super::fixture::{Ended, Outside, run_line};
+use super::fixture::tells;
 use crate::{CertFault, Status, Which};
 use certificate::Reject;
-use outside::NoGate;
-use std::alloc::Global;
-use std::sync::Wait;
 use std::test::Fail;
-use std::thread::Threads;
 
 // The words for the four series and their query.
 const PLAIN: &str = "verify A Q C --segments 2";
@@ -165,52 +161,21 @@ const FAULTY: [(&str, &str, CertFault, &str); 14] = [
     ),
 ];
 
-// Words over the certificate of the four series that end before it is read, the status, and the line.
-const UNREAD: [(&str, Status, &str); 4] = [
-    (
-        "verify A Q nobody",
-        Status::Missing(Which::Certificate),
-        "isearch: certificate: no such file\n",
-    ),
-    (
-        "verify A Q nobody --segments 5",
-        Status::Settings(5, 4),
-        "isearch: 5 segments are more than length 4\n",
-    ),
-    (
-        "verify A three nobody",
-        Status::Mismatch(4, 3),
-        "isearch: lengths differ: 4 and 3\n",
-    ),
-    (
-        "verify A nobody nobody",
-        Status::Missing(Which::Queries),
-        "isearch: queries: no such file\n",
-    ),
-];
-
-// Runs the words over this certificate, in pieces of 16 bytes.
-fn run_over<T: Threads + Wait + Sync>(
-    rt: &T,
-    alloc: Global,
-    line: &str,
-    certificate: &[u8],
-) -> Result<Ended, Fail> {
-    run_line(rt, alloc, line, certificate, Outside::sound(16), &NoGate)
-}
-
 #[test]
 fn certificates_that_are_written_and_hold(rt: HostRuntime) -> Result<(), Fail> {
     for (written_by, line, text) in HOLDING {
         if !written_by.is_empty() {
-            let now = run_over(&rt, rt.alloc(), written_by, b"")?;
-            assert_eq!(rt; now.status, Status::Done, "{written_by}");
-            assert_eq!(rt; now.out.written(), text.as_bytes(), "{written_by}");
+            tells(
+                &rt,
+                rt.alloc(),
+                written_by,
+                b"",
+                16,
+                (Status::Done, text, ""),
+            )?;
         }
-        let now = run_over(&rt, rt.alloc(), line, text.as_bytes())?;
-        assert_eq!(rt; now.status, Status::Done, "{line}: {text}");
-        assert_eq!(rt; now.out.written(), b"valid\n".as_slice(), "{line}: {text}");
-        assert!(rt; now.err.written().is_empty(), "{line}: {text}");
+        let wanted = (Status::Done, "valid\n", "");
+        tells(&rt, rt.alloc(), line, text.as_bytes(), 16, wanted)?;
     }
     Ok(())
 }
@@ -218,22 +183,16 @@ fn certificates_that_are_written_and_hold(rt: HostRuntime) -> Result<(), Fail> {
 #[test]
 fn certificates_that_do_not_hold(rt: HostRuntime) -> Result<(), Fail> {
     for (line, text, fault, told) in FAULTY {
-        let now = run_over(&rt, rt.alloc(), line, text.as_bytes())?;
-        assert_eq!(rt; now.status, Status::Invalid(fault), "{line}: {text}");
-        assert_eq!(rt; now.status.code(), 10, "{line}: {text}");
-        assert!(rt; now.out.written().is_empty(), "{line}: {text}");
-        assert_eq!(rt; now.err.written(), told.as_bytes(), "{line}: {text}");
-    }
-    Ok(())
-}
-
-#[test]
-fn certificates_that_are_not_read(rt: HostRuntime) -> Result<(), Fail> {
-    for (line, status, told) in UNREAD {
-        let now = run_over(&rt, rt.alloc(), line, NEAREST.as_bytes())?;
-        assert_eq!(rt; now.status, status, "{line}");
-        assert!(rt; now.out.written().is_empty(), "{line}");
-        assert_eq!(rt; now.err.written(), told.as_bytes(), "{line}");
+        let status = Status::Invalid(fault);
+        assert_eq!(rt; status.code(), 10, "{line}: {text}");
+        tells(
+            &rt,
+            rt.alloc(),
+            line,
+            text.as_bytes(),
+            16,
+            (status, "", told),
+        )?;
     }
     Ok(())
 }

@@ -1,90 +1,10 @@
-//! The windows of one long series, as a table: words, and the status, the text and the line that they end with; and drawn
-//! series against a plain slow choice.
+//! Windows of drawn series against a plain slow choice, and a series of too many values.
 
-use super::fixture::{NO_COMMAND, Outside, Row, end_as_they_should, run_line};
+use super::fixture::{Outside, ends_with};
 use crate::{Status, Which};
-use outside::NoGate;
 use series_file::FileError;
 use std::alloc::Global;
 use std::test::Fail;
-
-// Words, and the status, the text and the line of their run.
-const WINDOWS: [Row; 14] = [
-    (
-        "windows long ones 1 --k 3",
-        Status::Done,
-        "query 0\n1 0 2\n2 1 82\n3 3 82\n",
-        "",
-    ),
-    (
-        "windows long ones 1 --k 2 --apart 2",
-        Status::Done,
-        "query 0\n1 0 2\n2 3 82\n",
-        "",
-    ),
-    (
-        "windows long ones 1 --k 3 --apart 2 --workers 5 --sealed",
-        Status::Done,
-        "query 0\n1 0 2\n2 3 82\n",
-        "",
-    ),
-    (
-        "windows long ones 2 --k 9 --leaf 1 --breaks bent --workers 1 --queues 5",
-        Status::Done,
-        "query 0\n1 0 2\n2 1 162\n",
-        "",
-    ),
-    (
-        "windows long Q 1 --k 2 --segments 4",
-        Status::Done,
-        "query 0\n1 0 164\n2 1 164\n",
-        "",
-    ),
-    (
-        "windows long ends 1",
-        Status::Done,
-        "query 0\n1 0 202\n",
-        "",
-    ),
-    ("windows long wide 1", Status::Done, "query 0\n", ""),
-    ("windows long none 1", Status::Done, "", ""),
-    ("windows empty ones 7 --k 2", Status::Done, "query 0\n", ""),
-    (
-        "windows long raw 1 --raw 2 --k 1",
-        Status::Done,
-        "query 0\n1 0 2\nquery 1\n1 0 2\n",
-        "",
-    ),
-    (
-        "windows long ones 1 --segments 3",
-        Status::Settings(3, 2),
-        "",
-        "isearch: 3 segments are more than length 2\n",
-    ),
-    (
-        "windows seven ones 1",
-        Status::Format(Which::Series, FileError::Uneven(7)),
-        "",
-        "isearch: data: 7 bytes are no whole number of series\n",
-    ),
-    (
-        "windows long absent 1",
-        Status::Missing(Which::Queries),
-        "",
-        "isearch: queries: no such file\n",
-    ),
-    (
-        "windows long ones 1 --k 1024 --apart 2",
-        Status::Usage,
-        "",
-        NO_COMMAND,
-    ),
-];
-
-#[test]
-fn windows_end_as_they_should(rt: HostRuntime) -> Result<(), Fail> {
-    end_as_they_should(&rt, rt.alloc(), &WINDOWS, 3)
-}
 
 // A drawn series, the length and the step of its windows, and how many are chosen so far apart.
 #[derive(Clone, Copy, Debug)]
@@ -180,15 +100,8 @@ fn drawn_windows_are_those_of_a_plain_choice(rt: HostRuntime) -> Result<(), Fail
                     "windows C C {} --raw {length} --apart {} --k {} --leaf 2 --workers {workers}{form}",
                     case.step, case.apart, case.k
                 )?;
-                let ended = run_line(
-                    &rt,
-                    alloc,
-                    line.as_str(),
-                    &bytes,
-                    Outside::sound(64),
-                    &NoGate,
-                )?;
-                assert_eq!(rt; ended.out.written(), text.as_bytes(), "{line}");
+                let wanted = (Status::Done, text.as_bytes());
+                ends_with(&rt, alloc, &line, &bytes, Outside::sound(64), wanted)?;
             }
         }
     }
@@ -198,16 +111,9 @@ fn drawn_windows_are_those_of_a_plain_choice(rt: HostRuntime) -> Result<(), Fail
 #[test]
 fn a_series_of_too_many_values(rt: HostRuntime) -> Result<(), Fail> {
     let bytes = vec![in rt.alloc(); 0u8; 33554434]?;
-    let line = "windows C ones 1";
-    let ended = run_line(
-        &rt,
-        rt.alloc(),
-        line,
-        &bytes,
-        Outside::sound(1 << 20),
-        &NoGate,
-    )?;
+    let outside = Outside::sound(1 << 20);
     let fault = Status::Format(Which::Series, FileError::TooLarge(33554433));
-    assert_eq!(rt; ended.status, fault, "one value too many");
+    let wanted = (fault, [].as_slice());
+    ends_with(&rt, rt.alloc(), "windows C ones 1", &bytes, outside, wanted)?;
     Ok(())
 }

@@ -1,13 +1,12 @@
 //! Words that are no command: each ends with its own status and line, and with nothing written.
-//! Words that are one are in the tables of their command.
+//! Words that are one are in the table of the runs.
 
-use super::fixture::{NO_COMMAND, Outside, Row, end_as_they_should, run_line};
+use super::fixture::{NO_COMMAND, tells};
 use crate::Status;
-use outside::NoGate;
 use std::test::Fail;
 
 // Lines of words that are no command.
-const REFUSED: [&str; 67] = [
+const REFUSED: [&str; 78] = [
     "",
     " nearest A Q",
     "nearest A Q ",
@@ -75,43 +74,29 @@ const REFUSED: [&str; 67] = [
     "save A --k 2",
     "save A --queues 2",
     "save A --index I",
-];
-
-// Spellings of a number behind an option that are taken.
-const TAKEN: [Row; 3] = [
-    (
-        "nearest A Q --k=3",
-        Status::Done,
-        "query 0\n1 0 4\n2 3 164\n3 1 324\n",
-        "",
-    ),
-    (
-        "nearest --k 2 A Q",
-        Status::Done,
-        "query 0\n1 0 4\n2 3 164\n",
-        "",
-    ),
-    (
-        "nearest A --k 1024 Q",
-        Status::Done,
-        "query 0\n1 0 4\n2 3 164\n3 1 324\n4 2 484\n",
-        "",
-    ),
+    "discord A Q",
+    "discord A --queues 2",
+    "discord A --k 0",
+    "discord A --sealed",
+    "discord",
+    "windows long ones 1 --k 1024 --apart 2",
+    "convert",
+    "convert A Q",
+    "convert A --k 1",
+    "convert A --segments 2",
+    "save",
 ];
 
 #[test]
 fn words_that_are_no_command(rt: HostRuntime) -> Result<(), Fail> {
+    assert_eq!(rt;
+        Status::Usage.code(),
+        2,
+        "the number of words that are no command"
+    );
     for line in REFUSED {
-        let ended = run_line(&rt, rt.alloc(), line, b"", Outside::sound(1000), &NoGate)?;
-        assert_eq!(rt; ended.status, Status::Usage, "{line}");
-        assert_eq!(rt; ended.status.code(), 2, "{line}");
-        assert!(rt; ended.out.written().is_empty(), "{line}");
-        assert_eq!(rt; ended.err.written(), NO_COMMAND.as_bytes(), "{line}");
+        let wanted = (Status::Usage, "", NO_COMMAND);
+        tells(&rt, rt.alloc(), line, b"", 7, wanted)?;
     }
     Ok(())
-}
-
-#[test]
-fn words_that_are_one(rt: HostRuntime) -> Result<(), Fail> {
-    end_as_they_should(&rt, rt.alloc(), &TAKEN, 1000)
 }
