@@ -208,39 +208,38 @@ fn texts_with_labels(rt: HostRuntime) -> Result<(), Fail> {
 
 #[test]
 fn texts_of_other_series(rt: HostRuntime) -> Result<(), Fail> {
-    let zeros = [0i16; 12].to_vec(rt.alloc())?;
-    let zero = [0i16; 4].to_vec(rt.alloc())?;
-    assert_eq!(rt; zeros.len(), 12);
-    assert_eq!(rt; zero.len(), 4);
-    let text =
-        "query 0\n1 0 0\n2 1 0\nstart 0 0\nqueue 0\nqueue 1\nleaf 0 word 128:8,128:8 scanned\n";
-    let (rows, queries) = (Flat::from_values(4, zeros), Flat::from_values(4, zero));
-    assert_eq!(rt;
-        found(&rt, rt.alloc(), &rows, &queries, None, 2, text.as_bytes()),
-        Finding::Valid
-    );
-    let uneven = [0i16, 0, 0, 0, 0, -1, 0, 0, 0, -1].to_vec(rt.alloc())?;
-    let query = [-1i16, 0, 0, 0, -1].to_vec(rt.alloc())?;
-    assert_eq!(rt; uneven.len(), 10);
-    assert_eq!(rt; query.len(), 5);
-    let text =
-        "query 0\n1 1 0\nstart 0 0\nqueue 0\nqueue 1\nleaf 0 word 0:1,0:1 scanned\nleaf 1 word 1:1,1:1 bound 2\n";
-    let (rows, queries) = (Flat::from_values(5, uneven), Flat::from_values(5, query));
-    assert_eq!(rt;
-        found(&rt, rt.alloc(), &rows, &queries, None, 1, text.as_bytes()),
-        Finding::Valid
-    );
-    let far = [0i16, 0, 0, 20000, 300, 0].to_vec(rt.alloc())?;
-    let query = [0i16, 0].to_vec(rt.alloc())?;
-    assert_eq!(rt; far.len(), 6);
-    assert_eq!(rt; query.len(), 2);
-    let text = "query 0\n1 0 0\nstart 0 0\nqueue 0\nqueue 1\nleaf 0 word 128:8,32:6 scanned\n\
-        leaf 1 word 129:8,32:6 bound 65536\nleaf 2 word 1:1,3:2 bound 268435456\n";
-    let (rows, queries) = (Flat::from_values(2, far), Flat::from_values(2, query));
-    assert_eq!(rt;
-        found(&rt, rt.alloc(), &rows, &queries, None, 1, text.as_bytes()),
-        Finding::Valid
-    );
+    let alloc = rt.alloc();
+    let zeros = Flat::from_values(4, [0i16; 12].to_vec(alloc)?);
+    let zero = Flat::from_values(4, [0i16; 4].to_vec(alloc)?);
+    let uneven = Flat::from_values(5, [0i16, 0, 0, 0, 0, -1, 0, 0, 0, -1].to_vec(alloc)?);
+    let ends = Flat::from_values(5, [-1i16, 0, 0, 0, -1].to_vec(alloc)?);
+    let far = Flat::from_values(2, [0i16, 0, 0, 20000, 300, 0].to_vec(alloc)?);
+    let corner = Flat::from_values(2, [0i16; 2].to_vec(alloc)?);
+    for (rows, queries, k, text) in [
+        (
+            &zeros,
+            &zero,
+            2,
+            "query 0\n1 0 0\n2 1 0\nstart 0 0\nqueue 0\nqueue 1\nleaf 0 word 128:8,128:8 scanned\n",
+        ),
+        (
+            &uneven,
+            &ends,
+            1,
+            "query 0\n1 1 0\nstart 0 0\nqueue 0\nqueue 1\n\
+            leaf 0 word 0:1,0:1 scanned\nleaf 1 word 1:1,1:1 bound 2\n",
+        ),
+        (
+            &far,
+            &corner,
+            1,
+            "query 0\n1 0 0\nstart 0 0\nqueue 0\nqueue 1\nleaf 0 word 128:8,32:6 scanned\n\
+            leaf 1 word 129:8,32:6 bound 65536\nleaf 2 word 1:1,3:2 bound 268435456\n",
+        ),
+    ] {
+        let now = found(&rt, alloc, rows, queries, None, k, text.as_bytes());
+        assert_eq!(rt; now, Finding::Valid, "{text}");
+    }
     Ok(())
 }
 
