@@ -1,4 +1,4 @@
--- Numbers in a row: one more at the end (`range_push`, `range_next`), and none behind it (`none_at_end`).
+-- Numbers in a row: one more at the end (`range_push`, `range_next`, `below_next`), and none behind it (`none_at_end`, `none_below`).
 use Rattle.std.proofs.Common.{◌≡◌, ℕ, zero, suc, ◌+◌, ◌-◌, ◌<◌, ◌≤◌, List, [], ◌∷◌, ◌++◌, ap, ◌∙◌, ⊎_elim, arith}
 use Rattle.std.specs.List.{range_with_len}
 use Rattle.list_totals.specs.Totals.{once_below, times}
@@ -32,3 +32,16 @@ none_at_end a i low =
     (λ (h : 0 < once_below i i). let no = once_below_low i i h in absurd (omega arith))
     (λ (h : once_below i i ≤ 0). omega arith)
     (cases_lt 0 (once_below i i))
+
+-- the numbers below the next one
+pub below_next : (n : ℕ) → range_with_len 0 (n + 1) ≡ range_with_len 0 n ++ n ∷ []
+below_next n =
+    let one : n + 1 ≡ suc n = omega arith in
+    let same : 0 + n ≡ n = omega arith in
+    ap (range_with_len 0) one ∙ range_push 0 n ∙ ap (λ (m : ℕ). range_with_len 0 n ++ m ∷ []) same
+
+-- a number is not below itself
+pub none_below : (n : ℕ) → times n (range_with_len 0 n) ≡ 0
+none_below n =
+    let same : n ≡ n - 0 = omega arith in
+    ap (λ (m : ℕ). times n (range_with_len 0 m)) same ∙ none_at_end 0 n (omega arith)

@@ -7,10 +7,14 @@ ghost use Rattle.query_core.specs.Questions.{last_of};
 
 use crate::index_laws::search_law;
 use crate::task::Task;
+use crate::telling::Telling;
 use outside::NoMemory;
 use series_core::{KBest, PairList, Rows};
 use std::alloc::Global;
 use subtree_build::Index;
+
+/// How many members are scanned for a closer limit, where means tell little by the first one.
+const CLOSE: usize = 512;
 
 /// The answer alone, the k nearest rows, without what an outcome has for a certificate. One worker needs no queues, so
 /// it is the same for any number of them.
@@ -32,14 +36,30 @@ pub fn one_worker_answer<R: Rows>(
 }
 
 impl<'a, R: Rows> Task<'a, R> {
-    // The list of the answer: by leaves where means tell series apart, and else by all rows.
+    // The list of the answer: by leaves where means tell series apart, else by their finer means alone, and else by all rows.
     fn nearest(&self, alloc: Global, index: &Index) -> Result<KBest, NoMemory>
         requires fits { IndexFits self.now.collection self.now.layout index.now }
         ensures { IfOk result (λ best. best.pairs ≡ answer self.now.collection self.now.query self.now.k) }
     {
         search_law(self, index);
-        let first = self.first_limit(alloc, index)?;
+        let first = self.first_limit(alloc, index, 0)?;
+        if self.means_tell_little(index, first) {
+            return self.nearest_by_sample(alloc, index);
+        }
         self.nearest_by_leaves(alloc, index, first)
+    }
+
+    // The list of the answer where means may tell too little: the first limit may be too wide, so a closer one decides it.
+    fn nearest_by_sample(&self, alloc: Global, index: &Index) -> Result<KBest, NoMemory>
+        requires fits { IndexFits self.now.collection self.now.layout index.now }
+        ensures { IfOk result (λ best. best.pairs ≡ answer self.now.collection self.now.query self.now.k) }
+    {
+        search_law(self, index);
+        let close = self.first_limit(alloc, index, CLOSE)?;
+        match self.what_tells(index, close) {
+            Telling::FinerMeans => self.answer_by_finer_means(alloc, index, close),
+            Telling::Means | Telling::Nothing => self.nearest_by_leaves(alloc, index, close),
+        }
     }
 
     /// The list of the answer, by all rows.

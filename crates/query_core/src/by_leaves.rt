@@ -10,8 +10,10 @@ ghost use Rattle.query_core.specs.NearLeaves.{IsLeafEntry, leaves_in, within_bou
 ghost use Rattle.query_core.specs.Questions.{last_of, search_over};
 
 use crate::index_laws::search_law;
+use crate::leaf_scan::Sieve;
 use crate::scan::distance_of_worst;
 use crate::task::Task;
+use crate::telling::Telling;
 use outside::NoMemory;
 use series_core::{Entry, KBest, Rows};
 use std::alloc::Global;
@@ -26,12 +28,9 @@ const CLOSEST_MEMBERS: u64 = 512;
 /// Where more leaves than these are left, they are scanned in the order of their numbers, as they lie in memory.
 const MANY: usize = 4096;
 
-/// Where more of 32 members of a sample than these are within the closer limit, all rows are read.
-const FEW: u64 = 3;
-
 impl<'a, R: Rows> Task<'a, R> {
-    /// The list of the answer, by the leaves that may have a member within the limit, or by all rows where the closer limit shows that
-    /// means tell too little.
+    /// The list of the answer, by the leaves that may have a member within the limit, or where the closer limit shows that means tell
+    /// too little, by the finer means of all members or by all rows.
     pub(crate) fn nearest_by_leaves(
         &self,
         alloc: Global,
@@ -52,8 +51,10 @@ impl<'a, R: Rows> Task<'a, R> {
         }
         let (closest, next, others) = near.select_nth_unstable_by_key(count, |entry| entry.bound);
         let limit = self.scan_closest(alloc, index, closest, first, &mut list)?;
-        if !self.means_tell(index, limit, FEW) {
-            return self.answer_by_rows(alloc, index, limit);
+        match self.what_tells(index, limit) {
+            Telling::Means => {}
+            Telling::FinerMeans => return self.answer_by_finer_means(alloc, index, limit),
+            Telling::Nothing => return self.answer_by_rows(alloc, index, limit),
         }
         if others.len() > MANY {
             return self.answer_in_order(alloc, index, limit);
@@ -92,6 +93,26 @@ impl<'a, R: Rows> Task<'a, R> {
         search_law(self, index);
         self.scan_within(alloc, index, closest, first, list)?;
         Ok(distance_of_worst(list).min(first))
+    }
+
+    /// The list of the answer, by the finer means of all members, in the order of their leaves as these lie in memory. No box of a leaf
+    /// and no means are looked at.
+    pub(crate) fn answer_by_finer_means(
+        &self,
+        alloc: Global,
+        index: &Index,
+        limit: u64,
+    ) -> Result<KBest, NoMemory>
+        requires fits { IndexFits self.now.collection self.now.layout index.now }
+        requires limit { last_of self.now ≤ limit }
+        ensures { IfOk result (λ best. best.pairs ≡ answer self.now.collection self.now.query self.now.k) }
+    {
+        search_law(self, index);
+        let mut list = KBest::new(alloc, self.k())?;
+        for leaf in 0..index.leaf_count() {
+            self.scan_leaf(index, leaf, Sieve::FinerMeans, limit, &mut list);
+        }
+        Ok(list)
     }
 
     // The list of the answer, by all leaves that may have a member within the limit, in the order of their numbers.

@@ -1,4 +1,5 @@
-//! Scanning a leaf for the answer alone: a member is passed over by its means, or else by its finer means, or else measured.
+//! Scanning a leaf for the answer alone: a member is passed over by its means, or else by its finer means, or else measured. Where
+//! means tell little, they are not tried, and a member is passed over by its finer means alone.
 ghost use Rattle.std.specs.Prelude.{◌≡◌, ℕ, ◌+◌, ◌-◌, ◌*◌, ◌<◌, ◌≤◌, false, min, length, take, drop};
 ghost use Rattle.series_core.specs.Best.{IsBest};
 ghost use Rattle.series_core.specs.Distance.{squared_distance};
@@ -18,10 +19,26 @@ use mean_bound::{MeanCells, Means};
 use series_core::{KBest, Rows};
 use subtree_build::Index;
 
+/// By what a member is passed over.
+#[derive(Clone, Copy)]
+pub(crate) enum Sieve {
+    /// By its means, and then by its finer means.
+    Means,
+    /// By its finer means alone.
+    FinerMeans,
+}
+
 impl<'a, R: Rows> Task<'a, R> {
     /// Scans a leaf with this limit into a list, which then has the k smallest of its pairs and of the members' pairs with a
     /// distance not above the limit.
-    pub(crate) fn scan_leaf(&self, index: &Index, leaf: u32, limit: u64, list: &mut KBest)
+    pub(crate) fn scan_leaf(
+        &self,
+        index: &Index,
+        leaf: u32,
+        sieve: Sieve,
+        limit: u64,
+        list: &mut KBest,
+    )
         requires fits { IndexFits self.now.collection self.now.layout index.now }
         requires leaf { leaf < length index.now.leaves }
         requires k { list.old.k ≡ self.now.k }
@@ -36,24 +53,25 @@ impl<'a, R: Rows> Task<'a, R> {
         let parts = self.finer().parts() as usize;
         let mut most = most_to_add(limit, list);
         for i in 0..members.len() {
+            let member = &members[i];
             let own = of_member(finer, parts, i);
-            most = self.meet_finely(&members[i], &means[i], own, limit, most, list);
+            let near = self.may_be_within(sieve, member, &means[i], own, most);
+            most = self.measure_near(near, member, limit, most, list);
         }
     }
 
-    // Adds the member's pair where its distance is at most `most`, and tells what is then the most.
-    fn meet_finely(
+    // Adds the member's pair where it is near and its distance is at most `most`, and tells what is then the most.
+    fn measure_near(
         &self,
+        near: bool,
         member: &Member,
-        means: &Means,
-        finer: &[MeanCells],
         limit: u64,
         most: u64,
         list: &mut KBest,
     ) -> u64
         requires member { IsMemberOf self.now member.now }
-        requires means { means.now ≡ means_of self.now.collection self.now.layout member.now }
-        requires finer { finer.now ≡ finer_of self.now.collection member.now }
+        requires far { near ≡ false
+            → most < squared_distance (series_at self.now.collection member.now.number) self.now.query }
         requires k { list.old.k ≡ self.now.k }
         requires sound { IsBest list.old }
         requires most { most ≡ min limit (distance_at (list.old.k - 1) list.old.pairs) }
@@ -63,23 +81,36 @@ impl<'a, R: Rows> Task<'a, R> {
         ensures pairs { (ix : IndexParts) (workers queues : ℕ) → list.new.pairs
             ≡ scan_one (search_over self.now ix workers queues) limit member.now.number list.old.pairs }
     {
-        if !self.may_be_within(member, means, finer, most) {
+        // for the fact that the task is a question
+        let _k = self.k();
+        if !near {
             return most;
         }
         self.measure(member.number, limit, most, list)
     }
 
-    // Whether neither the member's means nor its finer means lie above the limit. Where one does, so does its distance.
-    fn may_be_within(&self, member: &Member, means: &Means, finer: &[MeanCells], limit: u64) -> bool
+    // Whether none of the member's means that are tried lie above the limit. Where they do, so does its distance.
+    fn may_be_within(
+        &self,
+        sieve: Sieve,
+        member: &Member,
+        means: &Means,
+        finer: &[MeanCells],
+        limit: u64,
+    ) -> bool
         requires member { IsMemberOf self.now member.now }
         requires means { means.now ≡ means_of self.now.collection self.now.layout member.now }
         requires finer { finer.now ≡ finer_of self.now.collection member.now }
-        ensures question { IsQuestion self.now }
-        ensures far { result ≡ false
+        ensures { result ≡ false
             → limit < squared_distance (series_at self.now.collection member.now.number) self.now.query }
     {
         let _ = member;
-        self.means().bound(means) <= limit && self.finer().is_within(finer, limit)
+        match sieve {
+            Sieve::Means => {
+                self.means().bound(means) <= limit && self.finer().is_within(finer, limit)
+            }
+            Sieve::FinerMeans => self.finer().is_within(finer, limit),
+        }
     }
 }
 

@@ -22,6 +22,7 @@ mod shared;
 mod stage;
 mod task;
 mod team;
+mod telling;
 mod turn;
 mod walk;
 mod worker;

@@ -18,10 +18,19 @@ enum Kind {
     Noise,
     Resonance,
     Constant,
+    Flutter,
 }
 
-/// The value after these two.
-fn next_value(kind: Kind, rng: &mut SplitMix64, last: i32, before: i32) -> i32 {
+/// The value at a place of a series, after these two. A flutter swings every other value, and by a pattern of the series' own, so that
+/// eight values in a row have a mean near 0.
+fn next_value(
+    kind: Kind,
+    rng: &mut SplitMix64,
+    pattern: u32,
+    place: u32,
+    last: i32,
+    before: i32,
+) -> i32 {
     let drawn = (rng.next_u32() >> 16) as i32 - 32768;
     let value = match kind {
         Kind::Walk => last.wrapping_add(drawn / 128),
@@ -33,6 +42,8 @@ fn next_value(kind: Kind, rng: &mut SplitMix64, last: i32, before: i32) -> i32 {
             (swing / 1024).wrapping_add(drawn / 16)
         }
         Kind::Constant => last,
+        Kind::Flutter if (place / 2 & pattern).count_ones() % 2 == 1 => drawn / 8 - 9000,
+        Kind::Flutter => drawn / 8 + 9000,
     };
     value.clamp(-32768, 32767)
 }
@@ -49,8 +60,9 @@ fn values_of(
     for _series in 0..count {
         let mut before = 0;
         let mut last = (rng.next_u32() % 7) as i32 * 1000;
-        for _place in 0..length {
-            let value = next_value(kind, rng, last, before);
+        let pattern = rng.next_u32() | 1;
+        for place in 0..length {
+            let value = next_value(kind, rng, pattern, place, last, before);
             before = last;
             last = value;
             values.push(value.clamp(-32768, 32767) as i16)?;
@@ -106,6 +118,20 @@ fn every_kind_of_data(rt: HostRuntime) -> Result<(), Fail> {
                 "{k} of 60 series of {length} values, {kind:?}"
             );
         }
+    }
+    Ok(())
+}
+
+#[test]
+fn data_that_finer_means_alone_tell(rt: HostRuntime) -> Result<(), Fail> {
+    let alloc = rt.alloc();
+    let mut rng = SplitMix64::seed_from_u64(6);
+    for (length, k) in [(256, 1), (256, 3), (130, 2), (128, 3), (128, 100)] {
+        let values = values_of(alloc, &mut rng, Kind::Flutter, 3000, length)?;
+        assert!(rt;
+            agree(&rt, alloc, values, length, k)?,
+            "{k} of 3000 series of {length} values that flutter"
+        );
     }
     Ok(())
 }

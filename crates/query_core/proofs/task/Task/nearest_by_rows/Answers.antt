@@ -1,11 +1,11 @@
 -- One row more was scanned.
-use Rattle.std.proofs.Common.{◌≡◌, ◌+◌, ◌++◌, ◌∷◌, [], ℕ, List, ap, suc, sym, ◌∙◌, length, arith}
+use Rattle.std.proofs.Common.{◌≡◌, [], ℕ, List, ap, sym, ◌∙◌, length, arith}
 use Rattle.std.specs.List.{range_with_len}
 use Rattle.series_core.specs.declared.pair.Pair.{Pair}
 use Rattle.search_machine.specs.Ground.{scan, scan_one}
 use Rattle.search_machine.proofs.ScanSteps.{scan_next}
 use Rattle.query_core.specs.Questions.{Question, search_over}
-use Rattle.query_core.proofs.Ranges.{range_push}
+use Rattle.query_core.proofs.Ranges.{below_next}
 use Rattle.query_core.proofs.task.Task.nearest_by_rows.Goals as goal
 
 pub loop-number-preserved : goal.loop-number-preserved
@@ -16,18 +16,11 @@ loop-number-preserved g c = record {
   pairs = λ ix workers queues.
       let ground = search_over c.args.self.now ix workers queues in
       let n = c.loop-number.number in
-      let next : range_with_len 0 (n + 1) ≡ range_with_len 0 n ++ n ∷ [] = next_row n in
       c.measure-most.ensures.pairs ix workers queues
       ∙ ap (λ (ps : List Pair). scan_one ground c.args.limit n ps) (c.loop-number.invariant.pairs ix workers queues)
       ∙ sym (scan_next ground c.args.limit n (range_with_len 0 n) [])
-      ∙ ap (λ (ss : List ℕ). scan ground c.args.limit ss []) (sym next);
+      ∙ ap (λ (ss : List ℕ). scan ground c.args.limit ss []) (sym (below_next n));
 }
-  where
-    next_row : (n : ℕ) → range_with_len 0 (n + 1) ≡ range_with_len 0 n ++ n ∷ []
-    next_row n =
-        let one : n + 1 ≡ suc n = omega arith in
-        let same : 0 + n ≡ n = omega arith in
-        ap (range_with_len 0) one ∙ range_push 0 n ∙ ap (λ (m : ℕ). range_with_len 0 n ++ m ∷ []) same
 
 pub returns : goal.returns
 returns g c ix workers queues =

@@ -1,5 +1,6 @@
 -- One member more was scanned; its finer means stand behind those of the members before it.
 use Rattle.std.proofs.Common.{◌≡◌, ◌∙◌, ◌+◌, ◌*◌, ◌<◌, ◌≤◌, ℕ, List, length, take, drop, ap, sym, subst, arith}
+use Rattle.std.specs.Prelude.{slice_index_or}
 use Rattle.std.specs.List.{All}
 use Rattle.std.proofs.Math.Nat.{mul-le-mul_right}
 use Rattle.std.proofs.lemmas.List.Elements.{All-get_or}
@@ -12,7 +13,7 @@ use Rattle.subtree_build.specs.Index.{IndexParts, leaf_at}
 use Rattle.subtree_build.specs.Means.{all_finer, finer_at, finer_points}
 use Rattle.subtree_build.specs.Fits.{Fits as IndexFits}
 use Rattle.subtree_build.proofs.Meaning.{finer_of_leaf, finer_of_one, length_finer}
-use Rattle.query_core.specs.Questions.{IsMemberOf, Question}
+use Rattle.query_core.specs.Questions.{CanBeSearched, IsMemberOf, Question}
 use Rattle.query_core.proofs.Homes.{leaf_is_members}
 use Rattle.query_core.proofs.Meeting.{scan_more}
 use Rattle.query_core.proofs.task.Task.scan_leaf.Goals as goal
@@ -52,21 +53,29 @@ of_member-own-requires g c =
     ∙ ap (λ n. length members * n) (sym parts) in
     within c.loop-i.i c.parts-parts.result (length members) (length finer) c.loop-i-test.true long
 
-pub meet_finely-most-requires-clause-member : goal.meet_finely-most-requires-clause-member
-meet_finely-most-requires-clause-member g c =
-    let a = c.args.self.now in
-    let ix = c.args.index.now in
-    let i = c.loop-i.i in
-    let m = c.index-members-i.result in
-    let all = leaf_is_members a ix c.args.leaf c.search_law.ensures.searches c.requires.leaf in
-    let are = c.leaf_members-members.ensures in
-    let P : List Member → Type 0 = λ ms. All (IsMemberOf a) ms in
-    let own : All (IsMemberOf a) c.leaf_members-members.result.now = subst P (sym are) all in
-    subst (IsMemberOf a) (sym c.index-members-i.is)
-    (All-get_or (IsMemberOf a) c.leaf_members-members.result.now i m c.loop-i-test.true own)
+-- each member of the leaf is one of the collection
+own_member : (a : Question) (ix : IndexParts) (l i : ℕ) (members : List Member) (m : Member) → CanBeSearched a ix
+    → l < length ix.leaves → members ≡ (leaf_at ix.leaves l).members → i < length members
+    → m ≡ slice_index_or members i m → IsMemberOf a m
+own_member a ix l i members m searched real are inside is =
+    let own : All (IsMemberOf a) members
+    = subst (λ (ms : List Member). All (IsMemberOf a) ms) (sym are) (leaf_is_members a ix l searched real) in
+    subst (IsMemberOf a) (sym is) (All-get_or (IsMemberOf a) members i m inside own)
 
-pub meet_finely-most-requires-clause-finer : goal.meet_finely-most-requires-clause-finer
-meet_finely-most-requires-clause-finer g c =
+pub may_be_within-near-requires-clause-member : goal.may_be_within-near-requires-clause-member
+may_be_within-near-requires-clause-member g c =
+    own_member c.args.self.now c.args.index.now c.args.leaf c.loop-i.i c.leaf_members-members.result.now
+    c.index-members-i.result c.search_law.ensures.searches c.requires.leaf c.leaf_members-members.ensures
+    c.loop-i-test.true c.index-members-i.is
+
+pub measure_near-most-requires-clause-member : goal.measure_near-most-requires-clause-member
+measure_near-most-requires-clause-member g c =
+    own_member c.args.self.now c.args.index.now c.args.leaf c.loop-i.i c.leaf_members-members.result.now
+    c.index-members-i.result c.search_law.ensures.searches c.requires.leaf c.leaf_members-members.ensures
+    c.loop-i-test.true c.index-members-i.is
+
+pub may_be_within-near-requires-clause-finer : goal.may_be_within-near-requires-clause-finer
+may_be_within-near-requires-clause-finer g c =
     let a = c.args.self.now in
     let members = c.leaf_members-members.result.now in
     let finer = c.leaf_finer-finer.result.now in
@@ -82,11 +91,11 @@ meet_finely-most-requires-clause-finer g c =
 
 pub loop-i-preserved : goal.loop-i-preserved
 loop-i-preserved g c = record {
-  k = c.meet_finely-most.ensures.k;
-  sound = c.meet_finely-most.ensures.sound;
-  most = c.meet_finely-most.ensures.most;
+  k = c.measure_near-most.ensures.k;
+  sound = c.measure_near-most.ensures.sound;
+  most = c.measure_near-most.ensures.most;
   pairs = scan_more c.args.self.now c.leaf_members-members.result.now c.loop-i.i c.index-members-i.result
-      c.args.limit c.args.list.now.pairs c.loop-i.list.pairs c.meet_finely-most.new.list.pairs c.args.index.now 1 1
+      c.args.limit c.args.list.now.pairs c.loop-i.list.pairs c.measure_near-most.new.list.pairs c.args.index.now 1 1
       c.loop-i-test.true c.index-members-i.is
-      c.loop-i.invariant.pairs (c.meet_finely-most.ensures.pairs c.args.index.now 1 1);
+      c.loop-i.invariant.pairs (c.measure_near-most.ensures.pairs c.args.index.now 1 1);
 }

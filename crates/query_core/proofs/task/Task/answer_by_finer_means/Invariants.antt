@@ -1,0 +1,13 @@
+-- The leaves before this one were scanned.
+use Rattle.std.proofs.Common.{◌≡◌, ◌≤◌, length}
+use Rattle.std.specs.List.{range_with_len}
+use Rattle.search_machine.specs.Sound.{ListSound}
+use Rattle.query_core.specs.Questions.{search_over}
+use Rattle.query_core.proofs.task.Task.answer_by_finer_means.Given as goal
+
+abbrev pub invariant-loop-leaf : goal.invariant-loop-leaf
+invariant-loop-leaf g l = record {
+  k : l.list.k ≡ l.fn.self.k;
+  size : length l.list.pairs ≤ l.fn.self.k;
+  sound : ListSound (search_over l.fn.self l.fn.index 1 1) (range_with_len 0 l.leaf) l.list.pairs;
+}
