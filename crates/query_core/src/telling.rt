@@ -11,9 +11,12 @@ const SAMPLE: u32 = 64;
 /// Of how many members of each of them.
 const MEMBERS: usize = 8;
 
-/// Where finer means leave more of 32 members of a sample near than these, nearly each row would be read in the order of the leaves,
-/// which costs more than to read all in their own.
+/// Where finer means leave more of 32 members of a sample near than these, nearly each row of the leaves that are near would be read in
+/// the order of the leaves, which costs more than to read all in their own.
 const FEW: u64 = 3;
+
+/// The same where all members would be swept, which takes less time than to go by boxes and means that pass over next to nothing.
+const FEW_TO_SWEEP: u64 = 5;
 
 /// What tells the members apart that are farther than a limit.
 pub(crate) enum Telling {
@@ -37,10 +40,12 @@ impl<'a, R: Rows> Task<'a, R> {
     /// What tells members apart for a limit.
     pub(crate) fn what_tells(&self, index: &Index, limit: u64) -> Telling {
         let sample = self.sample(index, limit, MEMBERS);
-        if sample.left.saturating_mul(32) > sample.members.saturating_mul(FEW) {
+        let little = most_are_near(sample);
+        let few = if little { FEW_TO_SWEEP } else { FEW };
+        if sample.left.saturating_mul(32) > sample.members.saturating_mul(few) {
             return Telling::Nothing;
         }
-        if most_are_near(sample) {
+        if little {
             return Telling::FinerMeans;
         }
         Telling::Means

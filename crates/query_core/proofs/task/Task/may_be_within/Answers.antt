@@ -46,5 +46,6 @@ returns-else-bound-limit g c above =
 
 pub returns-in-FinerMeans : goal.returns-in-FinerMeans
 returns-in-FinerMeans g c above =
-    finer_are_far c.args.self.now c.args.member.now c.finer-in-FinerMeans.result.now c.args.finer.now c.args.limit c.is_within-in-FinerMeans.result
-    c.finer-in-FinerMeans.ensures.question c.requires.member.series c.finer-in-FinerMeans.ensures.finer c.requires.finer c.is_within-in-FinerMeans.ensures above
+    finer_are_far c.args.self.now c.args.member.now c.finer-in-FinerMeans.result.now c.args.finer.now c.args.limit
+    c.is_within-in-FinerMeans.result c.finer-in-FinerMeans.ensures.question c.requires.member.series
+    c.finer-in-FinerMeans.ensures.finer c.requires.finer c.is_within-in-FinerMeans.ensures above
