@@ -9,7 +9,9 @@ gcc -O3 -march=native -o "$work/baseline" "$here/baseline.c"
 copy_crates() {
     for crate in "$@"; do
         mkdir -p "$work/repository/crates/$crate"
-        cp -r "$top/crates/$crate/src" "$top/crates/$crate/specs" "$top/crates/$crate/proofs" "$work/repository/crates/$crate/"
+        for part in src specs proofs; do
+            if [ -d "$top/crates/$crate/$part" ]; then cp -r "$top/crates/$crate/$part" "$work/repository/crates/$crate/"; fi
+        done
     done
 }
 

@@ -52,7 +52,7 @@ above_gap l x q some = by_cases (cases_lt ((q + (l - 1)) / l) (x / l))
         subst (λ n. l * n ≤ x - q) is (omega arith)
 
 -- raised sums are as far from each other as the sums
-as_far : (x q : ℤ) (s a b : ℕ) → neg_ℤ (pos s) ≤ℤ x → neg_ℤ (pos s) ≤ℤ q
+pub as_far : (x q : ℤ) (s a b : ℕ) → neg_ℤ (pos s) ≤ℤ x → neg_ℤ (pos s) ≤ℤ q
     → a ≤ unsigned_abs (q +ℤ pos s) - unsigned_abs (x +ℤ pos s)
     → b ≤ unsigned_abs (x +ℤ pos s) - unsigned_abs (q +ℤ pos s)
     → max a b ≤ unsigned_abs (x -ℤ q)
@@ -77,20 +77,20 @@ cancelled l g d some below =
             absurd (omega (arith, more (a - (d + 1)) (subst (λ n. l * n ≤ l * d) (sym is) below)))
         by_cases (inr most) = most
 
--- the greater of two gaps, cut at some number, times a length
-greater_gap : (l a b c d : ℕ) → l * a ≤ d → l * b ≤ d → l * min (max a b) c ≤ d
-greater_gap l a b c d one two = by_cases (cases_lt a b)
+-- the greater of two numbers times a length, or what is less
+pub greater_times : (l a b d k : ℕ) → l * a ≤ d → l * b ≤ d → k ≤ max a b → l * k ≤ d
+greater_times l a b d k one two low = by_cases (cases_lt a b)
   where
-    under : (k : ℕ) → k ≤ max a b → l * max a b ≤ d → l * k ≤ d
-    under k low most = omega (arith, mul-le l k l (max a b) (omega arith) low, most)
+    under : l * max a b ≤ d → l * k ≤ d
+    under most = omega (arith, mul-le l k l (max a b) (omega arith) low, most)
 
-    by_cases : (a < b) ⊎ (b ≤ a) → l * min (max a b) c ≤ d
+    by_cases : (a < b) ⊎ (b ≤ a) → l * k ≤ d
     by_cases (inl less) =
         let is : b ≡ max a b = omega (arith, less) in
-        under (min (max a b) c) (omega arith) (subst (λ n. l * n ≤ d) is two)
+        under (subst (λ n. l * n ≤ d) is two)
     by_cases (inr most) =
         let is : a ≡ max a b = omega (arith, most) in
-        under (min (max a b) c) (omega arith) (subst (λ n. l * n ≤ d) is one)
+        under (subst (λ n. l * n ≤ d) is one)
 
 -- the least length is at most that of each segment
 pub least_is_least : (d : Division) (j : ℕ) → IsDivision d → least_length d ≤ segment_length d j
@@ -107,6 +107,24 @@ abbrev pub gap_at : Division → List ℤ → List ℤ → ℕ → ℕ
 gap_at d x q j =
     min (max (low_mean d q j - segment_mean d x j) (segment_mean d x j - high_mean d q j)) 16383
 
+-- a gap whose length is at most how far the sums of a segment lie apart, squared, times the least length
+pub square_below : (d : Division) (x q : List ℤ) (j gap : ℕ) → IsDivision d → length x ≡ d.row_length
+    → length q ≡ d.row_length → j < d.segments
+    → segment_length d j * gap ≤ unsigned_abs (segment_sum d x j -ℤ segment_sum d q j)
+    → least_length d * (gap * gap) ≤ squared_distance (segment_values d x j) (segment_values d q j)
+square_below d x q j gap is whole_x whole_q used far =
+    let l = segment_length d j in
+    let some : 1 ≤ l = omega (arith, cut_place_rises d j is) in
+    let long_x = length-segment_values d x j is whole_x used in
+    let same : length (segment_values d x j) ≡ length (segment_values d q j)
+    = long_x ∙ sym (length-segment_values d q j is whole_q used) in
+    let near = squared_distance (segment_values d x j) (segment_values d q j) in
+    let square = subst (λ n. (l * gap) * (l * gap) ≤ n * near) long_x
+    (difference_of_sums (l * gap) (segment_values d x j) (segment_values d q j) same far) in
+    let own = cancelled l gap near some square in
+    let least = mul-le (least_length d) (gap * gap) l (gap * gap) (least_is_least d j is) (omega arith) in
+    omega (arith, own, least)
+
 -- the least length times the square of a gap is at most the distance of the segments
 segment_below : (d : Division) (x q : List ℤ) (j : ℕ) → IsDivision d → length x ≡ d.row_length
     → length q ≡ d.row_length → All (FitsSigned w16) x → All (FitsSigned w16) q → j < d.segments
@@ -122,18 +140,9 @@ segment_below d x q j is whole_x whole_q fit_x fit_q used =
     = as_far (segment_sum d x j) (segment_sum d q j) (32768 * l) _ _ low_x low_q
     (below_gap l (raised_sum d x j) (raised_sum d q j) some) (above_gap l (raised_sum d x j) (raised_sum d q j) some) in
     let gap : l * gap_at d x q j ≤ far
-    = greater_gap l (low_mean d q j - segment_mean d x j) (segment_mean d x j - high_mean d q j) 16383 far
-    (omega (arith, both)) (omega (arith, both)) in
-    let long_x = length-segment_values d x j is whole_x used in
-    let same : length (segment_values d x j) ≡ length (segment_values d q j)
-    = long_x ∙ sym (length-segment_values d q j is whole_q used) in
-    let near = squared_distance (segment_values d x j) (segment_values d q j) in
-    let square = subst (λ n. (l * gap_at d x q j) * (l * gap_at d x q j) ≤ n * near) long_x
-    (difference_of_sums (l * gap_at d x q j) (segment_values d x j) (segment_values d q j) same gap) in
-    let own = cancelled l (gap_at d x q j) near some square in
-    let least = mul-le (least_length d) (gap_at d x q j * gap_at d x q j) l (gap_at d x q j * gap_at d x q j)
-    (least_is_least d j is) (omega arith) in
-    omega (arith, own, least)
+    = greater_times l (low_mean d q j - segment_mean d x j) (segment_mean d x j - high_mean d q j) far (gap_at d x q j)
+    (omega (arith, both)) (omega (arith, both)) (omega arith) in
+    square_below d x q j (gap_at d x q j) is whole_x whole_q used gap
 
 -- where there is no segment there is no gap
 none_behind : (n : ℕ) → squared_gaps (replicate n 0) (replicate n 0) (replicate n 0) ≡ 0

@@ -43,7 +43,7 @@ squares_grow (l ∷ lows) (h ∷ highs) (e ∷ leasts) (c ∷ cs) (b ∷ bs) (g 
     omega (arith, here, behind)
 
 -- the bound of a box is at most that of what lies between other ends within its own
-pub held_below : (v : View) (b : Box) (cs bs : List ℕ) → Under b.lows cs → Over b.highs bs
+held_below : (v : View) (b : Box) (cs bs : List ℕ) → Under b.lows cs → Over b.highs bs
     → box_bound v b ≤ v.least_length * sum_l (map square (gaps_between v.lows v.highs cs bs))
 held_below v b cs bs low high =
     mul-le v.least_length (sum_l (map square (gaps_between v.lows v.highs b.lows b.highs)))

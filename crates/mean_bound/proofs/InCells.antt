@@ -1,18 +1,18 @@
--- Sixteen cells of the least width reach as far as the means (`width_reaches`), so each mean lies in its own, and the box of the cells
--- holds the means (`cells_hold`). The means of a row lie within reach (`means_reached`).
-use Rattle.std.proofs.Common.{◌≡◌, ℕ, zero, suc, ◌+◌, ◌-◌, ◌*◌, ◌^◌, ◌<◌, ◌≤◌, arith, refl, sym, ap, ◌∙◌, subst, Bool, true, false, cond, ℤ, List, [], ◌∷◌, ◌++◌, length, map, replicate, get_or}
+-- Cells of the least width reach as far as the means (`width_reaches`), and each mean within reach lies in its cell (`cell_under`,
+-- `below_end`). The means of a row lie within reach (`means_reached`), and so do all of some quarters (`each_reached`).
+use Rattle.std.proofs.Common.{◌≡◌, ℕ, zero, suc, ◌+◌, ◌-◌, ◌*◌, ◌^◌, ◌<◌, ◌≤◌, arith, refl, sym, ap, ◌∙◌, subst, Bool, true, false, cond, ◌⊎◌, inl, inr, ℤ, List, [], ◌∷◌, ◌++◌, length, map, replicate, get_or, slice_index_or}
 use Rattle.std.specs.Prelude.{leb, FitsSigned}
 use Rattle.std.specs.Int.{w16}
 use Rattle.std.specs.List.{All, range_with_len}
 use Rattle.std.proofs.lemmas.Int.{ints}
-use Rattle.std.proofs.lemmas.Bool.{leb-false, leb-true}
+use Rattle.std.proofs.lemmas.Bool.{cases_lt, leb-false, leb-true}
 use Rattle.std.proofs.lemmas.Nat.{pow_pos}
 use Rattle.std.proofs.Math.Nat.{div-le_of_le-mul, div-mul-le_self, lt-div-mul-add}
 use Rattle.segment_sums.specs.Division.{Division, IsDivision, segment_length}
 use Rattle.segment_sums.proofs.Sums.{segment_sum_within}
 use Rattle.mean_bound.specs.Means.{raised_sum, row_means, segment_mean}
-use Rattle.mean_bound.specs.Cells.{box_of_cells, cell_high, cell_low, cell_of, cells_of, first_mean, from_middle, least_shift, reach, too_narrow}
-use Rattle.mean_bound.proofs.Boxes.{Over, Under}
+use Rattle.std.specs.Simd.Lanes.{Each1}
+use Rattle.mean_bound.specs.Cells.{cell_low, cell_of, first_mean, from_middle, least_shift, reach, reach_of_all, too_narrow}
 
 -- one width more is too narrow
 one_more : (a far : ℕ) (b : Bool) → leb a far ≡ b → a ≤ far → ◌≡◌ {A = ℕ} (cond b 1 0) 1
@@ -47,27 +47,14 @@ width_reaches far (suc k) low = by_cases (width_reaches far k) (leb (128 * 2 ^ k
         )
 
 -- a mean within reach is not below its cell
-low_held : (s m : ℕ) → from_middle m < 128 * 2 ^ s → cell_low s (cell_of s m) ≤ m
-low_held s m near = omega (arith, near, div-mul-le_self (m - first_mean s) (2 ^ s))
+pub cell_under : (s m : ℕ) → from_middle m < 128 * 2 ^ s → cell_low s (cell_of s m) ≤ m
+cell_under s m near = omega (arith, near, div-mul-le_self (m - first_mean s) (2 ^ s))
 
 -- no mean is above its cell
-high_held : (s m : ℕ) → m ≤ cell_high s (cell_of s m)
-high_held s m =
+pub below_end : (s m : ℕ) → m < cell_low s (cell_of s m) + 2 ^ s
+below_end s m =
     let next : m - first_mean s < cell_of s m * 2 ^ s + 2 ^ s = lt-div-mul-add (pow_pos s) in
     omega (arith, next)
-
--- means within reach lie in their cells
-in_cells : (s : ℕ) (ms : List ℕ) → reach ms < 128 * 2 ^ s
-    → Under (map (cell_low s) (map (cell_of s) ms)) ms × Over (map (cell_high s) (map (cell_of s) ms)) ms
-in_cells s [] near = (tt, tt)
-in_cells s (m ∷ ms) near =
-    let rest = in_cells s ms (omega (arith, near)) in
-    ((low_held s m (omega (arith, near)), rest.0), (high_held s m, rest.1))
-
--- the box of the cells of means holds them
-pub cells_hold : (ms : List ℕ) → reach ms < 32768
-    → Under (box_of_cells (cells_of ms)).lows ms × Over (box_of_cells (cells_of ms)).highs ms
-cells_hold ms near = in_cells (least_shift (reach ms)) ms (width_reaches (reach ms) 8 (omega (arith, near))).0
 
 -- each of some means is within reach
 pub reach_at : (ms : List ℕ) (j d : ℕ) → j < length ms → from_middle (get_or ms j d) ≤ reach ms
@@ -97,3 +84,45 @@ pub means_reached : (d : Division) (x : List ℤ) → IsDivision d → length x 
     → reach (row_means d x) < 32768
 means_reached d x is whole fit =
     reached (segment_mean d x) (16 - d.segments) 0 d.segments (λ j used. mean_small d x j is whole fit (omega (arith, used)))
+
+-- what all means of some quarters are within, those of each are
+pub quarter_reached : (all : List (List ℕ)) (i : ℕ) (d : List ℕ) → i < length all
+    → reach (slice_index_or all i d) ≤ reach_of_all all
+quarter_reached [] i d inside = absurd (omega (arith, inside))
+quarter_reached (ms ∷ rest) zero d inside = omega arith
+quarter_reached (ms ∷ rest) (suc i) d inside = omega (arith, quarter_reached rest i d (omega (arith, inside)))
+
+-- and each of them
+pub each_reached : (ms : List ℕ) (far : ℕ) → reach ms < far → Each1 (λ m. from_middle m < far) ms
+each_reached [] far near = tt
+each_reached (m ∷ ms) far near = (omega (arith, near), each_reached ms far (omega (arith, near)))
+
+-- what each quarter is within, all are
+pub all_reached : (f : ℕ → List ℕ) (j k far : ℕ) → 1 ≤ far → ((i : ℕ) → i < j + k → reach (f i) < far)
+    → reach_of_all (map f (range_with_len j k)) < far
+all_reached f j zero far some near = omega (arith, some)
+all_reached f j (suc k) far some near =
+    omega (arith, near j (omega arith), all_reached f (j + 1) k far some (λ i low. near i (omega (arith, low))))
+
+-- a number is within what it and others with zeros behind are within
+in_front : (f : ℕ → ℕ) (n a k i far : ℕ) → a ≤ i → i < a + k → reach (map f (range_with_len a k) ++ replicate n 0) < far
+    → from_middle (f i) < far
+in_front f n a zero i far low high within = absurd (omega (arith, low, high))
+in_front f n a (suc k) i far low high within =
+    by_cases (λ later. in_front f n (a + 1) k i far later (omega (arith, high)) (omega (arith, within))) (cases_lt a i)
+  where
+    by_cases : (a + 1 ≤ i → from_middle (f i) < far) → (a < i) ⊎ (i ≤ a) → from_middle (f i) < far
+    by_cases behind (inl later) = behind (omega (arith, later))
+    by_cases behind (inr here) =
+        let same : a ≡ i = omega (arith, low, here) in
+        subst (λ j. from_middle (f j) < far) same (omega (arith, within))
+
+-- a segment's mean is within what all means of the row are within
+pub mean_reached : (d : Division) (x : List ℤ) (j far : ℕ) → j < d.segments → reach (row_means d x) < far
+    → from_middle (segment_mean d x j) < far
+mean_reached d x j far used near =
+    in_front (segment_mean d x) (16 - d.segments) 0 d.segments j far (omega arith) (omega (arith, used)) near
+
+-- the least width whose cells reach as far as means of 16 bits
+pub least_reaches : (far : ℕ) → far < 32768 → far < 128 * 2 ^ least_shift far
+least_reaches far near = (width_reaches far 8 (omega (arith, near))).0

@@ -1,19 +1,17 @@
-//! Means in cells: sixteen means in a byte each, as the numbers of the cells that they lie in. The cells are of one width, a power of
-//! two, and as narrow as they can be for these means, so that what the bytes forget is less than a cell.
-ghost use Rattle.std.specs.Prelude.{◌≡◌, ◌+◌, ◌-◌, ◌*◌, ◌^◌, ◌≤◌, ◌<◌, map, replicate};
-ghost use Rattle.mean_bound.specs.Cells.{box_of_cells, cell_of, cells_of, first_mean, from_middle, least_shift, reach};
+//! Means in cells: the means of a part of a row in a byte each, as the numbers of the cells that they lie in. The cells of a part are of
+//! one width, a power of two, and as narrow as they can be for its means, so that what the bytes forget is less than a cell.
+ghost use Rattle.std.specs.Prelude.{◌≡◌, ◌*◌, ◌^◌, ◌≤◌, ◌<◌, map, replicate};
+ghost use Rattle.mean_bound.specs.Cells.{cell_of, cells_of, first_mean, from_middle, least_shift, reach, reach_of_all};
 
-use crate::mean_box::MeanBox;
 use crate::means::Means;
 use std::marker::Model;
-use std::simd::prelude::*;
 
-/// Sixteen means as the numbers of cells, 256 of which lie side by side around the middle, 128 below it and 128 from there on: the
-/// approximation of a VA-file (Weber, Schek and Blott, VLDB 1998), but with a width for each sixteen means.
+/// The means of four quarters as the numbers of cells, 256 of which lie side by side around the middle, 128 below it and 128 from there
+/// on: the approximation of a VA-file (Weber, Schek and Blott, VLDB 1998), but with a width for each part of a row.
 #[derive(Clone, Copy)]
 pub struct MeanCells {
-    numbers: [u8; 16],
-    shift: u8,
+    pub(crate) quarters: [[u8; 16]; 4],
+    pub(crate) shift: u8,
 }
 
 impl Model for MeanCells {
@@ -22,56 +20,60 @@ impl Model for MeanCells {
 
     ghost Value = { Cells };
 
-    ghost view = { λ c. record { numbers = c.numbers; shift = c.shift } };
+    ghost view = { λ c. record { quarters = c.quarters; shift = c.shift } };
 
     ghost invariant = { λ c. c.shift ≤ 8 };
 
-    ghost inverse = { λ c. record { numbers = c.numbers; shift = c.shift } };
+    ghost inverse = { λ c. record { quarters = c.quarters; shift = c.shift } };
 }
 
 impl MeanCells {
-    /// Sixteen times the first of the narrowest cells.
+    /// Four times sixteen times the first of the narrowest cells.
     pub fn zeros() -> MeanCells
-        ensures { result ≡ record { numbers = replicate 16 0; shift = 0 } }
+        ensures { result ≡ record { quarters = replicate 4 (replicate 16 0); shift = 0 } }
     {
         MeanCells {
-            numbers: [0; 16],
+            quarters: [[0; 16]; 4],
             shift: 0,
         }
     }
 
-    /// The cells of means, as narrow as can be.
-    pub fn of(means: &Means) -> MeanCells
+    /// The cells of the means of four quarters, as narrow as can be.
+    pub fn of(means: &[Means; 4]) -> MeanCells
         ensures { result ≡ cells_of means.now }
     {
-        let shift = shift_for(reach_of(means));
-        let mut numbers = [0; 16];
-        for j in 0..16 {
-            numbers[j] = cell_of(means.raised[j], shift);
+        let shift = shift_for(reach_of_all(means));
+        let mut quarters = [[0; 16]; 4];
+        for i in 0..4 {
+            quarters[i] = numbers_of(&means[i], shift);
         }
-        MeanCells { numbers, shift }
-    }
-
-    /// The box of all means that lie in these cells.
-    pub fn around(&self) -> MeanBox
-        ensures { result ≡ box_of_cells self.now }
-    {
-        let width = 1 << self.shift;
-        let first = first_of(self.shift);
-        MeanBox {
-            lows: at_steps(self.numbers, width, first),
-            highs: at_steps(self.numbers, width, first + (width - 1)),
-        }
+        MeanCells { quarters, shift }
     }
 }
 
-/// Sixteen numbers in steps of a width from a first one on.
-fn at_steps(steps: [u8; 16], width: u16, first: u16) -> [u16; 16]
-    requires { first + 255 * width < 65536 }
-    ensures { result ≡ map (λ n. first + n * width) steps }
+/// The numbers of the cells of this width that means lie in.
+fn numbers_of(means: &Means, shift: u8) -> [u8; 16]
+    requires few { shift ≤ 8 }
+    requires reached { reach means.now < 128 * 2 ^ shift }
+    ensures { result ≡ map (cell_of shift) means.now }
 {
-    let steps = u8x16::from_array(steps).cast::<u16>();
-    (steps * u16x16::splat(width) + u16x16::splat(first)).to_array()
+    let mut numbers = [0; 16];
+    for j in 0..16 {
+        numbers[j] = cell_of(means.raised[j], shift);
+    }
+    numbers
+}
+
+/// How far the farthest of the means of four quarters lies from the middle.
+pub(crate) fn reach_of_all(means: &[Means; 4]) -> u16
+    ensures value { result ≡ reach_of_all means.now }
+    ensures limit { result < 32768 }
+{
+    let mut far = 0;
+    for i in 0..4 {
+        far = reach_of(&means[3 - i]).max(far);
+    }
+    far
 }
 
 /// How far the farthest of sixteen means lies from the middle.
@@ -96,7 +98,7 @@ fn from_middle(mean: u16) -> u16
 }
 
 /// The least width of cells that reach so far, as the exponent of two.
-fn shift_for(far: u16) -> u8
+pub(crate) fn shift_for(far: u16) -> u8
     requires { far < 32768 }
     ensures value { result ≡ least_shift far }
     ensures few { result ≤ 8 }
@@ -121,7 +123,7 @@ fn cell_of(mean: u16, shift: u8) -> u8
 }
 
 /// The first mean of the first cell of this width.
-fn first_of(shift: u8) -> u16
+pub(crate) fn first_of(shift: u8) -> u16
     requires { shift ≤ 8 }
     ensures { result ≡ first_mean shift }
 {

@@ -1,35 +1,34 @@
-//! Finer means: a row of at least 128 values is cut into four to eight parts, and each part into 16 segments, whose means are kept as
-//! cells. What the bound of a part tells is at most the distance of that part, so the bounds of all parts together are at most the
-//! distance.
-ghost use Rattle.std.specs.Prelude.{◌≡◌, ◌<◌, ◌≤◌, leb, length};
-ghost use Rattle.segment_sums.specs.Division.{segment_length};
-ghost use Rattle.mean_bound.specs.Finer.{finer_bound, finer_view, into_parts, part_cells, part_count, part_means, part_values, part_view};
-ghost use Rattle.mean_bound.specs.Finer.{within_part};
+//! Finer means: a row of at least 128 values is one part, one of at least 256 two. A part is cut into quarters, and each of these into 16
+//! segments, whose means are kept as cells. The bound of a part is at most the distance of that part, so the bounds of all parts
+//! together are at most the distance.
+ghost use Rattle.std.specs.Prelude.{◌≡◌, ◌*◌, ◌<◌, ◌≤◌, leb, length};
+ghost use Rattle.mean_bound.specs.Finer.{finer_bound, finer_view, finest_length, part_cells, part_count, part_means, part_view};
+ghost use Rattle.mean_bound.specs.Finer.{quarter_means, quarter_values, within_quarter};
 
 use crate::cells::MeanCells;
 use crate::means::Means;
-use crate::view::MeanView;
+use crate::part::PartView;
 use segment_sums::Cuts;
 use std::marker::Model;
 
-/// How rows of one length are cut into parts and segments, seen as that length.
+/// How rows of one length are cut into parts, quarters and segments, seen as that length.
 #[derive(Drop)]
 pub struct FinerCuts {
     length: u32,
     count: u32,
     whole: Cuts,
-    parts: [Cuts; 8],
+    quarters: [Cuts; 8],
 }
 
 impl Model for FinerCuts {
-    ghost use Rattle.std.specs.Prelude.{ℕ, ◌≡◌};
+    ghost use Rattle.std.specs.Prelude.{ℕ};
     ghost use Rattle.mean_bound.specs.Kept.{AreFinerCuts};
 
     ghost Value = { ℕ };
 
     ghost view = { λ c. c.length };
 
-    ghost invariant = { λ c. AreFinerCuts c.length c.count c.whole c.parts };
+    ghost invariant = { λ c. AreFinerCuts c.length c.count c.whole c.quarters };
 }
 
 impl FinerCuts {
@@ -40,21 +39,21 @@ impl FinerCuts {
         ensures { result ≡ n }
     {
         let count = parts_of(n);
-        let whole = Cuts::new(n, count.max(1));
-        let mut parts = [whole; 8];
-        for p in 0..count {
-            let (from, to) = whole.cut(p);
-            parts[p as usize] = Cuts::new(to - from, 16);
+        let whole = Cuts::new(n, (4 * count).max(1));
+        let mut quarters = [whole; 8];
+        for k in 0..4 * count {
+            let (from, to) = whole.cut(k);
+            quarters[k as usize] = Cuts::new(to - from, 16);
         }
         FinerCuts {
             length: n,
             count,
             whole,
-            parts,
+            quarters,
         }
     }
 
-    /// How many parts a row has: none where it has fewer than 128 values, else 4 to 8.
+    /// How many parts a row has: none where it has fewer than 128 values, one where it has fewer than 256, else two.
     pub fn parts(&self) -> u32
         ensures count { result ≡ part_count self.now }
         ensures few { result ≤ 8 }
@@ -73,40 +72,53 @@ impl FinerCuts {
         MeanCells::of(&self.means(row, p))
     }
 
-    // The means of part p of a row.
-    fn means(&self, row: &[i16], p: u32) -> Means
-        requires length { length row.now ≡ self.now }
-        requires part { p < part_count self.now }
-        ensures { result ≡ part_means self.now row.now p }
-    {
-        Means::of(self.cuts(p), self.part(row, p))
-    }
-
     // The view of part p of a query.
-    fn view(&self, query: &[i16], p: u32) -> MeanView
+    fn view(&self, query: &[i16], p: u32) -> PartView
         requires length { length query.now ≡ self.now }
         requires part { p < part_count self.now }
         ensures { result ≡ part_view self.now query.now p }
     {
-        MeanView::new(self.cuts(p), self.part(query, p))
+        PartView::of(self.length / (64 * self.count), self.means(query, p))
     }
 
-    // How part p of a row is cut.
-    fn cuts(&self, p: u32) -> &Cuts
-        requires { p < part_count self.now }
-        ensures { result.now ≡ within_part self.now p }
-    {
-        &self.parts[p as usize]
-    }
-
-    // The values of part p of a row.
-    fn part<'a>(&self, row: &'a [i16], p: u32) -> &'a [i16]
+    // The means of part p of a row, quarter by quarter.
+    fn means(&self, row: &[i16], p: u32) -> [Means; 4]
         requires length { length row.now ≡ self.now }
         requires part { p < part_count self.now }
-        ensures values { result.now ≡ part_values self.now row.now p }
-        ensures length { length result.now ≡ (within_part self.now p).row_length }
+        ensures { result ≡ part_means self.now row.now p }
     {
-        let (from, to) = self.whole.cut(p);
+        let mut means = [Means::zeros(); 4];
+        for i in 0..4 {
+            means[i as usize] = self.quarter_means(row, 4 * p + i);
+        }
+        means
+    }
+
+    // The means of quarter k of a row.
+    fn quarter_means(&self, row: &[i16], k: u32) -> Means
+        requires length { length row.now ≡ self.now }
+        requires quarter { k < 4 * part_count self.now }
+        ensures { result ≡ quarter_means self.now row.now k }
+    {
+        Means::of(self.cuts(k), self.quarter(row, k))
+    }
+
+    // How quarter k of a row is cut.
+    fn cuts(&self, k: u32) -> &Cuts
+        requires { k < 4 * part_count self.now }
+        ensures { result.now ≡ within_quarter self.now k }
+    {
+        &self.quarters[k as usize]
+    }
+
+    // The values of quarter k of a row.
+    fn quarter<'a>(&self, row: &'a [i16], k: u32) -> &'a [i16]
+        requires length { length row.now ≡ self.now }
+        requires quarter { k < 4 * part_count self.now }
+        ensures values { result.now ≡ quarter_values self.now row.now k }
+        ensures length { length result.now ≡ (within_quarter self.now k).row_length }
+    {
+        let (from, to) = self.whole.cut(k);
         &row[from as usize..to as usize]
     }
 }
@@ -115,25 +127,25 @@ impl FinerCuts {
 fn parts_of(n: u32) -> u32
     ensures { result ≡ part_count n }
 {
-    if n < 128 { 0 } else { (n / 32).min(8) }
+    (n / 128).min(2)
 }
 
 /// A query as bounds by finer means see it: a view of each of its parts.
 #[derive(Drop)]
 pub struct FinerView {
     count: u32,
-    views: [MeanView; 8],
+    views: [PartView; 2],
 }
 
 impl Model for FinerView {
     ghost use Rattle.std.specs.Prelude.{List, ◌≡◌, ◌≤◌, length, take};
-    ghost use Rattle.mean_bound.specs.MeanBound.{View};
+    ghost use Rattle.mean_bound.specs.Finer.{PartView};
 
-    ghost Value = { List View };
+    ghost Value = { List PartView };
 
     ghost view = { λ v. take v.count v.views };
 
-    ghost invariant = { λ v. (v.count ≤ 8) × (length v.views ≡ 8) };
+    ghost invariant = { λ v. (v.count ≤ 2) × (length v.views ≡ 2) };
 }
 
 impl FinerView {
@@ -143,7 +155,7 @@ impl FinerView {
         ensures { result ≡ finer_view cuts.now query.now }
     {
         let count = cuts.parts();
-        let mut views = [MeanView::nothing(); 8];
+        let mut views = [PartView::nothing(), PartView::nothing()];
         for p in 0..count {
             views[p as usize] = cuts.view(query, p);
         }
@@ -166,7 +178,7 @@ impl FinerView {
     {
         let mut sum = 0;
         for p in 0..self.count as usize {
-            sum += self.views[p].bound_box(&cells[p].around());
+            sum += self.views[p].bound(&cells[p]);
             if sum > limit {
                 return false;
             }

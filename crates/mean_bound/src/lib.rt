@@ -8,6 +8,8 @@ mod gaps;
 mod laws;
 mod mean_box;
 mod means;
+mod part;
+mod places;
 mod view;
 
 pub use cells::MeanCells;

@@ -5,6 +5,7 @@ ghost use Rattle.mean_bound.specs.Means.{of_segments, raised_sum, row_means, NoR
 
 use segment_sums::Cuts;
 use std::marker::Model;
+use std::simd::prelude::*;
 
 /// The raised means of the segments of a series, seen as 16 numbers below 65536; those past the segments are 0.
 #[derive(Clone, Copy)]
@@ -44,6 +45,14 @@ impl Means {
             (16, 1024) => Means::of_equal::<64>(cuts, row),
             _ => Means::of_any(cuts, row),
         }
+    }
+
+    // The means in lanes.
+    pub(crate) fn lanes(&self) -> u16x16
+        ensures value { result ≡ self.now }
+        ensures sixteen { length result ≡ 16 }
+    {
+        u16x16::from_array(self.raised)
     }
 
     // The means of sixteen segments of L values each. The compiler knows L, so that it divides without a division.

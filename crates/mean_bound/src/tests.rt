@@ -89,31 +89,54 @@ fn plain_bound(series: &[i16], query: &[i16], w: usize) -> u64 {
     (squares.unsigned_abs()).wrapping_mul((series.len() / w) as u64)
 }
 
-/// The bound of a part by the cells of its sixteen means, from the definition: a cell begins at a multiple of the least width by
-/// which all means lie in 128 cells to either side, and the gap is that of the nearest mean in it.
-fn plain_part_bound(series: &[i16], query: &[i16]) -> u64 {
+/// The means of the 16 segments of each quarter of a part of a series, and those of a query. The part begins at a place, and a quarter
+/// ends at each of the ends.
+fn plain_means(series: &[i16], query: &[i16], begin: usize, ends: &[usize]) -> [(i64, i64); 64] {
+    let mut means = [(0, 0); 64];
+    let mut from = begin;
+    for (quarter, end) in ends.iter().enumerate() {
+        for j in 0..16usize {
+            let (length, sum, asked_sum) = match (series.get(from..*end), query.get(from..*end)) {
+                (Some(own), Some(asked)) => plain_sums(own, asked, 16, j),
+                _ => (0, 0, 0),
+            };
+            if let Some(place) = means.get_mut(quarter.wrapping_mul(16).wrapping_add(j)) {
+                *place = (floor(sum, length), floor(asked_sum, length));
+            }
+        }
+        from = *end;
+    }
+    means
+}
+
+/// The least power of two, up to 256, by which all means lie in 128 cells to either side of 0.
+fn plain_width(means: [i64; 64]) -> i64 {
     let mut width = 1i64;
     for _ in 0..8 {
-        let reached = (0..16usize).all(|j| {
-            let (length, sum, _) = plain_sums(series, query, 16, j);
-            let mean = floor(sum, length);
-            width.wrapping_mul(-128) <= mean && mean < width.wrapping_mul(128)
-        });
+        let reached = means.iter().all(|mean| width.wrapping_mul(-128) <= *mean
+            && *mean < width.wrapping_mul(128));
         if !reached {
             width = width.wrapping_mul(2);
         }
     }
+    width
+}
+
+/// The bound of a part, from the definition: a cell begins at a multiple of its width, and of the gap to what may lie in it, where a
+/// query's mean may be rounded down too, the sixteenths of the greater width are squared.
+fn plain_part_bound(means: [(i64, i64); 64], least_length: u64) -> u64 {
+    let width = plain_width(means.map(|both| both.0));
+    let wide = plain_width(means.map(|both| both.1)).max(width);
     let mut squares = 0i64;
-    for j in 0..16 {
-        let (length, sum, asked) = plain_sums(series, query, 16, j);
-        let first = floor(floor(sum, length), width).wrapping_mul(width);
-        let gap = (0..width)
-            .map(|i| gap_to_mean(length, first.wrapping_add(i), asked))
-            .min()
-            .unwrap_or(0);
-        squares = squares.wrapping_add(gap.wrapping_mul(gap));
+    for (mean, asked) in means {
+        let first = floor(mean, width).wrapping_mul(width);
+        let above = asked.wrapping_sub(first.wrapping_add(width));
+        let below = first.wrapping_sub(asked.wrapping_add(1));
+        let sixteenths = floor(above.max(below).max(0).wrapping_mul(16), wide);
+        squares = squares.wrapping_add(sixteenths.wrapping_mul(sixteenths));
     }
-    (squares.unsigned_abs()).wrapping_mul((series.len() / 16) as u64)
+    let squared = wide.wrapping_mul(wide).wrapping_mul(squares);
+    least_length.wrapping_mul(squared.unsigned_abs()) / 256
 }
 
 /// Values scattered over `bits` bits.
@@ -218,42 +241,45 @@ fn a_box_of_boxes_bounds_what_lies_in_each(rt: HostRuntime) -> Result<(), Fail> 
     Ok(())
 }
 
-/// The least and the greatest mean, less 32768, of the cell of each of sixteen values, one of which stands among zeros.
-fn ends_of_cells(value: i16, place: usize) -> [(i32, i32); 16] {
+/// The cells of 64 means, one of which is that of a value and the others of 0.
+fn cells_with(value: i16, place: usize) -> MeanCells {
+    let cuts = Cuts::new(16, 16);
     let mut row = [0; 16];
-    if let Some(there) = row.get_mut(place) {
+    if let Some(there) = row.get_mut(place % 16) {
         *there = value;
     }
-    let around = MeanCells::of(&Means::of(&Cuts::new(16, 16), &row)).around();
-    let mut ends = [(0, 0); 16];
-    for j in 0..16 {
-        let low = i32::from(around.lows[j]).wrapping_sub(32768);
-        let high = i32::from(around.highs[j]).wrapping_sub(32768);
-        ends[j] = (low, high);
+    let mut means = [Means::of(&cuts, &[0; 16]); 4];
+    if let Some(there) = means.get_mut(place / 16) {
+        *there = Means::of(&cuts, &row);
     }
-    ends
+    MeanCells::of(&means)
 }
 
 #[test]
 fn cells_are_as_narrow_as_can_be(rt: HostRuntime) -> Result<(), Fail> {
-    // a value beside zeros, and the ends of its cell and of those of the zeros
-    let rows: [(i16, (i32, i32), (i32, i32)); 9] = [
-        (0, (0, 0), (0, 0)),
-        (127, (127, 127), (0, 0)),
-        (-128, (-128, -128), (0, 0)),
-        (128, (128, 129), (0, 1)),
-        (-129, (-130, -129), (0, 1)),
-        (1000, (1000, 1007), (0, 7)),
-        (-16384, (-16384, -16257), (0, 127)),
-        (16384, (16384, 16639), (0, 255)),
-        (-32768, (-32768, -32513), (0, 255)),
+    // a value beside zeros, the width of the cells as the exponent of two, and the number of its own
+    let rows: [(i16, u8, u8); 9] = [
+        (0, 0, 128),
+        (127, 0, 255),
+        (-128, 0, 0),
+        (128, 1, 192),
+        (-129, 1, 63),
+        (1000, 3, 253),
+        (-16384, 7, 0),
+        (16384, 8, 192),
+        (-32768, 8, 0),
     ];
-    for (value, own, others) in rows {
-        for place in 0..16 {
-            let mut expected = [others; 16];
-            expected[place] = own;
-            let found = ends_of_cells(value, place);
-            assert_eq!(rt; &found[..], &expected[..], "cells of {value} at {place}");
+    for (value, shift, own) in rows {
+        for place in 0..64 {
+            let cells = cells_with(value, place);
+            assert_eq!(rt; cells.shift, shift, "width of cells of {value} at {place}");
+            for other in 0..64 {
+                assert_eq!(rt;
+                    cells.quarters[other / 16][other % 16],
+                    if other == place { own } else { 128 },
+                    "cell at {other} of {value} at {place}"
+                );
+            }
         }
     }
     Ok(())
@@ -284,26 +310,27 @@ fn is_within(
 
 #[test]
 fn finer_bounds_are_those_of_the_parts(rt: HostRuntime) -> Result<(), Fail> {
-    // the ends of the parts
-    let rows: [(usize, &[usize]); 6] = [
-        (1, &[]),
-        (127, &[]),
-        (128, &[32, 64, 96, 128]),
-        (191, &[38, 76, 114, 152, 191]),
-        (200, &[33, 66, 100, 133, 166, 200]),
-        (299, &[37, 74, 112, 149, 186, 224, 261, 299]),
+    // the ends of the quarters of each part, and the least length of a segment
+    let rows: [(usize, &[usize], u64); 7] = [
+        (1, &[], 0),
+        (127, &[], 0),
+        (128, &[32, 64, 96, 128], 2),
+        (191, &[47, 95, 143, 191], 2),
+        (200, &[50, 100, 150, 200], 3),
+        (256, &[32, 64, 96, 128, 160, 192, 224, 256], 2),
+        (299, &[37, 74, 112, 149, 186, 224, 261, 299], 2),
     ];
-    for (n, ends) in rows {
-        for seed in 1..=5u64 {
+    for (n, ends, least_length) in rows {
+        for seed in 1..=15u64 {
             let series = scattered(seed, 2 + (seed % 15) as u32);
-            let query = scattered(seed + 100, 16);
+            let query = scattered(seed + 100, 2 + (seed * 7 % 15) as u32);
             let mut expected = 0u64;
             let mut from = 0;
-            for end in ends {
-                assert!(rt; from <= *end && *end <= 1024, "a part up to {end}");
-                let bound = plain_part_bound(&series[from..*end], &query[from..*end]);
-                expected = expected.wrapping_add(bound);
-                from = *end;
+            for part in 0..ends.len() / 4 {
+                let own = &ends[4 * part..4 * part + 4];
+                let means = plain_means(&series, &query, from, own);
+                expected = expected.wrapping_add(plain_part_bound(means, least_length));
+                from = own[3];
             }
             for (limit, within) in [(expected, true), (expected.wrapping_sub(1), expected == 0)] {
                 assert_eq!(rt;
@@ -312,6 +339,32 @@ fn finer_bounds_are_those_of_the_parts(rt: HostRuntime) -> Result<(), Fail> {
                     "{n} values from {seed} within {limit}"
                 );
             }
+        }
+    }
+    Ok(())
+}
+
+#[test]
+fn worked_finer_bounds(rt: HostRuntime) -> Result<(), Fail> {
+    // all values of a series, all of a query, and the bound of 256 of them
+    let rows: [(i16, i16, u64); 8] = [
+        (5, 9, 2304),
+        (9, 5, 2304),
+        (5, 6, 0),
+        (0, 1000, 255_488_256),
+        (-32768, 32767, 1_090_403_762_176),
+        (32767, -32768, 1_090_403_762_176),
+        (100, 20000, 101_256_331_264),
+        (20000, 100, 100_930_748_416),
+    ];
+    for (own, asked, bound) in rows {
+        let (series, query) = ([own; 256], [asked; 256]);
+        for (limit, within) in [(bound, true), (bound.wrapping_sub(1), bound == 0)] {
+            assert_eq!(rt;
+                is_within(&rt, rt.alloc(), &series, &query, limit)?,
+                within,
+                "{own} for {asked} within {limit}"
+            );
         }
     }
     Ok(())

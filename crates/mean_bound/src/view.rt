@@ -33,15 +33,6 @@ impl Model for MeanView {
 }
 
 impl MeanView {
-    // A view for which no series has a gap.
-    pub(crate) fn nothing() -> MeanView {
-        MeanView {
-            least_length: 0,
-            lows: [0; 16],
-            highs: [0; 16],
-        }
-    }
-
     /// The view of a query, whose length is that of the cuts.
     pub fn new(cuts: &Cuts, query: &[i16]) -> MeanView
         requires { length query.now ≡ cuts.now.row_length }

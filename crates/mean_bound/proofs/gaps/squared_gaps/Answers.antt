@@ -6,4 +6,4 @@ use Rattle.mean_bound.proofs.gaps.squared_gaps.Goals as goal
 
 pub sum_of-requires : goal.sum_of-requires
 sum_of-requires c =
-    omega (arith, ap sum_l c.squares.ensures, squares_small c.gaps.result c.gaps.ensures.small)
+    omega (arith, ap sum_l c.squares.ensures, squares_small 16383 c.gaps.result c.gaps.ensures.small)

@@ -1,10 +1,10 @@
--- The cells of the means so far are found.
+-- The numbers of the quarters so far are found.
 use Rattle.std.proofs.Common.{◌≡◌, length, map, take}
 use Rattle.mean_bound.specs.Cells.{cell_of}
 use Rattle.mean_bound.proofs.cells.MeanCells.of.Given as goal
 
-abbrev pub invariant-loop-j : goal.invariant-loop-j
-invariant-loop-j l = record {
-  places : length l.numbers ≡ 16;
-  found : take l.j l.numbers ≡ map (cell_of l.shift) (take l.j l.means);
+abbrev pub invariant-loop-i : goal.invariant-loop-i
+invariant-loop-i l = record {
+  places : length l.quarters ≡ 4;
+  found : take l.i l.quarters ≡ map (map (cell_of l.shift)) (take l.i l.means);
 }

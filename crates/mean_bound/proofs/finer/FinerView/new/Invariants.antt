@@ -6,6 +6,6 @@ use Rattle.mean_bound.proofs.finer.FinerView.new.Given as goal
 
 abbrev pub invariant-loop-p : goal.invariant-loop-p
 invariant-loop-p l = record {
-  long : length l.views ≡ 8;
+  long : length l.views ≡ 2;
   front : take l.p l.views ≡ map (part_view l.cuts l.query) (range_with_len 0 l.p);
 }

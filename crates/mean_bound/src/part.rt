@@ -1,0 +1,129 @@
+//! A part of a query as bounds by finer means see it. What a cell of a width leaves of a gap is found without a division or a product by
+//! a width: the places that are near the query's means are made once for each width that cells may have.
+ghost use Rattle.std.specs.Prelude.{◌≡◌, ◌*◌, ◌^◌, ◌<◌, ◌≤◌, max};
+ghost use Rattle.mean_bound.specs.Cells.{reach_of_all};
+ghost use Rattle.mean_bound.specs.Finer.{all_squares, part_bound, part_view_of};
+ghost use Rattle.mean_bound.specs.Kept.{near_places};
+
+use crate::cells::{MeanCells, reach_of_all, shift_for};
+use crate::means::Means;
+use crate::places::{highs_of, lows_of, squares_of_quarter, sum_of_pairs, sums_added};
+use std::marker::Model;
+use std::simd::prelude::*;
+
+/// The least and the greatest places of cells of one width that are near the means of each quarter.
+#[derive(Clone, Copy)]
+struct NearPlaces {
+    lows: [[u16; 16]; 4],
+    highs: [[u16; 16]; 4],
+}
+
+impl Model for NearPlaces {
+    ghost use Rattle.mean_bound.specs.Kept.{NearPlaces};
+
+    ghost Value = { NearPlaces };
+
+    ghost view = { λ p. record { lows = p.lows; highs = p.highs } };
+
+    ghost inverse = { λ p. record { lows = p.lows; highs = p.highs } };
+}
+
+impl NearPlaces {
+    // The places of cells of width 2 ^ shift, where cells of width 2 ^ wide have 256 places.
+    fn of(means: &[Means; 4], wide: u8, shift: u8) -> NearPlaces
+        requires few { wide ≤ 8 }
+        requires wider { shift ≤ wide }
+        requires reached { reach_of_all means.now < 128 * 2 ^ wide }
+        ensures { result ≡ near_places wide shift means.now }
+    {
+        let mut lows = [[0; 16]; 4];
+        let mut highs = [[0; 16]; 4];
+        for i in 0..4 {
+            lows[i] = lows_of(&means[i], wide, shift);
+            highs[i] = highs_of(&means[i], wide);
+        }
+        NearPlaces { lows, highs }
+    }
+}
+
+/// A part of a query, seen as the least length of a segment, its means, and the width of the cells that these would lie in.
+#[derive(Drop)]
+pub(crate) struct PartView {
+    least_length: u32,
+    means: [Means; 4],
+    shift: u8,
+    near: [NearPlaces; 9],
+}
+
+impl Model for PartView {
+    ghost use Rattle.mean_bound.specs.Finer.{PartView};
+    ghost use Rattle.mean_bound.specs.Kept.{IsPartView};
+
+    ghost Value = { PartView };
+
+    ghost view = { λ v. record { least_length = v.least_length; means = v.means; shift = v.shift } };
+
+    ghost invariant = { λ v. IsPartView (record { least_length = v.least_length; means = v.means; shift = v.shift }) v.near };
+}
+
+impl PartView {
+    // The view of no segment.
+    pub(crate) fn nothing() -> PartView {
+        PartView::of(0, [Means::zeros(); 4])
+    }
+
+    // The view of means whose segments have at least this length.
+    pub(crate) fn of(least_length: u32, means: [Means; 4]) -> PartView
+        requires { least_length ≤ 65536 }
+        ensures { result ≡ part_view_of least_length means }
+    {
+        let shift = shift_for(reach_of_all(&means));
+        let first = NearPlaces::of(&means, shift, 0);
+        let mut near = [first; 9];
+        for s in 1..9u8 {
+            near[s as usize] = NearPlaces::of(&means, shift.max(s), s);
+        }
+        PartView {
+            least_length,
+            means,
+            shift,
+            near,
+        }
+    }
+
+    // The lower bound of a series by its cells.
+    pub(crate) fn bound(&self, cells: &MeanCells) -> u64
+        ensures value { result ≡ part_bound self.now cells.now }
+        ensures small { result < 2 ^ 56 }
+    {
+        let wide = self.shift.max(cells.shift);
+        let squares = u64::from(self.squares(cells, wide));
+        u64::from(self.least_length) * (square_of_width(wide) * squares) / 256
+    }
+
+    // The sum of the squares of the gaps, in sixteenths of the greater width.
+    fn squares(&self, cells: &MeanCells, wide: u8) -> u32
+        requires { wide ≡ max self.now.shift cells.now.shift }
+        ensures value { result ≡ all_squares wide cells.now.shift self.now.means cells.now.quarters }
+        ensures small { result < 2 ^ 31 }
+    {
+        let near = &self.near[cells.shift as usize];
+        let exponent = 8 - wide + cells.shift;
+        let mut sums = u32x8::splat(0);
+        for i in 0..4 {
+            let (lows, highs) = (near.lows[i], near.highs[i]);
+            let squares = squares_of_quarter(lows, highs, cells.quarters[i], exponent);
+            sums = sums_added(sums, squares);
+        }
+        sum_of_pairs(sums)
+    }
+}
+
+/// The square of a cell's width.
+fn square_of_width(shift: u8) -> u64
+    requires { shift ≤ 8 }
+    ensures value { result ≡ 2 ^ shift * 2 ^ shift }
+    ensures small { result ≤ 65536 }
+{
+    (1 << shift) * (1 << shift)
+}
