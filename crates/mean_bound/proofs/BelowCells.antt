@@ -1,7 +1,7 @@
 -- The law of bounds by cells: a gap from the cell of a mean is at most how far the sums lie apart (`cell_far`), so the bound of a quarter
 -- is at most its distance (`quarter_below`), and so is that by sixteenths (`sixteenths_below`).
 use Rattle.std.proofs.Common.{◌≡◌, ℕ, zero, suc, ◌+◌, ◌-◌, ◌*◌, ◌/◌, ◌^◌, ◌<◌, ◌≤◌, arith, ℤ, List, [], ◌∷◌, ◌++◌, length, drop, map}
-use Rattle.std.specs.Prelude.{unsigned_abs, FitsSigned, max, ◌-ℤ◌}
+use Rattle.std.specs.Prelude.{unsigned_abs, FitsSigned, ◌-ℤ◌}
 use Rattle.std.specs.Int.{w16}
 use Rattle.std.specs.List.{All, range_with_len}
 use Rattle.std.specs.Simd.Lanes.{zip2, sum_l}

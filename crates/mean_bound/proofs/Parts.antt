@@ -1,24 +1,23 @@
 -- The quarters of a row and their segments are divisions (`quarters_divide`, `quarter_divides`), their means are within reach
 -- (`part_reached`), and the bounds of all parts together are at most the distance (`finer_below`).
-use Rattle.std.proofs.Common.{◌≡◌, ℕ, zero, suc, ◌+◌, ◌-◌, ◌*◌, ◌/◌, ◌^◌, ◌<◌, ◌≤◌, arith, subst, sym, ap, ◌∙◌, ℤ, List, length, drop, map}
-use Rattle.std.specs.Prelude.{FitsSigned, min, max}
+use Rattle.std.proofs.Common.{◌≡◌, ℕ, zero, suc, ◌+◌, ◌*◌, ◌/◌, ◌^◌, ◌<◌, ◌≤◌, arith, subst, ap, ℤ, List, length, drop, map}
+use Rattle.std.specs.Prelude.{FitsSigned, max}
 use Rattle.std.specs.Int.{w16}
 use Rattle.std.specs.List.{All, range_with_len}
-use Rattle.std.specs.Simd.Lanes.{zip2, sum_l, Each1}
+use Rattle.std.specs.Simd.Lanes.{zip2, sum_l}
 use Rattle.std.proofs.lemmas.Nat.{le-div, mul-le}
 use Rattle.std.proofs.lemmas.List.Elements.{All-take, All-drop}
-use Rattle.std.proofs.Math.Nat.{div-le_of_le-mul, div-mul-le_self}
+use Rattle.std.proofs.Math.Nat.{div-mul-le_self}
 use Rattle.series_core.specs.Distance.{squared_distance}
 use Rattle.segment_sums.specs.Division.{IsDivision, cut_place, segment_length}
 use Rattle.segment_sums.proofs.Places.{cut_place_first, cut_place_inside}
 use Rattle.segment_sums.proofs.Sums.{length-segment_values}
 use Rattle.lower_bound.proofs.Bounds.{rest_splits}
-use Rattle.mean_bound.specs.Means.{segment_mean}
 use Rattle.mean_bound.specs.MeanBound.{least_length, square}
-use Rattle.mean_bound.specs.Cells.{cell_of, from_middle, least_shift, reach, reach_of_all}
+use Rattle.mean_bound.specs.Cells.{cell_of, least_shift, reach, reach_of_all}
 use Rattle.mean_bound.specs.Finer.{part_count, into_quarters, within_quarter, quarter_values, quarter_means, part_means, part_cells, part_view, part_bound, finest_length, cell_gap, quarter_squares, all_squares, finer_bound, finer_means, finer_view}
 use Rattle.mean_bound.proofs.BelowDistances.{least_is_least}
-use Rattle.mean_bound.proofs.BelowCells.{cells_below, sixteenths_below, squares_from}
+use Rattle.mean_bound.proofs.BelowCells.{cells_below, sixteenths_below}
 use Rattle.mean_bound.proofs.InCells.{all_reached, least_reaches, mean_reached, means_reached}
 
 -- a part has 128 values at least

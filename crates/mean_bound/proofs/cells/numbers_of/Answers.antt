@@ -1,5 +1,5 @@
 -- Each mean is within the reach of all, and the cells reach so far.
-use Rattle.std.proofs.Common.{◌≤◌, arith, slice_index_or, sym, ap, ◌∙◌}
+use Rattle.std.proofs.Common.{◌≤◌, arith, slice_index_or, sym, ap}
 use Rattle.mean_bound.specs.Cells.{from_middle, reach}
 use Rattle.mean_bound.proofs.InCells.{reach_at}
 use Rattle.mean_bound.proofs.cells.numbers_of.Goals as goal

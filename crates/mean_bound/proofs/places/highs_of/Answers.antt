@@ -1,5 +1,5 @@
 -- The place of each mean and a place's step more.
-use Rattle.std.proofs.Common.{ℕ, List, ◌-◌, ◌+◌, ◌∙◌, ap, map}
+use Rattle.std.proofs.Common.{ℕ, ◌-◌, ◌+◌, ◌∙◌, ap, map}
 use Rattle.std.specs.Prelude.{min}
 use Rattle.std.proofs.lemmas.Simd.{map-map}
 use Rattle.mean_bound.specs.Kept.{place_of}

@@ -1,5 +1,5 @@
 -- A shift by four divides by sixteen.
-use Rattle.std.proofs.Common.{refl, ◌≤◌, ◌<◌, ◌/◌, List, ℕ, sym, subst}
+use Rattle.std.proofs.Common.{refl, ◌≤◌, ◌<◌, List, ℕ, sym, subst}
 use Rattle.std.specs.Simd.Lanes.{Each1}
 use Rattle.std.proofs.lemmas.Simd.{Each1-weaker}
 use mir.Syntax.{w16}

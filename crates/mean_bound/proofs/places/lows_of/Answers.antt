@@ -1,5 +1,5 @@
 -- The place of each mean less the step.
-use Rattle.std.proofs.Common.{ℕ, List, ◌-◌, ◌+◌, ◌∙◌, ap, map}
+use Rattle.std.proofs.Common.{ℕ, ◌-◌, ◌∙◌, ap, map}
 use Rattle.std.proofs.lemmas.Simd.{map-map}
 use Rattle.mean_bound.specs.Kept.{place_of}
 use Rattle.mean_bound.proofs.places.lows_of.Goals as goal

@@ -1,5 +1,5 @@
 -- A mean within reach is not below the first one, and its place takes 16 bits.
-use Rattle.std.proofs.Common.{◌∙◌, ◌*◌, ◌^◌, ◌<◌, ◌≤◌, sym, subst, ap, arith, map, length}
+use Rattle.std.proofs.Common.{◌*◌, ◌^◌, ◌<◌, sym, subst}
 use Rattle.mean_bound.specs.Cells.{reach}
 use Rattle.mean_bound.proofs.InPlaces.{places_fit}
 use Rattle.mean_bound.proofs.places.places_of_means.Goals as goal

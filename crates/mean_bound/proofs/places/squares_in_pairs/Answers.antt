@@ -1,5 +1,5 @@
 -- Sixteen squares of at most 4095 * 4095 add up in 32 bits, by pairs too.
-use Rattle.std.proofs.Common.{◌≡◌, ◌≤◌, ◌∙◌, ap, arith, length}
+use Rattle.std.proofs.Common.{◌∙◌, ap, arith}
 use Rattle.std.specs.Simd.Lanes.{sum_l}
 use Rattle.mean_bound.proofs.Squares.{squares_small, sums_of_pairs}
 use Rattle.mean_bound.proofs.places.squares_in_pairs.Goals as goal

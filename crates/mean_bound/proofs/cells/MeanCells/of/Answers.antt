@@ -1,6 +1,6 @@
 -- The means of a quarter are within the reach of all, and the cells reach so far.
-use Rattle.std.proofs.Common.{◌≡◌, ◌*◌, ◌^◌, ◌<◌, ◌≤◌, ◌∙◌, sym, ap, subst, arith, slice_index_or, length}
-use Rattle.mean_bound.specs.Cells.{least_shift, reach, reach_of_all}
+use Rattle.std.proofs.Common.{◌*◌, ◌^◌, ◌<◌, ◌≤◌, sym, subst, arith, slice_index_or}
+use Rattle.mean_bound.specs.Cells.{reach, reach_of_all}
 use Rattle.mean_bound.proofs.InCells.{quarter_reached}
 use Rattle.mean_bound.proofs.cells.MeanCells.of.Goals as goal
 

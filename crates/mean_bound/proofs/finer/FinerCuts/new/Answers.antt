@@ -1,6 +1,6 @@
 -- One quarter more is cut.
-use Rattle.std.proofs.Common.{◌≡◌, ◌∙◌, ◌<◌, ◌≤◌, ◌+◌, ◌-◌, ◌*◌, ℕ, ap, arith}
-use Rattle.std.specs.Prelude.{max, min}
+use Rattle.std.proofs.Common.{◌≡◌, ◌∙◌, ◌<◌, ◌+◌, ◌-◌, ◌*◌, ℕ, ap, arith}
+use Rattle.std.specs.Prelude.{max}
 use Rattle.std.proofs.lemmas.List.{length-set}
 use Rattle.segment_sums.specs.Division.{Division, division_of, cut_place, segment_length}
 use Rattle.mean_bound.specs.Finer.{into_quarters, part_count, within_quarter}

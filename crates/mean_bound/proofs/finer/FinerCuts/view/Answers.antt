@@ -1,6 +1,6 @@
 -- The view of the part's means, and of the least length of a segment.
-use Rattle.std.proofs.Common.{◌≡◌, ◌∙◌, ◌*◌, ◌/◌, ℕ, ap}
-use Rattle.mean_bound.specs.Finer.{finest_length, part_count, part_view_of}
+use Rattle.std.proofs.Common.{◌≡◌, ◌∙◌, ◌*◌, ◌/◌, ap}
+use Rattle.mean_bound.specs.Finer.{finest_length, part_view_of}
 use Rattle.mean_bound.proofs.finer.FinerCuts.view.Goals as goal
 
 pub returns : goal.returns

@@ -1,9 +1,9 @@
 -- The least width reaches as far as the means, and so does each wider one; the places for one width more stand behind the others.
-use Rattle.std.proofs.Common.{◌≡◌, ◌∙◌, ◌*◌, ◌^◌, ◌<◌, ◌∷◌, [], ℕ, refl, sym, ap, map, take, length, subst, arith}
+use Rattle.std.proofs.Common.{◌≡◌, ◌∙◌, ◌*◌, ◌^◌, ◌<◌, ◌∷◌, [], refl, sym, ap, map, subst, arith}
 use Rattle.std.specs.Prelude.{max}
 use Rattle.std.specs.List.{range_with_len}
 use Rattle.std.proofs.lemmas.List.{length-set, take_all}
-use Rattle.mean_bound.specs.Cells.{least_shift, reach_of_all}
+use Rattle.mean_bound.specs.Cells.{reach_of_all}
 use Rattle.mean_bound.specs.Finer.{PartView}
 use Rattle.mean_bound.specs.Kept.{NearPlaces, near_of, near_places}
 use Rattle.mean_bound.proofs.Fronts.{front_more}

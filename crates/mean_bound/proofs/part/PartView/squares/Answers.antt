@@ -1,5 +1,5 @@
 -- One quarter more.
-use Rattle.std.proofs.Common.{◌≡◌, ◌∙◌, ◌+◌, ◌*◌, ◌^◌, ◌<◌, ◌≤◌, ℕ, refl, sym, ap, subst, arith, drop, length, ◌-◌}
+use Rattle.std.proofs.Common.{◌≡◌, ◌∙◌, ◌+◌, refl, sym, ap, subst, arith, drop, ◌-◌}
 use Rattle.std.specs.Prelude.{max}
 use Rattle.std.specs.Simd.Lanes.{sum_l}
 use Rattle.mean_bound.specs.Cells.{Cells}
