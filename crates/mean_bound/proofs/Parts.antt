@@ -24,6 +24,9 @@ use Rattle.mean_bound.proofs.InCells.{all_reached, least_reaches, mean_reached, 
 pub part_small : (n : ℕ) → part_count n * 128 ≤ n
 part_small n = omega (arith, div-mul-le_self n 128)
 
+pub part_few : (n : ℕ) → part_count n ≤ 8
+part_few n = omega arith
+
 -- a row is divided into the quarters of its parts
 pub quarters_divide : (n : ℕ) → 1 ≤ n → n ≤ 65536 → IsDivision (into_quarters n)
 quarters_divide n some short = record {
