@@ -5,7 +5,7 @@ use Rattle.std.proofs.lemmas.Bool.{leb-false}
 use Rattle.series_core.specs.Distance.{squared_distance}
 use Rattle.isax_word.specs.declared.member.Member.{Member}
 use Rattle.mean_bound.specs.Cells.{Cells}
-use Rattle.mean_bound.specs.Finer.{finer_bound, finer_view}
+use Rattle.mean_bound.specs.Finer.{PartView, finer_bound, finer_view}
 use Rattle.mean_bound.specs.MeanBound.{View, mean_bound, mean_view_of}
 use Rattle.subtree_build.specs.Means.{finer_of, finer_points, means_of}
 use Rattle.subtree_build.specs.Members.{series_at}
@@ -14,7 +14,7 @@ use Rattle.query_core.proofs.BelowMeans.{finer_is_below, means_are_below}
 use Rattle.query_core.proofs.task.Task.may_be_within.Goals as goal
 
 -- a member whose finer means are above the limit is farther
-finer_are_far : (a : Question) (m : Member) (views : List View) (finer : List Cells) (limit : ℕ) (within : Bool)
+finer_are_far : (a : Question) (m : Member) (views : List PartView) (finer : List Cells) (limit : ℕ) (within : Bool)
     → IsQuestion a → m.number < length a.collection.series
     → views ≡ finer_view (finer_points a.collection) a.query → finer ≡ finer_of a.collection m
     → within ≡ leb (finer_bound views finer) limit → within ≡ false
@@ -22,7 +22,7 @@ finer_are_far : (a : Question) (m : Member) (views : List View) (finer : List Ce
 finer_are_far a m views finer limit within is real seen own told above =
     let view = finer_view (finer_points a.collection) a.query in
     let same : finer_bound views finer ≡ finer_bound view (finer_of a.collection m) =
-    ap (λ (vs : List View). finer_bound vs finer) seen ∙ ap (λ (cs : List Cells). finer_bound view cs) own in
+    ap (λ (vs : List PartView). finer_bound vs finer) seen ∙ ap (λ (cs : List Cells). finer_bound view cs) own in
     let below = finer_is_below a m is real in
     let passed = leb-false (finer_bound views finer) limit (sym told ∙ above) in
     omega (arith, same, below, passed)

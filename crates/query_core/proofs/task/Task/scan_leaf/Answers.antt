@@ -7,8 +7,7 @@ use Rattle.std.proofs.lemmas.List.Elements.{All-get_or}
 use Rattle.std.proofs.lemmas.List.FromFn.{length-map-range_with_len}
 use Rattle.isax_word.specs.declared.member.Member.{Member}
 use Rattle.mean_bound.specs.Cells.{Cells}
-use Rattle.mean_bound.specs.Finer.{finer_view, part_count, part_view}
-use Rattle.mean_bound.specs.MeanBound.{View}
+use Rattle.mean_bound.specs.Finer.{PartView, finer_view, part_count, part_view}
 use Rattle.subtree_build.specs.Index.{IndexParts, leaf_at}
 use Rattle.subtree_build.specs.Means.{all_finer, finer_at, finer_points}
 use Rattle.subtree_build.specs.Fits.{Fits as IndexFits}
@@ -32,11 +31,11 @@ own_finer a ix l members finer fits real are is =
     is ∙ finer_of_leaf a.collection a.layout ix l fits real ∙ ap (all_finer a.collection) (sym are)
 
 -- there are as many parts as the query has
-same_parts : (a : Question) (views : List View) (parts : ℕ) → parts ≡ length views
+same_parts : (a : Question) (views : List PartView) (parts : ℕ) → parts ≡ length views
     → views ≡ finer_view (finer_points a.collection) a.query → parts ≡ part_count (finer_points a.collection)
 same_parts a views parts count are =
     count
-    ∙ ap (λ (vs : List View). length vs) are
+    ∙ ap (λ (vs : List PartView). length vs) are
     ∙ length-map-range_with_len (part_view (finer_points a.collection) a.query) 0 (part_count (finer_points a.collection))
 
 pub of_member-own-requires : goal.of_member-own-requires
