@@ -11,7 +11,7 @@ use Rattle.std.proofs.Math.Nat.{mul-sub, pow-le-pow_right}
 use Rattle.mean_bound.specs.Cells.{Cells, cell_low, first_mean, from_middle, reach, reach_of_all}
 use Rattle.mean_bound.specs.MeanBound.{square}
 use Rattle.mean_bound.specs.Finer.{PartView, all_squares, cell_gap, sixteenths}
-use Rattle.mean_bound.specs.Kept.{NearPlaces, high_place, low_place, near_of, near_places, place_gaps}
+use Rattle.mean_bound.specs.Kept.{NearPlaces, high_place, low_place, near_of, place_gaps}
 use Rattle.mean_bound.proofs.InCells.{each_reached}
 
 -- the places of a mean and the means of a cell make 256
@@ -131,20 +131,22 @@ quarter_is w s (ms ∷ mss) (cs ∷ css) (suc i) few wider near inside there sma
     quarter_is w s mss css i few wider (omega (arith, near)) (omega (arith, inside)) (omega (arith, there)) small
 
 -- so they are told by what a view keeps for a width
-pub quarter_step : (v : PartView) (c : Cells) (n : NearPlaces) (w e i got : ℕ) → w ≡ max v.shift c.shift → e ≡ 8 - w + c.shift
-    → v.shift ≤ 8 → c.shift ≤ 8 → reach_of_all v.means < 128 * 2 ^ v.shift → n ≡ near_of v c.shift
+pub quarter_step : (v : PartView) (c : Cells) (n : NearPlaces) (i got : ℕ) → v.shift ≤ 8 → c.shift ≤ 8
+    → reach_of_all v.means < 128 * 2 ^ v.shift → n ≡ near_of v c.shift
     → i < length v.means → i < length c.quarters → Each1 (λ b. b < 256) (get_or c.quarters i [])
-    → got ≡ sum_l (map square (place_gaps (get_or n.lows i []) (get_or n.highs i []) (map (cell_low e) (get_or c.quarters i []))))
-    → all_squares w c.shift (drop i v.means) (drop i c.quarters)
-    ≡ got + all_squares w c.shift (drop (i + 1) v.means) (drop (i + 1) c.quarters)
-quarter_step v c n w e i got wide exponent few_v few_c near is inside there small value =
-    let wider = wider_reaches (reach_of_all v.means) v.shift w (omega (arith, wide)) near in
+    → got ≡ sum_l (map square (place_gaps (get_or n.lows i []) (get_or n.highs i [])
+    (map (λ b. n.first + b * n.step) (get_or c.quarters i []))))
+    → all_squares (max v.shift c.shift) c.shift (drop i v.means) (drop i c.quarters)
+    ≡ got + all_squares (max v.shift c.shift) c.shift (drop (i + 1) v.means) (drop (i + 1) c.quarters)
+quarter_step v c n i got few_v few_c near is inside there small value =
+    let w = max v.shift c.shift in
+    let wider = wider_reaches (reach_of_all v.means) v.shift w (omega arith) near in
     let rest : ℕ = all_squares w c.shift (drop (suc i) v.means) (drop (suc i) c.quarters) in
-    let told : NearPlaces → ℕ → ℕ = λ p e.
-    sum_l (map square (place_gaps (get_or p.lows i []) (get_or p.highs i []) (map (cell_low e) (get_or c.quarters i [])))) in
-    let own : n ≡ near_places w c.shift v.means = is ∙ ap (λ m. near_places m c.shift v.means) (sym wide) in
-    quarter_is w c.shift v.means c.quarters i (omega (arith, wide, few_v, few_c)) (omega (arith, wide)) wider inside there small
-    ∙ ap (λ t. t + rest) (sym (value ∙ ap (λ p. told p e) own ∙ ap (told (near_places w c.shift v.means)) exponent))
+    let told : NearPlaces → ℕ = λ p.
+    sum_l (map square (place_gaps (get_or p.lows i []) (get_or p.highs i [])
+    (map (λ b. p.first + b * p.step) (get_or c.quarters i [])))) in
+    quarter_is w c.shift v.means c.quarters i (omega (arith, few_v, few_c)) (omega arith) wider inside there small
+    ∙ ap (λ t. t + rest) (sym (value ∙ ap told is))
     ∙ ap (λ k. got + all_squares w c.shift (drop k v.means) (drop k c.quarters)) (sym (add-one i))
 
 -- what a view keeps for a width of cells
@@ -152,6 +154,14 @@ pub near_at : (v : PartView) (near : List NearPlaces) (s : ℕ) (d : NearPlaces)
     → get_or near s d ≡ near_of v s
 near_at v near s d is few =
     ap (λ ps. get_or ps s d) is ∙ get_or-map-range_with_len (near_of v) 0 9 s s d (omega (arith, few)) (omega arith)
+
+-- the square of a width takes 17 bits
+pub weight_fits : (w : ℕ) → w ≤ 8 → 2 ^ w * 2 ^ w ≤ 65536
+weight_fits w few = let low = pow_few w few in mul-le (2 ^ w) (2 ^ w) 256 256 low low
+
+-- and the places of all cells 16
+pub steps_fit : (e : ℕ) → e ≤ 8 → first_mean e + 255 * 2 ^ e < 65536
+steps_fit e few = omega (arith, pow_few e few)
 
 -- a mean within reach is not below the first one, and its place takes 16 bits
 place_fits : (w m : ℕ) → w ≤ 8 → from_middle m < 128 * 2 ^ w

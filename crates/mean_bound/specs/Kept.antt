@@ -32,16 +32,23 @@ high_place wide mean = min (place_of wide mean) (65535 - 2 ^ (8 - wide)) + 2 ^ (
 abbrev pub place_gaps : List ℕ → List ℕ → List ℕ → List ℕ
 place_gaps lows highs places = map (λ n. n / 16) (zip2 max (zip2 (λ l x. l - x) lows places) (zip2 (λ x h. x - h) places highs))
 
--- for the means of each quarter the least and the greatest places of cells that lie near them
+-- for the means of each quarter the least and the greatest places of cells that lie near them; how many places a cell has, and the
+-- place of the first; and the square of the greater width, of which squares of gaps are counted
 pub record NearPlaces : Type 0 where
   pub lows : List (List ℕ)
   pub highs : List (List ℕ)
+  pub step : ℕ
+  pub first : ℕ
+  pub weight : ℕ
 
 -- those of cells of width 2 ^ shift
 abbrev pub near_places : ℕ → ℕ → List (List ℕ) → NearPlaces
 near_places wide shift quarters = record {
   lows = map (map (low_place wide shift)) quarters;
   highs = map (map (high_place wide)) quarters;
+  step = 2 ^ (8 - wide + shift);
+  first = first_mean (8 - wide + shift);
+  weight = 2 ^ wide * 2 ^ wide;
 }
 
 -- and for a view, by the greater of both widths

@@ -5,17 +5,21 @@ ghost use Rattle.mean_bound.specs.Cells.{reach_of_all};
 ghost use Rattle.mean_bound.specs.Finer.{all_squares, part_bound, part_view_of};
 ghost use Rattle.mean_bound.specs.Kept.{near_places};
 
-use crate::cells::{MeanCells, reach_of_all, shift_for};
+use crate::cells::{MeanCells, first_of, reach_of_all, shift_for};
 use crate::means::Means;
-use crate::places::{highs_of, lows_of, squares_of_quarter, sum_of_pairs, sums_added};
+use crate::places::{highs_of, lows_of, power, squares_of_quarter, sum_of_pairs, sums_added};
 use std::marker::Model;
 use std::simd::prelude::*;
 
-/// The least and the greatest places of cells of one width that are near the means of each quarter.
+/// The least and the greatest places of cells of one width that are near the means of each quarter; how many places a cell has, and the
+/// place of the first; and the square of the greater of both widths.
 #[derive(Clone, Copy)]
 struct NearPlaces {
     lows: [[u16; 16]; 4],
     highs: [[u16; 16]; 4],
+    step: u16,
+    first: u16,
+    weight: u32,
 }
 
 impl Model for NearPlaces {
@@ -23,9 +27,9 @@ impl Model for NearPlaces {
 
     ghost Value = { NearPlaces };
 
-    ghost view = { λ p. record { lows = p.lows; highs = p.highs } };
+    ghost view = { λ p. record { lows = p.lows; highs = p.highs; step = p.step; first = p.first; weight = p.weight } };
 
-    ghost inverse = { λ p. record { lows = p.lows; highs = p.highs } };
+    ghost inverse = { λ p. record { lows = p.lows; highs = p.highs; step = p.step; first = p.first; weight = p.weight } };
 }
 
 impl NearPlaces {
@@ -42,7 +46,14 @@ impl NearPlaces {
             lows[i] = lows_of(&means[i], wide, shift);
             highs[i] = highs_of(&means[i], wide);
         }
-        NearPlaces { lows, highs }
+        let exponent = 8 - wide + shift;
+        NearPlaces {
+            lows,
+            highs,
+            step: power(exponent),
+            first: first_of(exponent),
+            weight: square_of_width(wide),
+        }
     }
 }
 
@@ -96,23 +107,29 @@ impl PartView {
         ensures value { result ≡ part_bound self.now cells.now }
         ensures small { result < 2 ^ 56 }
     {
-        let wide = self.shift.max(cells.shift);
-        let squares = u64::from(self.squares(cells, wide));
-        u64::from(self.least_length) * (square_of_width(wide) * squares) / 256
+        let squares = u64::from(self.squares(cells));
+        u64::from(self.least_length) * (self.weight(cells) * squares) / 256
+    }
+
+    // The square of the greater width.
+    fn weight(&self, cells: &MeanCells) -> u64
+        ensures value { result ≡ 2 ^ max self.now.shift cells.now.shift * 2 ^ max self.now.shift cells.now.shift }
+        ensures small { result ≤ 65536 }
+    {
+        let near = &self.near[cells.shift as usize];
+        u64::from(near.weight)
     }
 
     // The sum of the squares of the gaps, in sixteenths of the greater width.
-    fn squares(&self, cells: &MeanCells, wide: u8) -> u32
-        requires { wide ≡ max self.now.shift cells.now.shift }
-        ensures value { result ≡ all_squares wide cells.now.shift self.now.means cells.now.quarters }
+    fn squares(&self, cells: &MeanCells) -> u32
+        ensures value { result ≡ all_squares (max self.now.shift cells.now.shift) cells.now.shift self.now.means cells.now.quarters }
         ensures small { result < 2 ^ 31 }
     {
         let near = &self.near[cells.shift as usize];
-        let exponent = 8 - wide + cells.shift;
         let mut sums = u32x8::splat(0);
         for i in 0..4 {
             let (lows, highs) = (near.lows[i], near.highs[i]);
-            let squares = squares_of_quarter(lows, highs, cells.quarters[i], exponent);
+            let squares = squares_of_quarter(lows, highs, cells.quarters[i], near.step, near.first);
             sums = sums_added(sums, squares);
         }
         sum_of_pairs(sums)
@@ -120,7 +137,7 @@ impl PartView {
 }
 
 /// The square of a cell's width.
-fn square_of_width(shift: u8) -> u64
+fn square_of_width(shift: u8) -> u32
     requires { shift ≤ 8 }
     ensures value { result ≡ 2 ^ shift * 2 ^ shift }
     ensures small { result ≤ 65536 }

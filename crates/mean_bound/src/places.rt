@@ -2,7 +2,7 @@
 //! that two squares at a time add up in one step.
 ghost use Rattle.std.specs.Prelude.{◌≡◌, ◌+◌, ◌-◌, ◌*◌, ◌/◌, ◌<◌, ◌≤◌, ◌^◌, length, map, max, min};
 ghost use Rattle.std.specs.Simd.Lanes.{zip2, sum_l, Each1};
-ghost use Rattle.mean_bound.specs.Cells.{cell_low, reach};
+ghost use Rattle.mean_bound.specs.Cells.{reach};
 ghost use Rattle.mean_bound.specs.Kept.{high_place, low_place, place_gaps, place_of};
 ghost use Rattle.mean_bound.specs.MeanBound.{square};
 
@@ -17,36 +17,27 @@ pub(crate) fn squares_of_quarter(
     lows: [u16; 16],
     highs: [u16; 16],
     numbers: [u8; 16],
-    exponent: u8,
+    step: u16,
+    first: u16,
 ) -> u32x8
-    requires { exponent ≤ 8 }
-    ensures value { sum_l result ≡ sum_l (map square (place_gaps lows highs (map (cell_low exponent) numbers))) }
+    requires { first + 255 * step < 65536 }
+    ensures value { sum_l result ≡ sum_l (map square (place_gaps lows highs (map (λ n. first + n * step) numbers))) }
     ensures small { sum_l result ≤ 268304400 }
     ensures bytes { Each1 (λ n. n < 256) numbers }
 {
-    let places = places_of(numbers, exponent);
+    let places = at_steps(numbers, step, first);
     let gaps = sixteenths(u16x16::from_array(lows), u16x16::from_array(highs), places);
     squares_in_pairs(gaps)
 }
 
-/// The places of the first means of sixteen cells, each of which has `2 ^ exponent` places.
-fn places_of(numbers: [u8; 16], exponent: u8) -> u16x16
-    requires { exponent ≤ 8 }
-    ensures value { result ≡ map (cell_low exponent) numbers }
+/// The places of the first means of sixteen cells: each cell is a step farther on, from a first place on.
+fn at_steps(numbers: [u8; 16], step: u16, first: u16) -> u16x16
+    requires { first + 255 * step < 65536 }
+    ensures value { result ≡ map (λ n. first + n * step) numbers }
     ensures bytes { Each1 (λ n. n < 256) numbers }
 {
-    let width = 1 << exponent;
-    at_steps(numbers, width, first_of(exponent))
-}
-
-/// Sixteen numbers in steps of a width from a first one on.
-fn at_steps(steps: [u8; 16], width: u16, first: u16) -> u16x16
-    requires { first + 255 * width < 65536 }
-    ensures value { result ≡ map (λ n. first + n * width) steps }
-    ensures bytes { Each1 (λ n. n < 256) steps }
-{
-    let steps = u8x16::from_array(steps).cast::<u16>();
-    steps * u16x16::splat(width) + u16x16::splat(first)
+    let numbers = u8x16::from_array(numbers).cast::<u16>();
+    numbers * u16x16::splat(step) + u16x16::splat(first)
 }
 
 /// By how many sixteenths of a cell the places lie below the lows or above the highs.
@@ -153,7 +144,7 @@ fn heightened(numbers: u16x16, step: u16) -> u16x16
 }
 
 /// A power of two.
-fn power(exponent: u8) -> u16
+pub(crate) fn power(exponent: u8) -> u16
     requires { exponent ≤ 8 }
     ensures { result ≡ 2 ^ exponent }
 {

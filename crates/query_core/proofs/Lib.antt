@@ -12,6 +12,7 @@ pub mod Keeping
 pub mod TurnLaws
 pub mod Openers
 pub mod Homes
+pub mod FinerRows
 pub mod BelowRoots
 pub mod StartLeaf
 pub mod OfIndex

@@ -49,16 +49,18 @@ impl<'a, R: Rows> Task<'a, R> {
         self.nearest_by_leaves(alloc, index, first)
     }
 
-    // The list of the answer where means may tell too little: the first limit may be too wide, so a closer one decides it.
+    // The list of the answer where means may tell too little. The first limit may be too wide, so a closer one decides it, less a quarter:
+    // the last distance lies below that of a few members, and no list of all leaves is made to learn it.
     fn nearest_by_sample(&self, alloc: Global, index: &Index) -> Result<KBest, NoMemory>
         requires fits { IndexFits self.now.collection self.now.layout index.now }
         ensures { IfOk result (λ best. best.pairs ≡ answer self.now.collection self.now.query self.now.k) }
     {
         search_law(self, index);
         let close = self.first_limit(alloc, index, CLOSE)?;
-        match self.what_tells(index, close) {
+        match self.what_tells(index, close - close / 4) {
+            Telling::Means => self.nearest_by_leaves(alloc, index, close),
             Telling::FinerMeans => self.answer_by_finer_means(alloc, index, close),
-            Telling::Means | Telling::Nothing => self.nearest_by_leaves(alloc, index, close),
+            Telling::Nothing => self.answer_by_rows(alloc, index, close),
         }
     }
 

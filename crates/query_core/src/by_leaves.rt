@@ -10,7 +10,6 @@ ghost use Rattle.query_core.specs.NearLeaves.{IsLeafEntry, leaves_in, within_bou
 ghost use Rattle.query_core.specs.Questions.{last_of, search_over};
 
 use crate::index_laws::search_law;
-use crate::leaf_scan::Sieve;
 use crate::scan::distance_of_worst;
 use crate::task::Task;
 use crate::telling::Telling;
@@ -93,26 +92,6 @@ impl<'a, R: Rows> Task<'a, R> {
         search_law(self, index);
         self.scan_within(alloc, index, closest, first, list)?;
         Ok(distance_of_worst(list).min(first))
-    }
-
-    /// The list of the answer, by the finer means of all members, in the order of their leaves as these lie in memory. No box of a leaf
-    /// and no means are looked at.
-    pub(crate) fn answer_by_finer_means(
-        &self,
-        alloc: Global,
-        index: &Index,
-        limit: u64,
-    ) -> Result<KBest, NoMemory>
-        requires fits { IndexFits self.now.collection self.now.layout index.now }
-        requires limit { last_of self.now ≤ limit }
-        ensures { IfOk result (λ best. best.pairs ≡ answer self.now.collection self.now.query self.now.k) }
-    {
-        search_law(self, index);
-        let mut list = KBest::new(alloc, self.k())?;
-        for leaf in 0..index.leaf_count() {
-            self.scan_leaf(index, leaf, Sieve::FinerMeans, limit, &mut list);
-        }
-        Ok(list)
     }
 
     // The list of the answer, by all leaves that may have a member within the limit, in the order of their numbers.

@@ -4,7 +4,6 @@ ghost use Rattle.subtree_build.specs.Fits.{Fits as IndexFits};
 ghost use Rattle.query_core.specs.Questions.{last_of};
 
 use crate::index_laws::search_law;
-use crate::leaf_scan::Sieve;
 use crate::scan::distance_of_worst;
 use crate::task::Task;
 use outside::NoMemory;
@@ -35,7 +34,7 @@ impl<'a, R: Rows> Task<'a, R> {
                 return Ok(distance_of_worst(&list));
             }
             members = members.saturating_add(index.leaf_members(leaf).len());
-            self.scan_leaf(index, leaf, Sieve::Means, NONE, &mut list);
+            self.scan_leaf(index, leaf, NONE, &mut list);
         }
         Ok(distance_of_worst(&list))
     }

@@ -1,5 +1,4 @@
-//! Scanning a leaf for the answer alone: a member is passed over by its means, or else by its finer means, or else measured. Where
-//! means tell little, they are not tried, and a member is passed over by its finer means alone.
+//! Scanning a leaf for the answer alone: a member is passed over by its means, or else by its finer means, or else measured.
 ghost use Rattle.std.specs.Prelude.{◌≡◌, ℕ, ◌+◌, ◌-◌, ◌*◌, ◌<◌, ◌≤◌, false, min, length, take, drop};
 ghost use Rattle.series_core.specs.Best.{IsBest};
 ghost use Rattle.series_core.specs.Distance.{squared_distance};
@@ -19,26 +18,10 @@ use mean_bound::{MeanCells, Means};
 use series_core::{KBest, Rows};
 use subtree_build::Index;
 
-/// By what a member is passed over.
-#[derive(Clone, Copy)]
-pub(crate) enum Sieve {
-    /// By its means, and then by its finer means.
-    Means,
-    /// By its finer means alone.
-    FinerMeans,
-}
-
 impl<'a, R: Rows> Task<'a, R> {
     /// Scans a leaf with this limit into a list, which then has the k smallest of its pairs and of the members' pairs with a
     /// distance not above the limit.
-    pub(crate) fn scan_leaf(
-        &self,
-        index: &Index,
-        leaf: u32,
-        sieve: Sieve,
-        limit: u64,
-        list: &mut KBest,
-    )
+    pub(crate) fn scan_leaf(&self, index: &Index, leaf: u32, limit: u64, list: &mut KBest)
         requires fits { IndexFits self.now.collection self.now.layout index.now }
         requires leaf { leaf < length index.now.leaves }
         requires k { list.old.k ≡ self.now.k }
@@ -55,13 +38,13 @@ impl<'a, R: Rows> Task<'a, R> {
         for i in 0..members.len() {
             let member = &members[i];
             let own = of_member(finer, parts, i);
-            let near = self.may_be_within(sieve, member, &means[i], own, most);
+            let near = self.may_be_within(member, &means[i], own, most);
             most = self.measure_near(near, member, limit, most, list);
         }
     }
 
-    // Adds the member's pair where it is near and its distance is at most `most`, and tells what is then the most.
-    fn measure_near(
+    /// Adds the member's pair where it is near and its distance is at most `most`, and tells what is then the most.
+    pub(crate) fn measure_near(
         &self,
         near: bool,
         member: &Member,
@@ -89,33 +72,36 @@ impl<'a, R: Rows> Task<'a, R> {
         self.measure(member.number, limit, most, list)
     }
 
-    // Whether none of the member's means that are tried lie above the limit. Where they do, so does its distance.
-    fn may_be_within(
-        &self,
-        sieve: Sieve,
-        member: &Member,
-        means: &Means,
-        finer: &[MeanCells],
-        limit: u64,
-    ) -> bool
+    // Whether neither the member's means nor its finer means lie above the limit. Where they do, so does its distance.
+    fn may_be_within(&self, member: &Member, means: &Means, finer: &[MeanCells], limit: u64) -> bool
         requires member { IsMemberOf self.now member.now }
         requires means { means.now ≡ means_of self.now.collection self.now.layout member.now }
         requires finer { finer.now ≡ finer_of self.now.collection member.now }
         ensures { result ≡ false
             → limit < squared_distance (series_at self.now.collection member.now.number) self.now.query }
     {
+        self.means().bound(means) <= limit && self.finer_may_be_within(member, finer, limit)
+    }
+
+    /// Whether the member's finer means do not lie above the limit. Where they do, so does its distance.
+    pub(crate) fn finer_may_be_within(
+        &self,
+        member: &Member,
+        finer: &[MeanCells],
+        limit: u64,
+    ) -> bool
+        requires member { IsMemberOf self.now member.now }
+        requires finer { finer.now ≡ finer_of self.now.collection member.now }
+        ensures { result ≡ false
+            → limit < squared_distance (series_at self.now.collection member.now.number) self.now.query }
+    {
         let _ = member;
-        match sieve {
-            Sieve::Means => {
-                self.means().bound(means) <= limit && self.finer().is_within(finer, limit)
-            }
-            Sieve::FinerMeans => self.finer().is_within(finer, limit),
-        }
+        self.finer().is_within(finer, limit)
     }
 }
 
-// The finer means of member `i` among those of all, with `parts` parts a member.
-fn of_member(finer: &[MeanCells], parts: usize, i: usize) -> &[MeanCells]
+/// The finer means of member `i` among those of all, with `parts` parts a member.
+pub(crate) fn of_member(finer: &[MeanCells], parts: usize, i: usize) -> &[MeanCells]
     requires { i * parts + parts ≤ length finer.now }
     ensures { result.now ≡ take parts (drop (i * parts) finer.now) }
 {

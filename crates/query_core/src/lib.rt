@@ -20,6 +20,7 @@ mod playing;
 mod scan;
 mod shared;
 mod stage;
+mod sweep;
 mod task;
 mod team;
 mod telling;

@@ -9,7 +9,6 @@ ghost use Rattle.query_core.specs.NearLeaves.{AreNear, AreNearBelow, IsBelowLeaf
 ghost use Rattle.query_core.specs.Questions.{last_of, search_over};
 
 use crate::index_laws::search_law;
-use crate::leaf_scan::Sieve;
 use crate::scan::distance_of_worst;
 use crate::task::Task;
 use outside::NoMemory;
@@ -58,7 +57,7 @@ impl<'a, R: Rows> Task<'a, R> {
         if entry.bound > distance_of_worst(list) {
             return;
         }
-        self.scan_leaf(index, entry.leaf, Sieve::Means, limit, list);
+        self.scan_leaf(index, entry.leaf, limit, list);
     }
 
     /// The leaves that may have a member within the limit, each once. A group of leaves whose box is too far is passed over.

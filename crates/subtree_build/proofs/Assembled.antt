@@ -1,12 +1,12 @@
--- Parts that make an index: their leaves stand under their nodes (`parts_are_index`), and the members of all leaves are all
--- members of their row (`all_in_row`).
-use Rattle.std.proofs.Common.{◌≡◌, ℕ, zero, suc, ◌+◌, ◌^◌, ◌<◌, ◌≤◌, true, false, List, [], ◌∷◌, ◌++◌, length, map, get_or, take, drop, refl, sym, ap, ◌∙◌, subst, arith, append_assoc, length-append}
+-- Parts that make an index: their leaves stand under their nodes (`parts_are_index`), and lie in one row of all members
+-- (`row_is_all`).
+use Rattle.std.proofs.Common.{◌≡◌, ℕ, zero, suc, ◌+◌, ◌^◌, ◌<◌, ◌≤◌, true, false, List, [], ◌∷◌, ◌++◌, length, map, get_or, refl, sym, ap, ◌∙◌, subst, arith, append_assoc, length-append}
 use Rattle.std.specs.Prelude.{Some, flat_map, slice_get, slice_index}
 use Rattle.std.specs.List.{range_with_len}
 use Rattle.std.specs.List.Sorted.{IsStrictlyIncreasing}
 use Rattle.std.proofs.Math.Seq.{get_or-append_seam}
 use Rattle.std.proofs.Math.Nat.{pow-le-pow_right}
-use Rattle.std.proofs.lemmas.List.{length-map, get_or-map, take-append-drop, length-drop}
+use Rattle.std.proofs.lemmas.List.{length-map, get_or-map}
 use Rattle.std.proofs.lemmas.List.FromFn.{length-range_with_len}
 use Rattle.std.proofs.lemmas.Option.{same_Some, none-some}
 use Rattle.isax_word.specs.declared.member.Member.{Member}
@@ -218,17 +218,6 @@ other_means ix means finer is = record {
   in_order = is.in_order;
 }
 
--- the members of leaves that are cut from a row are those of the row, where the leaves have as many
-pub all_in_row : (leaves : List GrownLeaf) (members : List Member) → members_in leaves ≡ length members
-    → flat_map (λ (x : TreeLeaf). x.members) (cut_leaves leaves members) ≡ members
-all_in_row [] [] whole = refl
-all_in_row [] (m ∷ members) whole = absurd (omega (arith, whole))
-all_in_row (l ∷ leaves) members whole =
-    let back = length-drop l.count members in
-    ap (λ ms. take l.count members ++ ms)
-    (all_in_row leaves (drop l.count members) (omega (arith, whole, back)))
-    ∙ take-append-drop l.count members
-
 -- a node that can stand under a word can stand under the same word
 pub stands_too : (word other : List Part) (node same : Node) → word ≡ other → node ≡ same → CanStand word (outline node)
     → CanStand other (outline same)
@@ -331,11 +320,7 @@ module _ {w : ℕ} {roots : List ℕ} {nodes : List Node} {words : List (List Pa
 
   -- with all members
   pub row_is_all : AreAllSeen members places
-  row_is_all = (
-    ap (flat_map (λ (x : TreeLeaf). x.members)) (ap (leaves_seen members) row.places_are ∙ seen_is_cut members 0 leaves)
-        ∙ all_in_row leaves members row.whole,
-    row.few_members,
-  )
+  row_is_all = record { leaves = leaves; lie = row.places_are; whole = row.whole; few = row.few_members }
 
   -- and it is one of these parts
   pub row_of_parts : (means : List (List (List ℕ))) (finer : List (List Cells)) → IsOfParts w roots nodes lists (as_parts means finer)

@@ -26,6 +26,7 @@ pub mod OfCollection
 pub mod Fitting
 pub mod Indexing
 pub mod Placed
+pub mod InRow
 pub mod Meaning
 pub mod Gathering
 pub mod Spliced

@@ -1,6 +1,6 @@
 -- Where an index keeps things: the members of each leaf in the row of all members, and the leaves below each root child.
 use Rattle.std.specs.Prelude.{◌≡◌, ℕ, ◌+◌, ◌-◌, ◌*◌, ◌^◌, ◌<◌, ◌≤◌, List, [], ◌∷◌, Some, length, map, take, drop, slice_get, slice_index}
-use Rattle.std.specs.List.{All, range_with_len, flat_map}
+use Rattle.std.specs.List.{All, range_with_len}
 use Rattle.series_core.specs.Collection.{Collection}
 use Rattle.mean_bound.specs.Boxes.{Box, box_of, box_of_boxes}
 use Rattle.mean_bound.specs.Cells.{Cells}
@@ -15,6 +15,7 @@ use Rattle.subtree_build.specs.declared.leaf.TreeLeaf.{TreeLeaf}
 use Rattle.subtree_build.specs.declared.tables.Tables.{Tables}
 use Rattle.subtree_build.specs.declared.node.Node.{Node}
 use Rattle.subtree_build.specs.Division.{leaf_with}
+use Rattle.subtree_build.specs.Grown.{members_in}
 use Rattle.subtree_build.specs.Outline.{leaf_numbers}
 use Rattle.subtree_build.specs.Tree.{Tree, leaves_of}
 
@@ -65,9 +66,12 @@ pub record IsPlace (count : ℕ) (p : LeafPlace) : Type 0 where
 abbrev pub ArePlaces : List Member → List LeafPlace → Type 0
 ArePlaces members places = All (IsPlace (length members)) places
 
--- the members of the leaves at places are all of these, in their order
-abbrev pub AreAllSeen : List Member → List LeafPlace → Type 0
-AreAllSeen members places = (flat_map (λ x. x.members) (leaves_seen members places) ≡ members) × (length members < 2 ^ 32)
+-- the leaves at places lie behind one another in the row of these members, and have all of them
+pub record AreAllSeen (members : List Member) (places : List LeafPlace) : Type 0 where
+  pub leaves : List GrownLeaf
+  pub lie : places ≡ places_from 0 leaves
+  pub whole : members_in leaves ≡ length members
+  pub few : length members < 2 ^ 32
 
 -- the tables beside the members: the means of each, the finer means of its parts, and the boxes of the means at places
 pub record AreTables (members : List Member) (places : List LeafPlace) (t : Tables) : Type 0 where

@@ -1,6 +1,7 @@
 //! The index: root children by root number, the nodes and the range of leaves below each, the leaves in order, and in that
 //! order the members of all leaves in one row, and beside it their means, the finer ones, and the boxes of the leaves' means.
 ghost use Rattle.std.specs.Prelude.{◌≡◌, ◌*◌, ◌<◌, ◌≤◌, ◌^◌, All, IfOk, OnOk, IsErrOf, length, map, take, drop, Some, slice_get, slice_index};
+ghost use Rattle.std.specs.List.{flat_map};
 ghost use Rattle.mean_bound.specs.Boxes.{box_of, box_of_boxes};
 ghost use Rattle.subtree_build.specs.Assembly.{HasMeansOf, IsOfParts, MakeIndex};
 ghost use Rattle.subtree_build.specs.Division.{roots_of, tree, tree_leaves};
@@ -292,6 +293,20 @@ impl Index {
         ensures { result.now ≡ (leaf_at self.now.leaves l).word }
     {
         &self.leaves[l as usize].word
+    }
+
+    /// The members of all leaves, leaf after leaf.
+    pub fn members(&self) -> &[Member]
+        ensures { result.now ≡ flat_map (λ x. x.members) self.now.leaves }
+    {
+        &self.members
+    }
+
+    /// The finer means of the members of all leaves, in the order of the members.
+    pub fn finer(&self) -> &[MeanCells]
+        ensures { result.now ≡ flat_map (λ cells. cells) self.now.finer }
+    {
+        &self.tables.finer
     }
 
     /// The members of leaf number `l`, in the order in which they are listed.

@@ -13,11 +13,11 @@ bytes_fit xs fit = Each1-weaker (Fits w8) (λ n. n < 256) (λ n is. is.fits) xs 
 
 pub returns-clause-value : goal.returns-clause-value
 returns-clause-value c =
-    let fit : Each1 (Fits w8) c.args.steps = search rules in
-    let long : length c.args.steps ≡ 16 = search rules in
-    steps_are c.args.width c.args.first 16 c.args.steps long (bytes_fit c.args.steps fit) c.requires
+    let fit : Each1 (Fits w8) c.args.numbers = search rules in
+    let long : length c.args.numbers ≡ 16 = search rules in
+    steps_are c.args.step c.args.first 16 c.args.numbers long (bytes_fit c.args.numbers fit) c.requires
 
 pub returns-clause-bytes : goal.returns-clause-bytes
 returns-clause-bytes c =
-    let fit : Each1 (Fits w8) c.args.steps = search rules in
-    bytes_fit c.args.steps fit
+    let fit : Each1 (Fits w8) c.args.numbers = search rules in
+    bytes_fit c.args.numbers fit

@@ -9,4 +9,4 @@ pub returns-clause-value : goal.returns-clause-value
 returns-clause-value c =
     c.squares_in_pairs.ensures.value
     ∙ ap (λ (gs : List ℕ). sum_l (map square gs)) c.sixteenths-gaps.ensures.value
-    ∙ ap (λ (xs : List ℕ). sum_l (map square (place_gaps c.args.lows c.args.highs xs))) c.places_of-places.ensures.value
+    ∙ ap (λ (xs : List ℕ). sum_l (map square (place_gaps c.args.lows c.args.highs xs))) c.at_steps-places.ensures.value

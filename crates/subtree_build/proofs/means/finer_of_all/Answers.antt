@@ -1,5 +1,5 @@
 -- At each place stand the cells of the part there.
-use Rattle.std.proofs.Common.{◌≡◌, ◌∙◌, ◌*◌, ℕ, List, [], length, ap, sym, arith}
+use Rattle.std.proofs.Common.{◌≡◌, ◌∙◌, ◌*◌, List, length, ap, sym, arith}
 use Rattle.mean_bound.specs.Cells.{Cells, no_cells}
 use Rattle.mean_bound.specs.Finer.{part_count}
 use Rattle.subtree_build.specs.Means.{all_finer}

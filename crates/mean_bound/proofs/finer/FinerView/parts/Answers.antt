@@ -1,4 +1,4 @@
--- There are eight places, and the count is at most eight.
+-- There are two places, and the count is at most two.
 use Rattle.std.proofs.Common.{◌∙◌, sym, ap, arith, length}
 use Rattle.std.proofs.lemmas.List.{length-take-le}
 use Rattle.mean_bound.proofs.finer.FinerView.parts.Goals as goal

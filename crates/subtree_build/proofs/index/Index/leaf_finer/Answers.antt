@@ -1,5 +1,5 @@
 -- The finer means at the place of the leaf.
-use Rattle.std.proofs.Common.{◌≡◌, ◌∙◌, ◌-◌, ◌*◌, ℕ, List, [], take, drop, ap, sym, arith}
+use Rattle.std.proofs.Common.{◌≡◌, ◌∙◌, ◌-◌, ◌*◌, List, [], take, drop, ap, sym, arith}
 use Rattle.std.proofs.Math.Nat.{mul-sub}
 use Rattle.std.proofs.lemmas.List.{get_or-map}
 use Rattle.mean_bound.specs.Cells.{Cells}

@@ -12,15 +12,13 @@ use Rattle.series_core.specs.Collection.{Collection}
 use Rattle.isax_word.specs.declared.layout.Layout.{Layout}
 use Rattle.subtree_build.specs.declared.part.Joined.{Joined}
 use Rattle.subtree_build.specs.Grown.{cut_leaves}
-use Rattle.subtree_build.specs.Places.{places_from, leaves_seen, means_seen, finer_seen, AreAllSeen, ArePlaces}
-use Rattle.std.specs.Prelude.{flat_map}
-use Rattle.subtree_build.proofs.Assembled.{all_in_row}
+use Rattle.subtree_build.specs.Places.{places_from, means_seen, finer_seen, AreAllSeen}
 use Rattle.subtree_build.proofs.Fitting.{tree_fits, real_in_tree}
 use Rattle.subtree_build.proofs.Meaning.{all_cut, means_are_own, finer_are_own, own_tables, tables_are}
 use Rattle.subtree_build.proofs.OfCollection.{IsReal}
 use Rattle.subtree_build.proofs.Growing.{length-cut}
 use Rattle.subtree_build.proofs.Indexing.{length-all_numbered, tree_is_index}
-use Rattle.subtree_build.proofs.Placed.{length-places, seen_is_cut, tree_is_seen, are_ranges, few_members, places_lie}
+use Rattle.subtree_build.proofs.Placed.{length-places, tree_is_seen, are_ranges, few_members, places_lie}
 use Rattle.subtree_build.proofs.index.Index.of_tree.Goals as goal
 
 pub placed-requires : goal.placed-requires
@@ -68,12 +66,8 @@ tables_of-requires-clause-places g c =
 all_seen : (joined : Joined) (places : List LeafPlace) → members_in joined.leaves.items ≡ length joined.members.items
     → places ≡ places_from 0 joined.leaves.items → members_in joined.leaves.items < 2 ^ 32
     → AreAllSeen joined.members.items places
-all_seen joined places whole are few = (
-  ap (flat_map (λ (x : TreeLeaf). x.members))
-      (ap (leaves_seen joined.members.items) are ∙ seen_is_cut joined.members.items 0 joined.leaves.items)
-      ∙ all_in_row joined.leaves.items joined.members.items whole,
-  omega (arith, whole, few),
-)
+all_seen joined places whole are few =
+    record { leaves = joined.leaves.items; lie = are; whole = whole; few = omega (arith, whole, few) }
 
 pub invariant_of-result : goal.invariant_of-result
 invariant_of-result g c =

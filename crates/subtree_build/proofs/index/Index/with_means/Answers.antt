@@ -6,6 +6,7 @@ use Rattle.subtree_build.specs.Assembly.{HasMeansOf}
 use Rattle.subtree_build.specs.Index.{IndexParts}
 use Rattle.subtree_build.specs.Places.{leaves_seen, means_seen, finer_seen}
 use Rattle.subtree_build.proofs.Assembled.{other_means}
+use Rattle.subtree_build.proofs.InRow.{members_seen}
 use Rattle.subtree_build.proofs.LeafWords.{all_pieces}
 use Rattle.subtree_build.proofs.Meaning.{finer_are_own, means_are_own, own_tables, tables_are}
 use Rattle.subtree_build.proofs.index.Index.with_means.Goals as goal
@@ -18,7 +19,7 @@ tables_of-requires-clause-series g c =
     let P : IndexParts → Type 0 = λ ix. All (λ (y : TreeLeaf). All Q y.members) ix.leaves in
     let A : List Member → Type 0 = λ ms. All Q ms in
     let each = subst P (sym c.self.view_is) c.requires.series in
-    let real = subst A (c.self.invariant.4.0 ∙ sym c.as_slice.ensures.value)
+    let real = subst A (members_seen x.members.items x.leaves.items c.self.invariant.4 ∙ sym c.as_slice.ensures.value)
     (all_pieces Q (λ (y : TreeLeaf). y.members) (leaves_seen x.members.items x.leaves.items) each) in
     search (rules, real)
 

@@ -1,0 +1,59 @@
+//! The sweep: the answer by the finer means of all members, one after another as they lie in memory. No box and no means of a leaf are
+//! looked at.
+ghost use Rattle.std.specs.Prelude.{◌≡◌, ℕ, ◌≤◌, All, IfOk};
+ghost use Rattle.series_core.specs.Answer.{answer};
+ghost use Rattle.subtree_build.specs.Fits.{Fits as IndexFits};
+ghost use Rattle.subtree_build.specs.Index.{IndexParts};
+ghost use Rattle.subtree_build.specs.Means.{all_finer};
+ghost use Rattle.subtree_build.specs.Members.{numbers_of};
+ghost use Rattle.search_machine.specs.Ground.{scan};
+ghost use Rattle.query_core.specs.Questions.{IsMemberOf, last_of, search_over};
+
+use crate::index_laws::search_law;
+use crate::leaf_scan::of_member;
+use crate::scan::most_to_add;
+use crate::task::Task;
+use isax_word::Member;
+use mean_bound::MeanCells;
+use outside::NoMemory;
+use series_core::{KBest, Rows};
+use std::alloc::Global;
+use subtree_build::Index;
+
+impl<'a, R: Rows> Task<'a, R> {
+    /// The list of the answer, by the finer means of all members.
+    pub(crate) fn answer_by_finer_means(
+        &self,
+        alloc: Global,
+        index: &Index,
+        limit: u64,
+    ) -> Result<KBest, NoMemory>
+        requires fits { IndexFits self.now.collection self.now.layout index.now }
+        requires limit { last_of self.now ≤ limit }
+        ensures { IfOk result (λ best. best.pairs ≡ answer self.now.collection self.now.query self.now.k) }
+    {
+        search_law(self, index);
+        let mut list = KBest::new(alloc, self.k())?;
+        self.sweep(index.members(), index.finer(), limit, &mut list);
+        Ok(list)
+    }
+
+    // Scans members with this limit into a list: one is passed over by its finer means, or else measured.
+    fn sweep(&self, members: &[Member], finer: &[MeanCells], limit: u64, list: &mut KBest)
+        requires members { All (IsMemberOf self.now) members.now }
+        requires finer { finer.now ≡ all_finer self.now.collection members.now }
+        requires k { list.old.k ≡ self.now.k }
+        ensures k { list.new.k ≡ self.now.k }
+        ensures pairs { (ix : IndexParts) (workers queues : ℕ) → list.new.pairs
+            ≡ scan (search_over self.now ix workers queues) limit (numbers_of members.now) list.old.pairs }
+    {
+        let parts = self.finer().parts() as usize;
+        let mut most = most_to_add(limit, list);
+        for i in 0..members.len() {
+            let member = &members[i];
+            let own = of_member(finer, parts, i);
+            let near = self.finer_may_be_within(member, own, most);
+            most = self.measure_near(near, member, limit, most, list);
+        }
+    }
+}
