@@ -58,24 +58,25 @@ pub as_far : (x q : ℤ) (s a b : ℕ) → neg_ℤ (pos s) ≤ℤ x → neg_ℤ 
     → max a b ≤ unsigned_abs (x -ℤ q)
 as_far x q s a b low_x low_q far_a far_b = omega (arith, ints, low_x, low_q, far_a, far_b)
 
+-- a factor on both sides falls away
+pub cancel : (l a d : ℕ) → 1 ≤ l → l * a ≤ l * d → a ≤ d
+cancel l a d some below = by_cases (cases_lt d a)
+  where
+    more : (k : ℕ) → l * (d + 1 + k) ≤ l * d → 1 ≤ 0
+    more k low = omega (arith, some, low)
+
+    by_cases : (d < a) ⊎ (a ≤ d) → a ≤ d
+    by_cases (inl less) =
+        let is : d + 1 + (a - (d + 1)) ≡ a = omega (arith, less) in
+        absurd (omega (arith, more (a - (d + 1)) (subst (λ n. l * n ≤ l * d) (sym is) below)))
+    by_cases (inr most) = most
+
 -- what is at most a length times a distance, where it is that length squared times a square, bounds the square by the
 -- distance
 cancelled : (l g d : ℕ) → 1 ≤ l → (l * g) * (l * g) ≤ l * d → l * (g * g) ≤ d
 cancelled l g d some below =
     let same : l * (l * (g * g)) ≤ l * d = omega (arith, below) in
     cancel l (l * (g * g)) d some same
-  where
-    cancel : (l a d : ℕ) → 1 ≤ l → l * a ≤ l * d → a ≤ d
-    cancel l a d some below = by_cases (cases_lt d a)
-      where
-        more : (k : ℕ) → l * (d + 1 + k) ≤ l * d → 1 ≤ 0
-        more k low = omega (arith, some, low)
-
-        by_cases : (d < a) ⊎ (a ≤ d) → a ≤ d
-        by_cases (inl less) =
-            let is : d + 1 + (a - (d + 1)) ≡ a = omega (arith, less) in
-            absurd (omega (arith, more (a - (d + 1)) (subst (λ n. l * n ≤ l * d) (sym is) below)))
-        by_cases (inr most) = most
 
 -- the greater of two numbers times a length, or what is less
 pub greater_times : (l a b d k : ℕ) → l * a ≤ d → l * b ≤ d → k ≤ max a b → l * k ≤ d

@@ -117,6 +117,19 @@ in_front f n a (suc k) i far low high within =
         let same : a ≡ i = omega (arith, low, here) in
         subst (λ j. from_middle (f j) < far) same (omega (arith, within))
 
+-- one of some quarters lies as near as all do
+pub one_reached : (f : ℕ → List ℕ) (j k i far : ℕ) → j ≤ i → i < j + k → reach_of_all (map f (range_with_len j k)) < far
+    → reach (f i) < far
+one_reached f j zero i far low high near = absurd (omega (arith, low, high))
+one_reached f j (suc k) i far low high near =
+    by_cases (λ later. one_reached f (j + 1) k i far later (omega (arith, high)) (omega (arith, near))) (cases_lt j i)
+  where
+    by_cases : (j + 1 ≤ i → reach (f i) < far) → (j < i) ⊎ (i ≤ j) → reach (f i) < far
+    by_cases behind (inl less) = behind (omega (arith, less))
+    by_cases behind (inr most) =
+        let same : j ≡ i = omega (arith, low, most) in
+        subst (λ m. reach (f m) < far) same (omega (arith, near))
+
 -- a segment's mean is within what all means of the row are within
 pub mean_reached : (d : Division) (x : List ℤ) (j far : ℕ) → j < d.segments → reach (row_means d x) < far
     → from_middle (segment_mean d x j) < far

@@ -6,9 +6,14 @@ pub mod Lanes
 pub mod Cuts
 pub mod OfSegments
 pub mod BelowDistances
+pub mod Spreads
+pub mod SpreadSizes
+pub mod Roots
 pub mod Boxes
 pub mod InCells
 pub mod BelowCells
 pub mod InPlaces
 pub mod Fronts
 pub mod Parts
+pub mod PartsTold
+pub mod PartBounds

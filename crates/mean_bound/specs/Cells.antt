@@ -2,10 +2,12 @@
 -- The means of a part of a row, quarter by quarter, lie in the narrowest cells that reach as far as all of them do.
 use Rattle.std.specs.Prelude.{ℕ, zero, suc, ◌+◌, ◌-◌, ◌*◌, ◌/◌, ◌^◌, max, cond, leb, List, [], ◌∷◌, map}
 
--- the numbers of the cells that the means of each quarter lie in, and the width of a cell, as the exponent of two
+-- the numbers of the cells that the means of each quarter lie in, and the width of a cell, as the exponent of two; and how far the
+-- values lie from their means
 pub record Cells : Type 0 where
   pub quarters : List (List ℕ)
   pub shift : ℕ
+  pub spread : ℕ
 
 -- how far a mean lies from the middle: from 32768 where it is there or above, else from 32767
 abbrev pub from_middle : ℕ → ℕ
@@ -38,11 +40,12 @@ first_mean shift = 32768 - 128 * 2 ^ shift
 abbrev pub cell_of : ℕ → ℕ → ℕ
 cell_of shift mean = (mean - first_mean shift) / 2 ^ shift
 
--- the cells of the means of some quarters, as narrow as can be
-abbrev pub cells_of : List (List ℕ) → Cells
-cells_of quarters = record {
+-- the cells of the means of some quarters, as narrow as can be, where the values lie so far from their means
+abbrev pub cells_of : List (List ℕ) → ℕ → Cells
+cells_of quarters spread = record {
   quarters = map (map (cell_of (least_shift (reach_of_all quarters)))) quarters;
   shift = least_shift (reach_of_all quarters);
+  spread = spread;
 }
 
 -- the least mean of a cell
@@ -51,4 +54,4 @@ cell_low shift number = first_mean shift + number * 2 ^ shift
 
 -- the cells of no means
 abbrev pub no_cells : Cells
-no_cells = record { quarters = []; shift = 0 }
+no_cells = record { quarters = []; shift = 0; spread = 0 }

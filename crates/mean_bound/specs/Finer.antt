@@ -8,6 +8,7 @@ use Rattle.segment_sums.specs.Sum.{segment_values}
 use Rattle.mean_bound.specs.Means.{row_means}
 use Rattle.mean_bound.specs.MeanBound.{square}
 use Rattle.mean_bound.specs.Cells.{Cells, cell_low, cells_of, least_shift, reach_of_all}
+use Rattle.mean_bound.specs.Spread.{root, row_spread}
 
 -- how many parts a row of length n has: one for each 128 values, at most two
 abbrev pub part_count : ℕ → ℕ
@@ -33,31 +34,49 @@ quarter_means n row k = row_means (within_quarter n k) (quarter_values n row k)
 abbrev pub part_means : ℕ → List ℤ → ℕ → List (List ℕ)
 part_means n row p = map (quarter_means n row) (range_with_len (4 * p) 4)
 
--- the cells that they lie in
+-- how far the values of part p of a row of length n lie from the means of their segments: the squared differences, added up
+abbrev pub part_spread : ℕ → List ℤ → ℕ → ℕ
+part_spread n row p =
+    sum_l (map (λ k. row_spread (within_quarter n k) (quarter_values n row k)) (range_with_len (4 * p) 4))
+
+-- and the root of what they make for each value of the row, in halves
+abbrev pub spread_root : ℕ → List ℤ → ℕ → ℕ
+spread_root n row p = root (4 * part_spread n row p / n)
+
+-- the cells that the means of part p lie in, and how far its values lie from them
 abbrev pub part_cells : ℕ → List ℤ → ℕ → Cells
-part_cells n row p = cells_of (part_means n row p)
+part_cells n row p = cells_of (part_means n row p) (spread_root n row p)
 
 -- the finer means of a row of length n, part by part
 abbrev pub finer_means : ℕ → List ℤ → List Cells
 finer_means n row = map (part_cells n row) (range_with_len 0 (part_count n))
 
--- a part of a query as bounds by finer means see it: the least length of a segment, the means, and the width of their cells
+-- a part of a query as bounds by finer means see it: the length of the row, the least length of a segment, the means, the width of
+-- their cells, and how far the values lie from the means
 pub record PartView : Type 0 where
+  pub row_length : ℕ
   pub least_length : ℕ
   pub means : List (List ℕ)
   pub shift : ℕ
+  pub spread : ℕ
 
 -- the least length of a segment of a row of length n
 abbrev pub finest_length : ℕ → ℕ
 finest_length n = n / (64 * part_count n)
 
--- the view of means whose segments have a least length
-abbrev pub part_view_of : ℕ → List (List ℕ) → PartView
-part_view_of least means = record { least_length = least; means = means; shift = least_shift (reach_of_all means) }
+-- the view of means of a row of length n, whose segments have a least length and whose values lie so far from them
+abbrev pub part_view_of : ℕ → ℕ → List (List ℕ) → ℕ → PartView
+part_view_of n least means spread = record {
+  row_length = n;
+  least_length = least;
+  means = means;
+  shift = least_shift (reach_of_all means);
+  spread = spread;
+}
 
 -- the view of part p of a query of length n
 abbrev pub part_view : ℕ → List ℤ → ℕ → PartView
-part_view n query p = part_view_of (finest_length n) (part_means n query p)
+part_view n query p = part_view_of n (finest_length n) (part_means n query p) (spread_root n query p)
 
 -- a query of length n as bounds by finer means see it
 abbrev pub finer_view : ℕ → List ℤ → List PartView
@@ -82,12 +101,18 @@ all_squares wide shift (means ∷ rest) [] = 0
 all_squares wide shift (means ∷ rest) (numbers ∷ quarters) =
     quarter_squares wide shift means numbers + all_squares wide shift rest quarters
 
+-- how far two such roots lie apart at least, each of which may be rounded down and is of squares that were
+abbrev pub spread_gap : ℕ → ℕ → ℕ
+spread_gap a b = max (a - (b + 2)) (b - (a + 2))
+
 -- the lower bound of a part by its cells, where gaps are counted in sixteenths of the greater width: the squares of these are 256
--- times too many
+-- times too many; and by how far the values lie from their means, since what is left of them beside the means is as far apart at least
+-- as it is long (the bound by means and deviations of Hwang, Han and Ahn, CVPR 2012, with the deviations of a part taken together)
 abbrev pub part_bound : PartView → Cells → ℕ
 part_bound v c =
-    v.least_length
-    * (2 ^ max v.shift c.shift * 2 ^ max v.shift c.shift * all_squares (max v.shift c.shift) c.shift v.means c.quarters) / 256
+    (v.least_length
+    * (2 ^ max v.shift c.shift * 2 ^ max v.shift c.shift * all_squares (max v.shift c.shift) c.shift v.means c.quarters)
+    + 64 * v.row_length * square (spread_gap v.spread c.spread)) / 256
 
 -- the lower bound of a series by its finer means: those of all parts together
 abbrev pub finer_bound : List PartView → List Cells → ℕ

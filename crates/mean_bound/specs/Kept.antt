@@ -57,6 +57,7 @@ near_of v shift = near_places (max v.shift shift) shift v.means
 
 -- the view of a part and its places for each width
 pub record IsPartView (v : PartView) (near : List NearPlaces) : Type 0 where
+  pub row : v.row_length ≤ 65536
   pub four : length v.means ≡ 4
   pub few : v.shift ≤ 8
   pub short : v.least_length ≤ 65536

@@ -7,11 +7,13 @@ use crate::means::Means;
 use std::marker::Model;
 
 /// The means of four quarters as the numbers of cells, 256 of which lie side by side around the middle, 128 below it and 128 from there
-/// on: the approximation of a VA-file (Weber, Schek and Blott, VLDB 1998), but with a width for each part of a row.
+/// on: the approximation of a VA-file (Weber, Schek and Blott, VLDB 1998), but with a width for each part of a row; and how far its
+/// values lie from those means.
 #[derive(Clone, Copy)]
 pub struct MeanCells {
     pub(crate) quarters: [[u8; 16]; 4],
     pub(crate) shift: u8,
+    pub(crate) spread: u16,
 }
 
 impl Model for MeanCells {
@@ -20,34 +22,39 @@ impl Model for MeanCells {
 
     ghost Value = { Cells };
 
-    ghost view = { λ c. record { quarters = c.quarters; shift = c.shift } };
+    ghost view = { λ c. record { quarters = c.quarters; shift = c.shift; spread = c.spread } };
 
     ghost invariant = { λ c. c.shift ≤ 8 };
 
-    ghost inverse = { λ c. record { quarters = c.quarters; shift = c.shift } };
+    ghost inverse = { λ c. record { quarters = c.quarters; shift = c.shift; spread = c.spread } };
 }
 
 impl MeanCells {
-    /// Four times sixteen times the first of the narrowest cells.
+    /// Four times sixteen times the first of the narrowest cells, and values that are their means.
     pub fn zeros() -> MeanCells
-        ensures { result ≡ record { quarters = replicate 4 (replicate 16 0); shift = 0 } }
+        ensures { result ≡ record { quarters = replicate 4 (replicate 16 0); shift = 0; spread = 0 } }
     {
         MeanCells {
             quarters: [[0; 16]; 4],
             shift: 0,
+            spread: 0,
         }
     }
 
-    /// The cells of the means of four quarters, as narrow as can be.
-    pub fn of(means: &[Means; 4]) -> MeanCells
-        ensures { result ≡ cells_of means.now }
+    /// The cells of the means of four quarters, as narrow as can be, whose values lie so far from them.
+    pub fn of(means: &[Means; 4], spread: u16) -> MeanCells
+        ensures { result ≡ cells_of means.now spread }
     {
         let shift = shift_for(reach_of_all(means));
         let mut quarters = [[0; 16]; 4];
         for i in 0..4 {
             quarters[i] = numbers_of(&means[i], shift);
         }
-        MeanCells { quarters, shift }
+        MeanCells {
+            quarters,
+            shift,
+            spread,
+        }
     }
 }
 

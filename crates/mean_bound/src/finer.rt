@@ -3,12 +3,15 @@
 //! together are at most the distance.
 ghost use Rattle.std.specs.Prelude.{◌≡◌, ◌*◌, ◌<◌, ◌≤◌, leb, length};
 ghost use Rattle.mean_bound.specs.Finer.{finer_bound, finer_view, finest_length, part_cells, part_count, part_means, part_view};
-ghost use Rattle.mean_bound.specs.Finer.{quarter_means, quarter_values, within_quarter};
+ghost use Rattle.mean_bound.specs.Finer.{quarter_means, quarter_values, spread_root, within_quarter};
+ghost use Rattle.mean_bound.specs.Spread.{row_spread};
 
 use crate::cells::MeanCells;
 use crate::means::Means;
 use crate::part::PartView;
+use crate::spread::{root_of, spread_of};
 use segment_sums::Cuts;
+use series_core::values_fit;
 use std::marker::Model;
 
 /// How rows of one length are cut into parts, quarters and segments, seen as that length.
@@ -69,7 +72,7 @@ impl FinerCuts {
         requires part { p < part_count self.now }
         ensures { result ≡ part_cells self.now row.now p }
     {
-        MeanCells::of(&self.means(row, p))
+        MeanCells::of(&self.means(row, p), self.spread_root(row, p))
     }
 
     // The view of part p of a query.
@@ -78,7 +81,9 @@ impl FinerCuts {
         requires part { p < part_count self.now }
         ensures { result ≡ part_view self.now query.now p }
     {
-        PartView::of(self.length / (64 * self.count), self.means(query, p))
+        let least_length = self.length / (64 * self.count);
+        let spread = self.spread_root(query, p);
+        PartView::of(self.length, least_length, self.means(query, p), spread)
     }
 
     // The means of part p of a row, quarter by quarter.
@@ -101,6 +106,33 @@ impl FinerCuts {
         ensures { result ≡ quarter_means self.now row.now k }
     {
         Means::of(self.cuts(k), self.quarter(row, k))
+    }
+
+    // How far the values of part p of a row lie from the means of their segments: the root of what the squared differences make for each
+    // value of the row, in halves.
+    fn spread_root(&self, row: &[i16], p: u32) -> u16
+        requires length { length row.now ≡ self.now }
+        requires part { p < part_count self.now }
+        ensures { result ≡ spread_root self.now row.now p }
+    {
+        // for the fact that the values fit
+        values_fit(row);
+        let length = u64::from(self.length);
+        let mut spread = 0;
+        for i in 0..4 {
+            spread += self.quarter_spread(row, 4 * p + i);
+        }
+        root_of(4 * spread / length)
+    }
+
+    // The squared differences of the values of quarter k of a row from the means of their segments, added up.
+    fn quarter_spread(&self, row: &[i16], k: u32) -> u64
+        requires length { length row.now ≡ self.now }
+        requires quarter { k < 4 * part_count self.now }
+        ensures value { result ≡ row_spread (within_quarter self.now k) (quarter_values self.now row.now k) }
+        ensures small { result ≤ 70368744177664 }
+    {
+        spread_of(self.cuts(k), self.quarter(row, k))
     }
 
     // How quarter k of a row is cut.

@@ -10,6 +10,7 @@ mod mean_box;
 mod means;
 mod part;
 mod places;
+mod spread;
 mod view;
 
 pub use cells::MeanCells;

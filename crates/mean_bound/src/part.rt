@@ -2,8 +2,9 @@
 //! a width: the places that are near the query's means are made once for each width that cells may have.
 ghost use Rattle.std.specs.Prelude.{◌≡◌, ◌*◌, ◌^◌, ◌<◌, ◌≤◌, max};
 ghost use Rattle.mean_bound.specs.Cells.{reach_of_all};
-ghost use Rattle.mean_bound.specs.Finer.{all_squares, part_bound, part_view_of};
+ghost use Rattle.mean_bound.specs.Finer.{all_squares, part_bound, part_view_of, spread_gap};
 ghost use Rattle.mean_bound.specs.Kept.{near_places};
+ghost use Rattle.mean_bound.specs.MeanBound.{square};
 
 use crate::cells::{MeanCells, first_of, reach_of_all, shift_for};
 use crate::means::Means;
@@ -57,12 +58,15 @@ impl NearPlaces {
     }
 }
 
-/// A part of a query, seen as the least length of a segment, its means, and the width of the cells that these would lie in.
+/// A part of a query, seen as the length of the query, the least length of a segment, its means, the width of the cells that these would
+/// lie in, and how far its values lie from them.
 #[derive(Drop)]
 pub(crate) struct PartView {
+    row_length: u32,
     least_length: u32,
     means: [Means; 4],
     shift: u8,
+    spread: u16,
     near: [NearPlaces; 9],
 }
 
@@ -72,21 +76,34 @@ impl Model for PartView {
 
     ghost Value = { PartView };
 
-    ghost view = { λ v. record { least_length = v.least_length; means = v.means; shift = v.shift } };
+    ghost view = { λ v. record {
+      row_length = v.row_length;
+      least_length = v.least_length;
+      means = v.means;
+      shift = v.shift;
+      spread = v.spread;
+    } };
 
-    ghost invariant = { λ v. IsPartView (record { least_length = v.least_length; means = v.means; shift = v.shift }) v.near };
+    ghost invariant = { λ v. IsPartView (record {
+      row_length = v.row_length;
+      least_length = v.least_length;
+      means = v.means;
+      shift = v.shift;
+      spread = v.spread;
+    }) v.near };
 }
 
 impl PartView {
     // The view of no segment.
     pub(crate) fn nothing() -> PartView {
-        PartView::of(0, [Means::zeros(); 4])
+        PartView::of(0, 0, [Means::zeros(); 4], 0)
     }
 
-    // The view of means whose segments have at least this length.
-    pub(crate) fn of(least_length: u32, means: [Means; 4]) -> PartView
-        requires { least_length ≤ 65536 }
-        ensures { result ≡ part_view_of least_length means }
+    // The view of means of a row of a length, whose segments have at least this length, and whose values lie so far from them.
+    pub(crate) fn of(row_length: u32, least_length: u32, means: [Means; 4], spread: u16) -> PartView
+        requires row { row_length ≤ 65536 }
+        requires segment { least_length ≤ 65536 }
+        ensures { result ≡ part_view_of row_length least_length means spread }
     {
         let shift = shift_for(reach_of_all(&means));
         let first = NearPlaces::of(&means, shift, 0);
@@ -95,9 +112,11 @@ impl PartView {
             near[s as usize] = NearPlaces::of(&means, shift.max(s), s);
         }
         PartView {
+            row_length,
             least_length,
             means,
             shift,
+            spread,
             near,
         }
     }
@@ -108,7 +127,17 @@ impl PartView {
         ensures small { result < 2 ^ 56 }
     {
         let squares = u64::from(self.squares(cells));
-        u64::from(self.least_length) * (self.weight(cells) * squares) / 256
+        let by_means = u64::from(self.least_length) * (self.weight(cells) * squares);
+        (by_means + self.by_spread(cells)) / 256
+    }
+
+    // 256 times what the spreads of both tell.
+    fn by_spread(&self, cells: &MeanCells) -> u64
+        ensures value { result ≡ 64 * self.now.row_length * square (spread_gap self.now.spread cells.now.spread) }
+        ensures small { result ≤ 18014398509481984 }
+    {
+        let gap = u64::from(spread_gap(self.spread, cells.spread));
+        64 * u64::from(self.row_length) * (gap * gap)
     }
 
     // The square of the greater width.
@@ -134,6 +163,15 @@ impl PartView {
         }
         sum_of_pairs(sums)
     }
+}
+
+/// How far two roots of spreads lie apart at least.
+fn spread_gap(a: u16, b: u16) -> u16
+    ensures { result ≡ spread_gap a b }
+{
+    let above = a.saturating_sub(b.saturating_add(2));
+    let below = b.saturating_sub(a.saturating_add(2));
+    above.max(below)
 }
 
 /// The square of a cell's width.

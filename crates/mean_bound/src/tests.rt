@@ -122,9 +122,56 @@ fn plain_width(means: [i64; 64]) -> i64 {
     width
 }
 
+/// The squared differences of the values of segment `j` of sixteen from their mean, rounded down.
+fn plain_segment_spread(values: &[i16], j: usize) -> u64 {
+    let (length, sum, _) = plain_sums(values, values, 16, j);
+    let from = j.wrapping_mul(values.len()) / 16;
+    let mut squares = 0i64;
+    for value in values
+        .iter()
+        .skip(from)
+        .take(usize::try_from(length).unwrap_or(0))
+    {
+        let value = i64::from(*value);
+        squares = squares.wrapping_add(value.wrapping_mul(value));
+    }
+    let times = length
+        .wrapping_mul(squares)
+        .wrapping_sub(sum.wrapping_mul(sum));
+    floor(times, length).unsigned_abs()
+}
+
+/// How far the values of a part of a row of `n` values lie from the means of their segments: the root of the squares that they make for
+/// each value, in halves.
+fn plain_spread(row: &[i16], begin: usize, ends: &[usize], n: usize) -> u64 {
+    let mut spread = 0u64;
+    let mut from = begin;
+    for end in ends {
+        let values = row.get(from..*end).unwrap_or(&[]);
+        for j in 0..16usize {
+            spread = spread.wrapping_add(plain_segment_spread(values, j));
+        }
+        from = *end;
+    }
+    let each = spread.wrapping_mul(4).checked_div(n as u64).unwrap_or(0);
+    let mut root = 0u64;
+    for r in 1..=65535u64 {
+        if r.wrapping_mul(r) <= each {
+            root = r;
+        }
+    }
+    root
+}
+
 /// The bound of a part, from the definition: a cell begins at a multiple of its width, and of the gap to what may lie in it, where a
-/// query's mean may be rounded down too, the sixteenths of the greater width are squared.
-fn plain_part_bound(means: [(i64, i64); 64], least_length: u64) -> u64 {
+/// query's mean may be rounded down too, the sixteenths of the greater width are squared; and so is how far both spreads lie apart,
+/// where each may be rounded down.
+fn plain_part_bound(
+    means: [(i64, i64); 64],
+    least_length: u64,
+    spreads: (u64, u64),
+    n: usize,
+) -> u64 {
     let width = plain_width(means.map(|both| both.0));
     let wide = plain_width(means.map(|both| both.1)).max(width);
     let mut squares = 0i64;
@@ -136,7 +183,10 @@ fn plain_part_bound(means: [(i64, i64); 64], least_length: u64) -> u64 {
         squares = squares.wrapping_add(sixteenths.wrapping_mul(sixteenths));
     }
     let squared = wide.wrapping_mul(wide).wrapping_mul(squares);
-    least_length.wrapping_mul(squared.unsigned_abs()) / 256
+    let by_means = least_length.wrapping_mul(squared.unsigned_abs());
+    let apart = spreads.0.abs_diff(spreads.1).saturating_sub(2);
+    let by_spread = apart.wrapping_mul(apart).wrapping_mul(64);
+    by_means.wrapping_add(by_spread.wrapping_mul(n as u64)) / 256
 }
 
 /// Values scattered over `bits` bits.
@@ -252,7 +302,7 @@ fn cells_with(value: i16, place: usize) -> MeanCells {
     if let Some(there) = means.get_mut(place / 16) {
         *there = Means::of(&cuts, &row);
     }
-    MeanCells::of(&means)
+    MeanCells::of(&means, 0)
 }
 
 #[test]
@@ -326,7 +376,11 @@ fn finer_bounds_are_those_of_the_parts(rt: HostRuntime) -> Result<(), Fail> {
             for part in 0..ends.len() / 4 {
                 let own = &ends[4 * part..4 * part + 4];
                 let means = plain_means(&series, &query, from, own);
-                expected = expected.wrapping_add(plain_part_bound(means, least_length));
+                let spreads = (
+                    plain_spread(&series, from, own, n),
+                    plain_spread(&query, from, own, n),
+                );
+                expected = expected.wrapping_add(plain_part_bound(means, least_length, spreads, n));
                 from = own[3];
             }
             for (limit, within) in [(expected, true), (expected.wrapping_sub(1), expected == 0)] {
@@ -336,6 +390,34 @@ fn finer_bounds_are_those_of_the_parts(rt: HostRuntime) -> Result<(), Fail> {
                     "{n} values from {seed} within {limit}"
                 );
             }
+        }
+    }
+    Ok(())
+}
+
+#[test]
+fn worked_bounds_by_spreads(rt: HostRuntime) -> Result<(), Fail> {
+    // a series swings by one height from value to value, a query by another, so that each two have the same mean; and the bound of 256
+    let rows: [(i16, i16, u64); 6] = [
+        (0, 0, 0),
+        (100, 100, 0),
+        (0, 1, 0),
+        (0, 100, 2_473_088),
+        (100, 0, 2_473_088),
+        (1000, 3000, 1_022_243_328),
+    ];
+    for (own, asked, bound) in rows {
+        let (mut series, mut query) = ([own; 256], [asked; 256]);
+        for i in 0..128 {
+            series[2 * i] = 0i16.wrapping_sub(own);
+            query[2 * i] = 0i16.wrapping_sub(asked);
+        }
+        for (limit, within) in [(bound, true), (bound.wrapping_sub(1), bound == 0)] {
+            assert_eq!(rt;
+                is_within(&rt, rt.alloc(), &series, &query, limit)?,
+                within,
+                "{own} for {asked} within {limit}"
+            );
         }
     }
     Ok(())

@@ -9,7 +9,7 @@ use Rattle.series_core.specs.Distance.{squared_distance}
 use Rattle.series_core.specs.declared.rows.TheConstants.{MAX_VALUES}
 use Rattle.mean_bound.proofs.BelowDistances.{mean_bound_below}
 use Rattle.mean_bound.proofs.Boxes.{box_below, wider_below}
-use Rattle.mean_bound.proofs.Parts.{finer_below}
+use Rattle.mean_bound.proofs.PartBounds.{finer_below}
 use Rattle.mean_bound.specs.Boxes.{Box, box_bound, box_of, box_of_boxes}
 use Rattle.mean_bound.specs.Finer.{finer_bound, finer_means, finer_view}
 use Rattle.mean_bound.specs.MeanBound.{View, mean_bound, mean_view_of}

@@ -1,5 +1,5 @@
 -- The law is the lemma on rows.
-use Rattle.mean_bound.proofs.Parts.{finer_below}
+use Rattle.mean_bound.proofs.PartBounds.{finer_below}
 use Rattle.mean_bound.proofs.laws.finer_bound_is_below_distance.Goals as goal
 
 pub returns : goal.returns

@@ -39,7 +39,13 @@ of-requires-clause-reached c =
 pub loop-s-preserved : goal.loop-s-preserved
 loop-s-preserved c =
     let places = c.loop-s.invariant.places in
-    let view : PartView = record { least_length = c.args.least_length; means = c.args.means; shift = c.shift_for-shift.result } in
+    let view : PartView = record {
+      row_length = c.args.row_length;
+      least_length = c.args.least_length;
+      means = c.args.means;
+      shift = c.shift_for-shift.result;
+      spread = c.args.spread;
+    } in
     record {
       places = length-set c.loop-s.near c.loop-s.s c.of.result ∙ places;
       front = front_more (near_of view) c.loop-s.near c.loop-s.s c.of.result (omega (arith, places, c.loop-s-test.true))
@@ -50,11 +56,18 @@ pub invariant_of-result : goal.invariant_of-result
 invariant_of-result c =
     let far = c.reach_of_all.result in
     let end : c.loop-s.s ≡ 9 = omega (arith, c.loop-s.auto.s-end (omega arith), c.loop-s-test.false) in
-    let view : PartView = record { least_length = c.args.least_length; means = c.args.means; shift = c.shift_for-shift.result } in
+    let view : PartView = record {
+      row_length = c.args.row_length;
+      least_length = c.args.least_length;
+      means = c.args.means;
+      shift = c.shift_for-shift.result;
+      spread = c.args.spread;
+    } in
     record {
       four = omega arith;
       few = c.shift_for-shift.ensures.few;
-      short = c.requires;
+      row = c.requires.row;
+      short = c.requires.segment;
       reached = subst (λ n. n < 128 * 2 ^ c.shift_for-shift.result) c.reach_of_all.ensures.value
           (subst (λ s. far < 128 * 2 ^ s) (sym c.shift_for-shift.ensures.value) c.shift_for-shift.ensures.reaches);
       each = sym (take_all c.loop-s.s c.loop-s.near (omega (arith, end, c.loop-s.invariant.places))) ∙ c.loop-s.invariant.front

@@ -8,5 +8,11 @@ abbrev pub invariant-loop-s : goal.invariant-loop-s
 invariant-loop-s l = record {
   places : length l.near ≡ 9;
   front : take l.s l.near
-      ≡ map (near_of (record { least_length = l.least_length; means = l.means; shift = l.shift })) (range_with_len 0 l.s);
+      ≡ map (near_of (record {
+        row_length = l.row_length;
+        least_length = l.least_length;
+        means = l.means;
+        shift = l.shift;
+        spread = l.spread;
+      })) (range_with_len 0 l.s);
 }

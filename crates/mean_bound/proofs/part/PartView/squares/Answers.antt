@@ -11,9 +11,11 @@ use Rattle.mean_bound.proofs.part.PartView.squares.Goals as goal
 pub squares_of_quarter-squares-requires : goal.squares_of_quarter-squares-requires
 squares_of_quarter-squares-requires c =
     let v : PartView = record {
+      row_length = c.self.inside.row_length;
       least_length = c.self.inside.least_length;
       means = c.self.inside.means;
       shift = c.self.inside.shift;
+      spread = c.self.inside.spread;
     } in
     let s = c.cells.inside.shift in
     let near = c.near.view_is
@@ -24,11 +26,13 @@ squares_of_quarter-squares-requires c =
 pub loop-i-preserved : goal.loop-i-preserved
 loop-i-preserved c =
     let v : PartView = record {
+      row_length = c.self.inside.row_length;
       least_length = c.self.inside.least_length;
       means = c.self.inside.means;
       shift = c.self.inside.shift;
+      spread = c.self.inside.spread;
     } in
-    let cells : Cells = record { quarters = c.cells.inside.quarters; shift = c.cells.inside.shift } in
+    let cells : Cells = record { quarters = c.cells.inside.quarters; shift = c.cells.inside.shift; spread = c.cells.inside.spread } in
     let i = c.loop-i.i in
     let got = sum_l c.squares_of_quarter-squares.result in
     let near = c.near.view_is

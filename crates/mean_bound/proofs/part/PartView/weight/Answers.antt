@@ -10,9 +10,11 @@ use Rattle.mean_bound.proofs.part.PartView.weight.Goals as goal
 pub returns-clause-value : goal.returns-clause-value
 returns-clause-value c =
     let v : PartView = record {
+      row_length = c.self.inside.row_length;
       least_length = c.self.inside.least_length;
       means = c.self.inside.means;
       shift = c.self.inside.shift;
+      spread = c.self.inside.spread;
     } in
     let s = c.cells.inside.shift in
     let near = c.near.view_is
@@ -25,9 +27,11 @@ returns-clause-value c =
 pub returns-clause-small : goal.returns-clause-small
 returns-clause-small c =
     let v : PartView = record {
+      row_length = c.self.inside.row_length;
       least_length = c.self.inside.least_length;
       means = c.self.inside.means;
       shift = c.self.inside.shift;
+      spread = c.self.inside.spread;
     } in
     let s = c.cells.inside.shift in
     let near = c.near.view_is

@@ -1,0 +1,59 @@
+//! How far the values of a row lie from the means of their segments: the squared differences, added up, and their root. What means leave
+//! of two rows is as far apart at least as it is long in the one and short in the other.
+ghost use Rattle.std.specs.Prelude.{◌≡◌, ◌*◌, ◌/◌, ◌<◌, ◌≤◌, length};
+ghost use Rattle.mean_bound.specs.Spread.{raised, root, row_spread, spread_times};
+
+use segment_sums::Cuts;
+use series_core::values_fit;
+
+/// The squared differences of a row's values from the means of its sixteen segments, rounded down for each segment and added up.
+pub(crate) fn spread_of(cuts: &Cuts, row: &[i16]) -> u64
+    requires length { length row.now ≡ cuts.now.row_length }
+    requires sixteen { cuts.now.segments ≡ 16 }
+    ensures value { result ≡ row_spread cuts.now row.now }
+    ensures small { result ≤ 70368744177664 }
+{
+    // for the facts that the cuts divide, and that the values fit
+    let _segments = cuts.segments();
+    values_fit(row);
+    let mut spread = 0;
+    for j in 0..16 {
+        let (from, to) = cuts.cut(j);
+        spread += spread_of_segment(&row[from as usize..to as usize]);
+    }
+    spread
+}
+
+/// The squared differences of a segment's values from their mean, rounded down.
+fn spread_of_segment(values: &[i16]) -> u64
+    requires some { 1 ≤ length values.now }
+    requires few { length values.now ≤ 4097 }
+    ensures value { result ≡ spread_times values.now / length values.now }
+    ensures small { result ≤ 17595944013825 }
+{
+    values_fit(values);
+    let (mut sum, mut squares) = (0, 0);
+    for i in 0..values.len() {
+        let value = raised(values[i]);
+        sum += value;
+        squares += value * value;
+    }
+    let length = values.len() as u64;
+    (length * squares - sum * sum) / length
+}
+
+/// A value, raised by 32768.
+fn raised(value: i16) -> u64
+    ensures value { result ≡ raised value }
+    ensures small { result ≤ 65535 }
+{
+    (i64::from(value) + 32768) as u64
+}
+
+/// The root of a number, rounded down.
+pub(crate) fn root_of(n: u64) -> u16
+    requires { n < 4294967296 }
+    ensures { result ≡ root n }
+{
+    n.isqrt() as u16
+}
