@@ -1,7 +1,7 @@
--- How great spreads are (`segment_spread_small`, `row_spread_small`), how they add up value by value (`total_more`) and segment by segment
--- (`sum_more`), and how long a segment is (`segment_short`).
+-- How great spreads are (`segment_spread_small`, `row_spread_small`), how they add up value by value (`total_more`) and number by number
+-- (`sum_more`), how those of the segments of a row do (`one_spread_more`, `all_spreads`), and how long a segment is (`segment_short`).
 use Rattle.std.proofs.Common.{◌≡◌, ℕ, ◌+◌, ◌-◌, ◌*◌, ◌/◌, ◌<◌, ◌≤◌, zero, suc, arith, sym, ap, subst, ◌∙◌, ℤ, List, [], ◌∷◌, length, map, take, get_or, add-one}
-use Rattle.std.specs.Prelude.{FitsSigned}
+use Rattle.std.specs.Prelude.{FitsSigned, slice_range}
 use Rattle.std.specs.Int.{w16}
 use Rattle.std.specs.List.{All, range_with_len}
 use Rattle.std.specs.Simd.Lanes.{sum_l}
@@ -129,3 +129,35 @@ segment_short d j is sixteen =
   where
     by_parts : (j n : ℕ) → n ≤ 65536 → (j + 1) * n / 16 - j * n / 16 ≤ 4097
     by_parts j n short = omega (arith, short)
+
+-- the spreads of the first j segments of a row are added up
+pub record AreSpreads (d : Division) (row : List ℤ) (j spread : ℕ) : Type 0 where
+  pub small : spread ≤ 17595944013825 * j
+  pub added : spread ≡ sum_l (map (segment_spread d row) (range_with_len 0 j))
+
+-- that of one segment more, whose values lie from one cut point up to the next, adds up
+pub one_spread_more : (d : Division) (row : List ℤ) (j spread from to here : ℕ) → IsDivision d → length row ≡ d.row_length
+    → All (FitsSigned w16) row → j < d.segments → from ≡ cut_place d j → to ≡ cut_place d (j + 1)
+    → here ≡ spread_times (slice_range row from to) / length (slice_range row from to) → here ≤ 17595944013825
+    → AreSpreads d row j spread → AreSpreads d row (j + 1) (spread + here)
+one_spread_more d row j spread from to here is whole fit used first last value small so_far =
+    let values : slice_range row from to ≡ segment_values d row j
+    = ap (λ n. slice_range row n to) first ∙ ap (λ n. slice_range row (cut_place d j) n) last in
+    let own : here ≡ segment_spread d row j
+    = value
+    ∙ ap (λ (vs : List ℤ). spread_times vs / length vs) values
+    ∙ ap (λ n. spread_times (segment_values d row j) / n) (length-segment_values d row j is whole used)
+    ∙ sym (spread_of_segment d row j is whole fit used) in
+    let zeroth : 0 + j ≡ j = omega arith in
+    record {
+      small = omega (arith, so_far.small, small);
+      added = omega (arith, so_far.added, own, sum_more (segment_spread d row) 0 j, ap (segment_spread d row) zeroth);
+    }
+
+-- those of sixteen segments are the spread of the row
+pub all_spreads : (d : Division) (row : List ℤ) (spread : ℕ) → IsDivision d → length row ≡ d.row_length → All (FitsSigned w16) row
+    → d.segments ≡ 16 → AreSpreads d row 16 spread → (spread ≡ row_spread d row) × (spread ≤ 70368744177664)
+all_spreads d row spread is whole fit sixteen all =
+    let value : spread ≡ row_spread d row
+    = all.added ∙ ap (λ k. sum_l (map (segment_spread d row) (range_with_len 0 k))) (sym sixteen) in
+    (value, omega (arith, value, row_spread_small d row is whole fit, is.short_row))

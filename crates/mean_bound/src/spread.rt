@@ -13,6 +13,40 @@ pub(crate) fn spread_of(cuts: &Cuts, row: &[i16]) -> u64
     ensures value { result ≡ row_spread cuts.now row.now }
     ensures small { result ≤ 70368744177664 }
 {
+    match cuts.length() {
+        32 => spread_of_equal::<2>(cuts, row),
+        64 => spread_of_equal::<4>(cuts, row),
+        128 => spread_of_equal::<8>(cuts, row),
+        256 => spread_of_equal::<16>(cuts, row),
+        _ => spread_of_any(cuts, row),
+    }
+}
+
+/// The same over segments of L values each, which the compiler knows, so that it divides without a division.
+fn spread_of_equal<const L: usize>(cuts: &Cuts, row: &[i16]) -> u64
+    requires length { length row.now ≡ cuts.now.row_length }
+    requires sixteen { cuts.now.segments ≡ 16 }
+    requires equal { cuts.now.row_length ≡ 16 * L }
+    ensures value { result ≡ row_spread cuts.now row.now }
+    ensures small { result ≤ 70368744177664 }
+{
+    // for the facts that the cuts divide, and that the values fit
+    let _segments = cuts.segments();
+    values_fit(row);
+    let mut spread = 0;
+    for j in 0..16 {
+        spread += spread_of_segment(&row[j * L..j * L + L]);
+    }
+    spread
+}
+
+/// The same over segments of any lengths.
+fn spread_of_any(cuts: &Cuts, row: &[i16]) -> u64
+    requires length { length row.now ≡ cuts.now.row_length }
+    requires sixteen { cuts.now.segments ≡ 16 }
+    ensures value { result ≡ row_spread cuts.now row.now }
+    ensures small { result ≤ 70368744177664 }
+{
     // for the facts that the cuts divide, and that the values fit
     let _segments = cuts.segments();
     values_fit(row);
@@ -25,6 +59,7 @@ pub(crate) fn spread_of(cuts: &Cuts, row: &[i16]) -> u64
 }
 
 /// The squared differences of a segment's values from their mean, rounded down.
+#[inline(always)]
 fn spread_of_segment(values: &[i16]) -> u64
     requires some { 1 ≤ length values.now }
     requires few { length values.now ≤ 4097 }
@@ -43,6 +78,7 @@ fn spread_of_segment(values: &[i16]) -> u64
 }
 
 /// A value, raised by 32768.
+#[inline(always)]
 fn raised(value: i16) -> u64
     ensures value { result ≡ raised value }
     ensures small { result ≤ 65535 }
