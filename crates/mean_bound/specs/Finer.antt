@@ -101,7 +101,7 @@ all_squares wide shift (means ∷ rest) [] = 0
 all_squares wide shift (means ∷ rest) (numbers ∷ quarters) =
     quarter_squares wide shift means numbers + all_squares wide shift rest quarters
 
--- how far two such roots lie apart at least, each of which may be rounded down and is of squares that were
+-- how far two such roots lie apart at least, less two: one for the roots, and one for the sums below them, which are rounded down
 abbrev pub spread_gap : ℕ → ℕ → ℕ
 spread_gap a b = max (a - (b + 2)) (b - (a + 2))
 

@@ -1,9 +1,9 @@
 //! A part of a query as bounds by finer means see it. What a cell of a width leaves of a gap is found without a division or a product by
 //! a width: the places that are near the query's means are made once for each width that cells may have.
-ghost use Rattle.std.specs.Prelude.{◌≡◌, ◌*◌, ◌^◌, ◌<◌, ◌≤◌, max};
+ghost use Rattle.std.specs.Prelude.{◌≡◌, ◌*◌, ◌^◌, ◌<◌, ◌≤◌, length, max};
 ghost use Rattle.mean_bound.specs.Cells.{reach_of_all};
 ghost use Rattle.mean_bound.specs.Finer.{all_squares, part_bound, part_view_of, spread_gap};
-ghost use Rattle.mean_bound.specs.Kept.{near_places};
+ghost use Rattle.mean_bound.specs.Kept.{near_of, near_places};
 ghost use Rattle.mean_bound.specs.MeanBound.{square};
 
 use crate::cells::{MeanCells, first_of, reach_of_all, shift_for};
@@ -140,13 +140,24 @@ impl PartView {
         64 * u64::from(self.row_length) * (gap * gap)
     }
 
+    // The places for the width of a series' cells.
+    #[inline(always)]
+    fn near(&self, cells: &MeanCells) -> &NearPlaces
+        ensures value { result.now ≡ near_of self.now cells.now.shift }
+        ensures few { max self.now.shift cells.now.shift ≤ 8 }
+        ensures reached { reach_of_all self.now.means < 128 * 2 ^ self.now.shift }
+        ensures four { length self.now.means ≡ 4 }
+    {
+        &self.near[cells.shift as usize]
+    }
+
     // The square of the greater width.
+    #[inline(always)]
     fn weight(&self, cells: &MeanCells) -> u64
         ensures value { result ≡ 2 ^ max self.now.shift cells.now.shift * 2 ^ max self.now.shift cells.now.shift }
         ensures small { result ≤ 65536 }
     {
-        let near = &self.near[cells.shift as usize];
-        u64::from(near.weight)
+        u64::from(self.near(cells).weight)
     }
 
     // The sum of the squares of the gaps, in sixteenths of the greater width.
@@ -154,7 +165,7 @@ impl PartView {
         ensures value { result ≡ all_squares (max self.now.shift cells.now.shift) cells.now.shift self.now.means cells.now.quarters }
         ensures small { result < 2 ^ 31 }
     {
-        let near = &self.near[cells.shift as usize];
+        let near = self.near(cells);
         let mut sums = u32x8::splat(0);
         for i in 0..4 {
             let (lows, highs) = (near.lows[i], near.highs[i]);

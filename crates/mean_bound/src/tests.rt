@@ -220,6 +220,17 @@ fn bounds_are_those_of_the_sums(rt: HostRuntime) -> Result<(), Fail> {
     Ok(())
 }
 
+/// The means of series of two values.
+fn means_of_pairs(rt: &impl Abort, alloc: Global, series: &[&[i16]]) -> Result<Vec<Means>, Fail> {
+    let cuts = Cuts::new(2, 2);
+    let mut means = Vec::new(alloc);
+    for values in series {
+        assert_eq!(rt; values.len(), 2, "two values a series");
+        means.push(Means::of(&cuts, values))?;
+    }
+    Ok(means)
+}
+
 #[test]
 fn a_box_bounds_what_lies_in_it(rt: HostRuntime) -> Result<(), Fail> {
     let rows: [(&[&[i16]], &[i16], u64); 6] = [
@@ -233,16 +244,19 @@ fn a_box_bounds_what_lies_in_it(rt: HostRuntime) -> Result<(), Fail> {
     for (series, query, expected) in rows {
         let cuts = Cuts::new(2, 2);
         assert_eq!(rt; query.len(), 2, "two values a query");
-        let mut means = Vec::new(rt.alloc());
-        for values in series {
-            assert_eq!(rt; values.len(), 2, "two values a series");
-            means.push(Means::of(&cuts, values))?;
+        let view = MeanView::new(&cuts, query);
+        let means = means_of_pairs(&rt, rt.alloc(), series)?;
+        let mut boxes = Vec::new(rt.alloc());
+        for own in &means {
+            boxes.push(MeanBox::around(&[*own]))?;
         }
-        let around = MeanBox::around(&means);
+        let around = view.bound_box(&MeanBox::around(&means));
+        assert_eq!(rt; around, expected, "{series:?} for {query:?}");
+        let around = view.bound_box(&MeanBox::around_boxes(&boxes));
         assert_eq!(rt;
-            MeanView::new(&cuts, query).bound_box(&around),
+            around,
             expected,
-            "{series:?} for {query:?}"
+            "a box for each of {series:?} for {query:?}"
         );
     }
     Ok(())
@@ -260,33 +274,6 @@ fn bounds_of_the_usual_lengths_are_those_of_the_sums(rt: HostRuntime) -> Result<
                 "16 segments of {n} values from {seed}"
             );
         }
-    }
-    Ok(())
-}
-
-#[test]
-fn a_box_of_boxes_bounds_what_lies_in_each(rt: HostRuntime) -> Result<(), Fail> {
-    let rows: [(&[&[i16]], &[i16], u64); 5] = [
-        (&[&[5, 5]], &[9, 9], 32),
-        (&[&[5, 5], &[3, 8]], &[9, 9], 17),
-        (&[&[5, 5], &[3, 8]], &[4, 6], 0),
-        (&[&[5, 5], &[3, 8], &[-1, 20]], &[9, 30], 116),
-        (&[], &[9, 9], 4294443024),
-    ];
-    for (series, query, expected) in rows {
-        let cuts = Cuts::new(2, 2);
-        assert_eq!(rt; query.len(), 2, "two values a query");
-        let mut boxes = Vec::new(rt.alloc());
-        for values in series {
-            assert_eq!(rt; values.len(), 2, "two values a series");
-            boxes.push(MeanBox::around(&[Means::of(&cuts, values)]))?;
-        }
-        let wide = MeanBox::around_boxes(&boxes);
-        assert_eq!(rt;
-            MeanView::new(&cuts, query).bound_box(&wide),
-            expected,
-            "a box for each of {series:?} for {query:?}"
-        );
     }
     Ok(())
 }
@@ -355,10 +342,30 @@ fn is_within(
     Ok(view.is_within(&cells, limit))
 }
 
+/// The bound by the finer means of two series is one number: they are within it, and not within one less.
+fn compare_finer(
+    rt: &impl Abort,
+    alloc: Global,
+    series: &[i16],
+    query: &[i16],
+    bound: u64,
+    what: (i64, i64),
+) -> Result<(), Fail> {
+    for (limit, within) in [(bound, true), (bound.wrapping_sub(1), bound == 0)] {
+        let (series_is, query_is) = what;
+        assert_eq!(rt;
+            is_within(rt, alloc, series, query, limit)?,
+            within,
+            "{series_is} for {query_is} within {limit}"
+        );
+    }
+    Ok(())
+}
+
 #[test]
 fn finer_bounds_are_those_of_the_parts(rt: HostRuntime) -> Result<(), Fail> {
     // the ends of the quarters of each part, and the least length of a segment
-    let rows: [(usize, &[usize], u64); 7] = [
+    let rows: [(usize, &[usize], u64); 9] = [
         (1, &[], 0),
         (127, &[], 0),
         (128, &[32, 64, 96, 128], 2),
@@ -366,6 +373,8 @@ fn finer_bounds_are_those_of_the_parts(rt: HostRuntime) -> Result<(), Fail> {
         (200, &[50, 100, 150, 200], 3),
         (256, &[32, 64, 96, 128, 160, 192, 224, 256], 2),
         (299, &[37, 74, 112, 149, 186, 224, 261, 299], 2),
+        (512, &[64, 128, 192, 256, 320, 384, 448, 512], 4),
+        (1024, &[128, 256, 384, 512, 640, 768, 896, 1024], 8),
     ];
     for (n, ends, least_length) in rows {
         for seed in 1..=15u64 {
@@ -383,13 +392,8 @@ fn finer_bounds_are_those_of_the_parts(rt: HostRuntime) -> Result<(), Fail> {
                 expected = expected.wrapping_add(plain_part_bound(means, least_length, spreads, n));
                 from = own[3];
             }
-            for (limit, within) in [(expected, true), (expected.wrapping_sub(1), expected == 0)] {
-                assert_eq!(rt;
-                    is_within(&rt, rt.alloc(), &series[..n], &query[..n], limit)?,
-                    within,
-                    "{n} values from {seed} within {limit}"
-                );
-            }
+            let what = (n as i64, seed as i64);
+            compare_finer(&rt, rt.alloc(), &series[..n], &query[..n], expected, what)?;
         }
     }
     Ok(())
@@ -412,13 +416,8 @@ fn worked_bounds_by_spreads(rt: HostRuntime) -> Result<(), Fail> {
             series[2 * i] = 0i16.wrapping_sub(own);
             query[2 * i] = 0i16.wrapping_sub(asked);
         }
-        for (limit, within) in [(bound, true), (bound.wrapping_sub(1), bound == 0)] {
-            assert_eq!(rt;
-                is_within(&rt, rt.alloc(), &series, &query, limit)?,
-                within,
-                "{own} for {asked} within {limit}"
-            );
-        }
+        let what = (i64::from(own), i64::from(asked));
+        compare_finer(&rt, rt.alloc(), &series, &query, bound, what)?;
     }
     Ok(())
 }
@@ -438,13 +437,8 @@ fn worked_finer_bounds(rt: HostRuntime) -> Result<(), Fail> {
     ];
     for (own, asked, bound) in rows {
         let (series, query) = ([own; 256], [asked; 256]);
-        for (limit, within) in [(bound, true), (bound.wrapping_sub(1), bound == 0)] {
-            assert_eq!(rt;
-                is_within(&rt, rt.alloc(), &series, &query, limit)?,
-                within,
-                "{own} for {asked} within {limit}"
-            );
-        }
+        let what = (i64::from(own), i64::from(asked));
+        compare_finer(&rt, rt.alloc(), &series, &query, bound, what)?;
     }
     Ok(())
 }

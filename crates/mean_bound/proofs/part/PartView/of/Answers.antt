@@ -1,11 +1,10 @@
 -- The least width reaches as far as the means, and so does each wider one; the places for one width more stand behind the others.
-use Rattle.std.proofs.Common.{◌≡◌, ◌∙◌, ◌*◌, ◌^◌, ◌<◌, ◌∷◌, [], refl, sym, ap, map, subst, arith}
+use Rattle.std.proofs.Common.{ℕ, ◌≡◌, ◌∙◌, ◌*◌, ◌^◌, ◌<◌, ◌∷◌, [], refl, sym, ap, map, subst, arith}
 use Rattle.std.specs.Prelude.{max}
 use Rattle.std.specs.List.{range_with_len}
 use Rattle.std.proofs.lemmas.List.{length-set, take_all}
 use Rattle.mean_bound.specs.Cells.{reach_of_all}
-use Rattle.mean_bound.specs.Finer.{PartView}
-use Rattle.mean_bound.specs.Kept.{NearPlaces, near_of, near_places}
+use Rattle.mean_bound.specs.Kept.{NearPlaces, near_places}
 use Rattle.mean_bound.proofs.Fronts.{front_more}
 use Rattle.mean_bound.proofs.InPlaces.{wider_reaches}
 use Rattle.mean_bound.proofs.part.PartView.of.Goals as goal
@@ -39,16 +38,10 @@ of-requires-clause-reached c =
 pub loop-s-preserved : goal.loop-s-preserved
 loop-s-preserved c =
     let places = c.loop-s.invariant.places in
-    let view : PartView = record {
-      row_length = c.args.row_length;
-      least_length = c.args.least_length;
-      means = c.args.means;
-      shift = c.shift_for-shift.result;
-      spread = c.args.spread;
-    } in
+    let near : ℕ → NearPlaces = λ s. near_places (max c.shift_for-shift.result s) s c.args.means in
     record {
       places = length-set c.loop-s.near c.loop-s.s c.of.result ∙ places;
-      front = front_more (near_of view) c.loop-s.near c.loop-s.s c.of.result (omega (arith, places, c.loop-s-test.true))
+      front = front_more near c.loop-s.near c.loop-s.s c.of.result (omega (arith, places, c.loop-s-test.true))
           c.loop-s.invariant.front (c.of.ensures ∙ ap (λ s. near_places s c.loop-s.s c.args.means) c.max.ensures);
     }
 
@@ -56,13 +49,7 @@ pub invariant_of-result : goal.invariant_of-result
 invariant_of-result c =
     let far = c.reach_of_all.result in
     let end : c.loop-s.s ≡ 9 = omega (arith, c.loop-s.auto.s-end (omega arith), c.loop-s-test.false) in
-    let view : PartView = record {
-      row_length = c.args.row_length;
-      least_length = c.args.least_length;
-      means = c.args.means;
-      shift = c.shift_for-shift.result;
-      spread = c.args.spread;
-    } in
+    let near : ℕ → NearPlaces = λ s. near_places (max c.shift_for-shift.result s) s c.args.means in
     record {
       four = omega arith;
       few = c.shift_for-shift.ensures.few;
@@ -71,5 +58,5 @@ invariant_of-result c =
       reached = subst (λ n. n < 128 * 2 ^ c.shift_for-shift.result) c.reach_of_all.ensures.value
           (subst (λ s. far < 128 * 2 ^ s) (sym c.shift_for-shift.ensures.value) c.shift_for-shift.ensures.reaches);
       each = sym (take_all c.loop-s.s c.loop-s.near (omega (arith, end, c.loop-s.invariant.places))) ∙ c.loop-s.invariant.front
-          ∙ ap (λ n. map (near_of view) (range_with_len 0 n)) end;
+          ∙ ap (λ n. map near (range_with_len 0 n)) end;
     }

@@ -1,36 +1,22 @@
 -- One more least and one more greatest mean stand behind those so far, in place of zeros.
-use Rattle.std.proofs.Common.{ℕ, List, ◌≡◌, ◌∙◌, ◌+◌, ◌-◌, ◌/◌, ◌<◌, arith, ap, sym}
-use Rattle.segment_sums.specs.Division.{segment_length}
+use Rattle.std.proofs.Common.{ℕ, List, ◌≡◌, ◌∙◌, ◌/◌, ◌<◌, arith, ap, sym}
 use Rattle.segment_sums.proofs.Filled.{fill_next, filled}
 use Rattle.segment_sums.proofs.Places.{equal_lengths}
-use Rattle.mean_bound.specs.Means.{raised_sum}
 use Rattle.mean_bound.specs.MeanBound.{low_mean, high_mean}
-use Rattle.mean_bound.proofs.OfSegments.{at_segment}
+use Rattle.mean_bound.proofs.OfSegments.{high_is, low_is, sum_fits}
 use Rattle.mean_bound.proofs.view.MeanView.of_equal.Goals as goal
 
 pub low_mean-requires-clause-limit : goal.low_mean-requires-clause-limit
 low_mean-requires-clause-limit g c =
-    let cuts = c.args.cuts.now in
-    let j = c.loop-j.j in
-    let used : j < cuts.segments = omega (arith, c.requires.sixteen) in
-    let long : segment_length cuts j ≡ g.row.L
-    = equal_lengths cuts 16 g.row.L j (omega arith) c.requires.sixteen c.requires.equal in
-    let sum = at_segment cuts (raised_sum cuts c.args.query.now) c.equal_raised_sums-sums.result j
-    c.equal_raised_sums-sums.ensures.sums used in
-    let limit = c.equal_raised_sums-sums.ensures.limit j used in
-    omega (arith, sum, limit, long)
+    sum_fits c.args.cuts.now c.args.query.now c.equal_raised_sums-sums.result c.loop-j.j g.row.L c.equal_raised_sums-sums.ensures.sums
+    c.equal_raised_sums-sums.ensures.limit (omega (arith, c.requires.sixteen))
+    (equal_lengths c.args.cuts.now 16 g.row.L c.loop-j.j (omega arith) c.requires.sixteen c.requires.equal)
 
 pub high_mean-requires-clause-limit : goal.high_mean-requires-clause-limit
 high_mean-requires-clause-limit g c =
-    let cuts = c.args.cuts.now in
-    let j = c.loop-j.j in
-    let used : j < cuts.segments = omega (arith, c.requires.sixteen) in
-    let long : segment_length cuts j ≡ g.row.L
-    = equal_lengths cuts 16 g.row.L j (omega arith) c.requires.sixteen c.requires.equal in
-    let sum = at_segment cuts (raised_sum cuts c.args.query.now) c.equal_raised_sums-sums.result j
-    c.equal_raised_sums-sums.ensures.sums used in
-    let limit = c.equal_raised_sums-sums.ensures.limit j used in
-    omega (arith, sum, limit, long)
+    sum_fits c.args.cuts.now c.args.query.now c.equal_raised_sums-sums.result c.loop-j.j g.row.L c.equal_raised_sums-sums.ensures.sums
+    c.equal_raised_sums-sums.ensures.limit (omega (arith, c.requires.sixteen))
+    (equal_lengths c.args.cuts.now 16 g.row.L c.loop-j.j (omega arith) c.requires.sixteen c.requires.equal)
 
 pub loop-j-preserved : goal.loop-j-preserved
 loop-j-preserved g c =
@@ -38,18 +24,15 @@ loop-j-preserved g c =
     let query = c.args.query.now in
     let j = c.loop-j.j in
     let l = g.row.L in
+    let sums = c.equal_raised_sums-sums.ensures.sums in
     let used : j < cuts.segments = omega (arith, c.requires.sixteen) in
     let inside : j < 16 = omega (arith, used, c.requires.sixteen) in
-    let long : segment_length cuts j ≡ l = equal_lengths cuts 16 l j (omega arith) c.requires.sixteen c.requires.equal in
-    let sum = at_segment cuts (raised_sum cuts query) c.equal_raised_sums-sums.result j
-    c.equal_raised_sums-sums.ensures.sums used in
+    let long = equal_lengths cuts 16 l j (omega arith) c.requires.sixteen c.requires.equal in
     record {
       lows = fill_next (low_mean cuts query) 0 16 j c.loop-j.lows _ inside c.loop-j.invariant.lows
-          (c.low_mean.ensures ∙ ap (λ s. (s + 1) / l - 1) sum
-          ∙ ap (λ n. (raised_sum cuts query j + 1) / n - 1) (sym long));
+          (low_is cuts query _ j l _ sums used long c.low_mean.ensures);
       highs = fill_next (high_mean cuts query) 0 16 j c.loop-j.highs _ inside c.loop-j.invariant.highs
-          (c.high_mean.ensures ∙ ap (λ s. (s + (l - 1)) / l) sum
-          ∙ ap (λ n. (raised_sum cuts query j + (n - 1)) / n) (sym long));
+          (high_is cuts query _ j l _ sums used long c.high_mean.ensures);
     }
 
 pub returns : goal.returns
