@@ -8,6 +8,7 @@ pub mod OneThread
 pub mod Replays
 -- What clauses of private functions alone speak of.
 pub mod Walks
+pub mod Scanning
 pub mod NearLeaves
 pub mod Teams
 pub mod Fates

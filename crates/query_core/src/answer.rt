@@ -3,7 +3,6 @@
 ghost use Rattle.std.specs.Prelude.{◌≡◌, ◌≤◌, IfOk};
 ghost use Rattle.series_core.specs.Answer.{answer};
 ghost use Rattle.subtree_build.specs.Fits.{Fits as IndexFits};
-ghost use Rattle.query_core.specs.Questions.{last_of};
 
 use crate::index_laws::search_law;
 use crate::task::Task;
@@ -60,22 +59,7 @@ impl<'a, R: Rows> Task<'a, R> {
         match self.what_tells(index, close - close / 4) {
             Telling::Means => self.nearest_by_leaves(alloc, index, close),
             Telling::FinerMeans => self.answer_by_finer_means(alloc, index, close),
-            Telling::Nothing => self.answer_by_rows(alloc, index, close),
+            Telling::Nothing => self.answer_by_rows(alloc, close),
         }
-    }
-
-    /// The list of the answer, by all rows.
-    pub(crate) fn answer_by_rows(
-        &self,
-        alloc: Global,
-        index: &Index,
-        limit: u64,
-    ) -> Result<KBest, NoMemory>
-        requires fits { IndexFits self.now.collection self.now.layout index.now }
-        requires limit { last_of self.now ≤ limit }
-        ensures { IfOk result (λ best. best.pairs ≡ answer self.now.collection self.now.query self.now.k) }
-    {
-        search_law(self, index);
-        self.nearest_by_rows(alloc, limit)
     }
 }

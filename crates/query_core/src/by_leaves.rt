@@ -53,7 +53,7 @@ impl<'a, R: Rows> Task<'a, R> {
         match self.what_tells(index, limit) {
             Telling::Means => {}
             Telling::FinerMeans => return self.answer_by_finer_means(alloc, index, limit),
-            Telling::Nothing => return self.answer_by_rows(alloc, index, limit),
+            Telling::Nothing => return self.answer_by_rows(alloc, limit),
         }
         if others.len() > MANY {
             return self.answer_in_order(alloc, index, limit);

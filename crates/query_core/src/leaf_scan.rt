@@ -1,14 +1,12 @@
 //! Scanning a leaf for the answer alone: a member is passed over by its means, or else by its finer means, or else measured.
-ghost use Rattle.std.specs.Prelude.{◌≡◌, ℕ, ◌+◌, ◌-◌, ◌*◌, ◌<◌, ◌≤◌, false, min, length, take, drop};
-ghost use Rattle.series_core.specs.Best.{IsBest};
+ghost use Rattle.std.specs.Prelude.{◌≡◌, ◌+◌, ◌*◌, ◌<◌, ◌≤◌, false, length, take, drop};
 ghost use Rattle.series_core.specs.Distance.{squared_distance};
-ghost use Rattle.series_core.specs.Order.{distance_at};
 ghost use Rattle.subtree_build.specs.Fits.{Fits as IndexFits};
-ghost use Rattle.subtree_build.specs.Index.{IndexParts};
 ghost use Rattle.subtree_build.specs.Means.{finer_of, means_of};
 ghost use Rattle.subtree_build.specs.Members.{series_at};
-ghost use Rattle.search_machine.specs.Ground.{scan, scan_one};
+ghost use Rattle.search_machine.specs.Ground.{scan};
 ghost use Rattle.query_core.specs.Questions.{IsQuestion, search_over, IsMemberOf, leaf_series};
+ghost use Rattle.query_core.specs.Scanning.{IsScannedOne, MayAdd};
 
 use crate::index_laws::search_law;
 use crate::scan::most_to_add;
@@ -55,14 +53,9 @@ impl<'a, R: Rows> Task<'a, R> {
         requires member { IsMemberOf self.now member.now }
         requires far { near ≡ false
             → most < squared_distance (series_at self.now.collection member.now.number) self.now.query }
-        requires k { list.old.k ≡ self.now.k }
-        requires sound { IsBest list.old }
-        requires most { most ≡ min limit (distance_at (list.old.k - 1) list.old.pairs) }
-        ensures k { list.new.k ≡ self.now.k }
-        ensures sound { IsBest list.new }
-        ensures most { result ≡ min limit (distance_at (list.new.k - 1) list.new.pairs) }
-        ensures pairs { (ix : IndexParts) (workers queues : ℕ) → list.new.pairs
-            ≡ scan_one (search_over self.now ix workers queues) limit member.now.number list.old.pairs }
+        requires list { MayAdd self.now limit list.old most }
+        ensures list { MayAdd self.now limit list.new result }
+        ensures pairs { IsScannedOne self.now limit member.now.number list.old.pairs list.new.pairs }
     {
         // for the fact that the task is a question
         let _k = self.k();

@@ -1,14 +1,13 @@
 //! Scanning members: each is passed over by the bound of its means where that is above the limit or above the k-th pair, and
 //! else measured. A row that is passed over is not read.
-ghost use Rattle.std.specs.Prelude.{◌≡◌, ℕ, ◌-◌, ◌<◌, min, length};
+ghost use Rattle.std.specs.Prelude.{◌≡◌, ◌-◌, ◌<◌, min, length};
 ghost use Rattle.std.specs.List.{All};
 ghost use Rattle.series_core.specs.Best.{IsBest};
 ghost use Rattle.series_core.specs.Order.{distance_at};
-ghost use Rattle.subtree_build.specs.Index.{IndexParts};
 ghost use Rattle.subtree_build.specs.Means.{all_means, means_of};
 ghost use Rattle.subtree_build.specs.Members.{numbers_of};
-ghost use Rattle.search_machine.specs.Ground.{scan, scan_one};
-ghost use Rattle.query_core.specs.Questions.{search_over, IsMemberOf};
+ghost use Rattle.query_core.specs.Questions.{IsMemberOf};
+ghost use Rattle.query_core.specs.Scanning.{AreScanned, IsScannedOne, MayAdd};
 
 use crate::task::Task;
 use isax_word::Member;
@@ -24,8 +23,7 @@ impl<'a, R: Rows> Task<'a, R> {
         requires means { means.now ≡ all_means self.now.collection self.now.layout members.now }
         requires k { list.old.k ≡ self.now.k }
         ensures k { list.new.k ≡ self.now.k }
-        ensures pairs { (ix : IndexParts) (workers queues : ℕ) → list.new.pairs
-            ≡ scan (search_over self.now ix workers queues) limit (numbers_of members.now) list.old.pairs }
+        ensures pairs { AreScanned self.now limit (numbers_of members.now) list.old.pairs list.new.pairs }
     {
         let mut most = most_to_add(limit, list);
         for i in 0..members.len() {
@@ -38,14 +36,9 @@ impl<'a, R: Rows> Task<'a, R> {
     fn meet(&self, member: &Member, means: &Means, limit: u64, most: u64, list: &mut KBest) -> u64
         requires member { IsMemberOf self.now member.now }
         requires means { means.now ≡ means_of self.now.collection self.now.layout member.now }
-        requires k { list.old.k ≡ self.now.k }
-        requires sound { IsBest list.old }
-        requires most { most ≡ min limit (distance_at (list.old.k - 1) list.old.pairs) }
-        ensures k { list.new.k ≡ self.now.k }
-        ensures sound { IsBest list.new }
-        ensures most { result ≡ min limit (distance_at (list.new.k - 1) list.new.pairs) }
-        ensures pairs { (ix : IndexParts) (workers queues : ℕ) → list.new.pairs
-            ≡ scan_one (search_over self.now ix workers queues) limit member.now.number list.old.pairs }
+        requires list { MayAdd self.now limit list.old most }
+        ensures list { MayAdd self.now limit list.new result }
+        ensures pairs { IsScannedOne self.now limit member.now.number list.old.pairs list.new.pairs }
     {
         if self.means().bound(means) > most {
             return most;
@@ -57,14 +50,9 @@ impl<'a, R: Rows> Task<'a, R> {
     /// `most`, and tells what is then the most.
     pub(crate) fn measure(&self, number: u32, limit: u64, most: u64, list: &mut KBest) -> u64
         requires series { number < length self.now.collection.series }
-        requires k { list.old.k ≡ self.now.k }
-        requires sound { IsBest list.old }
-        requires most { most ≡ min limit (distance_at (list.old.k - 1) list.old.pairs) }
-        ensures k { list.new.k ≡ self.now.k }
-        ensures sound { IsBest list.new }
-        ensures most { result ≡ min limit (distance_at (list.new.k - 1) list.new.pairs) }
-        ensures pairs { (ix : IndexParts) (workers queues : ℕ) → list.new.pairs
-            ≡ scan_one (search_over self.now ix workers queues) limit number list.old.pairs }
+        requires list { MayAdd self.now limit list.old most }
+        ensures list { MayAdd self.now limit list.new result }
+        ensures pairs { IsScannedOne self.now limit number list.old.pairs list.new.pairs }
     {
         // for the fact that the task is a question
         let _k = self.k();

@@ -1,13 +1,12 @@
 //! The sweep: the answer by the finer means of all members, one after another as they lie in memory. No box and no means of a leaf are
 //! looked at.
-ghost use Rattle.std.specs.Prelude.{◌≡◌, ℕ, ◌≤◌, All, IfOk};
+ghost use Rattle.std.specs.Prelude.{◌≡◌, ◌≤◌, All, IfOk};
 ghost use Rattle.series_core.specs.Answer.{answer};
 ghost use Rattle.subtree_build.specs.Fits.{Fits as IndexFits};
-ghost use Rattle.subtree_build.specs.Index.{IndexParts};
 ghost use Rattle.subtree_build.specs.Means.{all_finer};
 ghost use Rattle.subtree_build.specs.Members.{numbers_of};
-ghost use Rattle.search_machine.specs.Ground.{scan};
-ghost use Rattle.query_core.specs.Questions.{IsMemberOf, last_of, search_over};
+ghost use Rattle.query_core.specs.Questions.{IsMemberOf, last_of};
+ghost use Rattle.query_core.specs.Scanning.{AreScanned};
 
 use crate::index_laws::search_law;
 use crate::leaf_scan::of_member;
@@ -44,8 +43,7 @@ impl<'a, R: Rows> Task<'a, R> {
         requires finer { finer.now ≡ all_finer self.now.collection members.now }
         requires k { list.old.k ≡ self.now.k }
         ensures k { list.new.k ≡ self.now.k }
-        ensures pairs { (ix : IndexParts) (workers queues : ℕ) → list.new.pairs
-            ≡ scan (search_over self.now ix workers queues) limit (numbers_of members.now) list.old.pairs }
+        ensures pairs { AreScanned self.now limit (numbers_of members.now) list.old.pairs list.new.pairs }
     {
         let parts = self.finer().parts() as usize;
         let mut most = most_to_add(limit, list);

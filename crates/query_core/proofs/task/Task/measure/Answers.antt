@@ -1,6 +1,6 @@
 -- A series is passed over where it is farther than may be, and else added.
 use Rattle.std.proofs.Common.{◌∙◌, refl, arith}
-use Rattle.query_core.proofs.Meeting.{may_add, meet_far, meet_near, member_of, row_is_lent}
+use Rattle.query_core.proofs.Meeting.{meet_far, meet_near, member_of, row_is_lent}
 use Rattle.query_core.proofs.task.Task.measure.Goals as goal
 
 pub distance_within-requires-clause-same_length : goal.distance_within-requires-clause-same_length
@@ -16,8 +16,8 @@ returns-clause-pairs g c =
     let a = c.args.self.now in
     let n = c.args.number in
     let lent = row_is_lent _ _ _ _ c.self.view_is c.k-k.ensures.question c.requires.series c.row-row.ensures in
-    meet_near a (member_of a n) c.args.list.now c.args.limit c.args.most (record { series = c.requires.series; word = refl })
-    (may_add a c.args.list.now c.args.limit c.args.most c.k-k.ensures.question c.requires.sound c.requires.k c.requires.most)
+    meet_near a (member_of a n) c.args.list.now c.args.limit c.args.most c.k-k.ensures.question
+    (record { series = c.requires.series; word = refl }) c.requires.list
     c.in-Some.distance c.add.new.self.pairs (c.in-Some.ensures.0 ∙ lent.distance) c.in-Some.ensures.1 c.add.ensures.pairs
 
 pub returns-in_default-clause-pairs : goal.returns-in_default-clause-pairs
@@ -25,6 +25,6 @@ returns-in_default-clause-pairs g c =
     let a = c.args.self.now in
     let n = c.args.number in
     let lent = row_is_lent _ _ _ _ c.self.view_is c.k-k.ensures.question c.requires.series c.row-row.ensures in
-    meet_far a (member_of a n) c.args.list.now c.args.limit c.args.most (record { series = c.requires.series; word = refl })
-    (may_add a c.args.list.now c.args.limit c.args.most c.k-k.ensures.question c.requires.sound c.requires.k c.requires.most)
+    meet_far a (member_of a n) c.args.list.now c.args.limit c.args.most c.k-k.ensures.question
+    (record { series = c.requires.series; word = refl }) c.requires.list
     (omega (arith, c.in_default.ensures, lent.distance))

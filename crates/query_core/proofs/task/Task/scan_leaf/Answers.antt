@@ -8,11 +8,13 @@ use Rattle.mean_bound.specs.Cells.{Cells}
 use Rattle.subtree_build.specs.Index.{IndexParts, leaf_at}
 use Rattle.subtree_build.specs.Means.{all_finer, finer_at}
 use Rattle.subtree_build.specs.Fits.{Fits as IndexFits}
+use Rattle.subtree_build.specs.Members.{numbers_of}
+use Rattle.search_machine.specs.Ground.{scan}
 use Rattle.subtree_build.proofs.Meaning.{finer_of_leaf}
-use Rattle.query_core.specs.Questions.{CanBeSearched, IsMemberOf, Question}
+use Rattle.query_core.specs.Questions.{CanBeSearched, IsMemberOf, Question, search_over}
 use Rattle.query_core.proofs.FinerRows.{finer_of_member, finer_within, same_parts}
 use Rattle.query_core.proofs.Homes.{leaf_is_members}
-use Rattle.query_core.proofs.Meeting.{scan_more}
+use Rattle.query_core.proofs.Meeting.{all_scanned, member_scanned}
 use Rattle.query_core.proofs.task.Task.scan_leaf.Goals as goal
 
 -- the finer means of a leaf are those of its members
@@ -67,12 +69,14 @@ may_be_within-near-requires-clause-finer g c =
     c.index-members-i.is c.of_member-own.ensures
 
 pub loop-i-preserved : goal.loop-i-preserved
-loop-i-preserved g c = record {
-  k = c.measure_near-most.ensures.k;
-  sound = c.measure_near-most.ensures.sound;
-  most = c.measure_near-most.ensures.most;
-  pairs = scan_more c.args.self.now c.leaf_members-members.result.now c.loop-i.i c.index-members-i.result
-      c.args.limit c.args.list.now.pairs c.loop-i.list.pairs c.measure_near-most.new.list.pairs c.args.index.now 1 1
-      c.loop-i-test.true c.index-members-i.is
-      c.loop-i.invariant.pairs (c.measure_near-most.ensures.pairs c.args.index.now 1 1);
-}
+loop-i-preserved g c =
+    member_scanned c.leaf_members-members.result.now c.loop-i.i c.loop-i.invariant c.loop-i-test.true
+    c.index-members-i.is c.measure_near-most.ensures.list c.measure_near-most.ensures.pairs
+
+pub returns-clause-pairs : goal.returns-clause-pairs
+returns-clause-pairs g c =
+    let a = c.args.self.now in
+    let ix = c.args.index.now in
+    all_scanned c.leaf_members-members.result.now c.loop-i.i c.loop-i.invariant c.loop-i-test.false ix 1 1
+    ∙ ap (λ (ms : List Member). scan (search_over a ix 1 1) c.args.limit (numbers_of ms) c.args.list.now.pairs)
+    c.leaf_members-members.ensures

@@ -1,17 +1,8 @@
 -- The members so far were scanned, and the most that a distance may be is that of the list.
-use Rattle.std.proofs.Common.{◌≡◌, ◌-◌, take, min}
-use Rattle.series_core.specs.Best.{IsBest}
-use Rattle.series_core.specs.Order.{distance_at}
+use Rattle.std.proofs.Common.{take}
 use Rattle.subtree_build.specs.Members.{numbers_of}
-use Rattle.search_machine.specs.Ground.{scan}
-use Rattle.query_core.specs.Questions.{search_over}
+use Rattle.query_core.proofs.Meeting.{IsScanning}
 use Rattle.query_core.proofs.task.Task.scan_leaf.Given as goal
 
 abbrev pub invariant-loop-i : goal.invariant-loop-i
-invariant-loop-i g l = record {
-  k : l.list.k ≡ l.fn.self.k;
-  sound : IsBest l.list;
-  most : l.most ≡ min l.fn.limit (distance_at (l.list.k - 1) l.list.pairs);
-  pairs : l.list.pairs
-      ≡ scan (search_over l.fn.self l.fn.index 1 1) l.fn.limit (numbers_of (take l.i l.members)) l.fn.list.pairs;
-}
+invariant-loop-i g l = IsScanning l.fn.self l.fn.limit (numbers_of (take l.i l.members)) l.fn.list.pairs l.list l.most

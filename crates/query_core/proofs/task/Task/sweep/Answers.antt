@@ -1,12 +1,6 @@
 -- One member more was scanned; its finer means stand behind those of the members before it.
-use Rattle.std.proofs.Common.{◌∙◌, List, ap, arith}
-use Rattle.std.proofs.lemmas.List.{take_all}
-use Rattle.isax_word.specs.declared.member.Member.{Member}
-use Rattle.subtree_build.specs.Members.{numbers_of}
-use Rattle.search_machine.specs.Ground.{scan}
-use Rattle.query_core.specs.Questions.{search_over}
 use Rattle.query_core.proofs.FinerRows.{finer_of_member, finer_within, same_parts}
-use Rattle.query_core.proofs.Meeting.{scan_more}
+use Rattle.query_core.proofs.Meeting.{all_scanned, member_scanned}
 use Rattle.query_core.proofs.task.Task.sweep.Goals as goal
 
 pub of_member-own-requires : goal.of_member-own-requires
@@ -26,19 +20,9 @@ finer_may_be_within-near-requires-clause-finer g c =
     c.loop-i-test.true c.index-members-i.is c.of_member-own.ensures
 
 pub loop-i-preserved : goal.loop-i-preserved
-loop-i-preserved g c = record {
-  k = c.measure_near-most.ensures.k;
-  sound = c.measure_near-most.ensures.sound;
-  most = c.measure_near-most.ensures.most;
-  pairs = λ ix workers queues.
-      scan_more c.args.self.now c.args.members.now c.loop-i.i c.index-members-i.result
-      c.args.limit c.args.list.now.pairs c.loop-i.list.pairs c.measure_near-most.new.list.pairs ix workers queues
-      c.loop-i-test.true c.index-members-i.is
-      (c.loop-i.invariant.pairs ix workers queues) (c.measure_near-most.ensures.pairs ix workers queues);
-}
+loop-i-preserved g c =
+    member_scanned c.args.members.now c.loop-i.i c.loop-i.invariant c.loop-i-test.true c.index-members-i.is
+    c.measure_near-most.ensures.list c.measure_near-most.ensures.pairs
 
 pub returns-clause-pairs : goal.returns-clause-pairs
-returns-clause-pairs g c ix workers queues =
-    c.loop-i.invariant.pairs ix workers queues
-    ∙ ap (λ (ms : List Member). scan (search_over c.args.self.now ix workers queues) c.args.limit (numbers_of ms) c.args.list.now.pairs)
-    (take_all c.loop-i.i c.args.members.now (omega (arith, c.loop-i-test.false)))
+returns-clause-pairs g c = all_scanned c.args.members.now c.loop-i.i c.loop-i.invariant c.loop-i-test.false
