@@ -22,6 +22,7 @@ pub mod Advancing
 pub mod Ranges
 pub mod Nearest
 pub mod LeavesNear
+pub mod LeavesMet
 pub mod BelowMeans
 pub mod Different
 pub mod Sends
