@@ -1,4 +1,4 @@
--- What a worker keeps by a scan of a leaf without a mark (`scan_keeps`).
+-- What a worker keeps by a scan of a leaf without a mark (`scan_keeps`), and that a leaf is one of its index (`leaf_of_same`).
 use Rattle.std.proofs.Common.{◌≡◌, ℕ, ◌<◌, List, true, false, Option, length, sym, ◌∙◌, subst, arith}
 use Rattle.std.specs.Prelude.{slice_set}
 use Rattle.std.proofs.lemmas.List.{length-set}
@@ -11,6 +11,10 @@ use Rattle.query_core.specs.Walks.{Walked}
 use Rattle.query_core.specs.Working.{Working, IsFound, IsWorking, StageInRange, is_marked, phase_of}
 use Rattle.query_core.proofs.Found.{found_scanned}
 use Rattle.query_core.proofs.OfIndex.{search_fits}
+
+-- a leaf of a worker that is seen as another one
+pub leaf_of_same : (w old : Working) (l : ℕ) → w ≡ old → l < length old.index.leaves → l < length w.index.leaves
+leaf_of_same w old l same real = subst (λ (o : Working). l < length o.index.leaves) (sym same) real
 
 -- a scan of a leaf without a mark keeps what a worker keeps
 pub scan_keeps : (start : Option ℕ) (walk : Walked) (best after : Best) (before stage : Stage) (w : Working) (l v : ℕ)

@@ -1,8 +1,8 @@
 -- A turn of a team's worker: its call on what is shared and its reply make the machine's turn.
-use Rattle.std.proofs.Common.{List, Some, ap, arith, length, refl, set, subst, sym, ℕ, ⊎_elim, ◌∙◌, ◌≡◌, ◌≢◌}
+use Rattle.std.proofs.Common.{List, Some, ap, arith, get_or, length, refl, set, subst, sym, ℕ, ⊎_elim, ◌∙◌, ◌<◌, ◌≡◌, ◌≢◌}
 use Rattle.std.proofs.lemmas.Bool.{cases_eq}
 use Rattle.std.proofs.lemmas.List.{length-map}
-use Rattle.std.proofs.lemmas.Option.{slice_get_within}
+use Rattle.std.proofs.lemmas.Option.{slice_get_read, slice_get_within}
 use Rattle.std.proofs.Math.ListN.{length-set}
 use Rattle.std.specs.Prelude.{slice_get}
 use Rattle.leaf_queues.specs.PlainQueue.{PlainQueue}
@@ -16,7 +16,7 @@ use Rattle.search_machine.specs.Workers.{Worker}
 use Rattle.search_machine.specs.Shared.{Did, Held, held_after}
 use Rattle.search_machine.specs.OwnRecord.{RecordedWorker, nothing_yet}
 use Rattle.search_machine.specs.Basics.{start_of}
-use Rattle.query_core.specs.Questions.{Question, search_over}
+use Rattle.query_core.specs.Questions.{Question, last_of, search_over}
 use Rattle.search_machine.specs.Replies.{after}
 use Rattle.query_core.specs.Teams.{IsTeam, StandsAt, TeamParts, searched}
 use Rattle.query_core.specs.Turning.{Turns}
@@ -44,9 +44,22 @@ placed P a ix m i w of p =
     (subst (λ (x : ℕ). P w.question w.index x i) of.queues
     (subst (λ (x : ℕ). P w.question w.index w.queues x) of.number p)))
 
+-- the worker that a team, seen as another one, lends at a place
+pub lent : (t old : TeamParts) (i : ℕ) (w : Working) → t ≡ old → i < length old.workers → w ≡ get_or t.workers i w
+    → slice_get t.workers i ≡ Some w
+lent t old i w same inside is =
+    slice_get_read t.workers _ i w refl (subst (λ (o : TeamParts). i < length o.workers) (sym same) inside) is
+
 -- where there is a worker of the team, there is one of the state
 module _ (t : TeamParts) (team : IsTeam t) (i : ℕ) (w : Working)
     (at : slice_get t.workers i ≡ Some w) where
+  -- what is shared has the floor of the worker's question, and as many root children as its index
+  pub floor_there : t.hand.floor ≡ last_of w.question
+  floor_there = team.floor ∙ ap last_of (sym (team.places i w at).question)
+
+  pub roots_there : t.hand.roots ≡ length w.index.roots
+  roots_there = team.roots ∙ ap (λ (ix : IndexParts). length ix.roots) (sym (team.places i w at).index)
+
   -- the state's worker at the place
   shown : (s : State) → StandsAt t s → (m : Worker) × (slice_get s.workers i ≡ Some m)
   shown s stands =

@@ -1,15 +1,19 @@
 -- Turns of a code's worker, one lemma a phase: from what the hand did to what the machine's worker becomes (`turned`).
-use Rattle.std.proofs.Common.{◌≡◌, ℕ, ◌<◌, ◌≤◌, List, [], ◌∷◌, Bool, true, false, cond, not, length, map, refl, sym, ap, ◌∙◌, subst}
+use Rattle.std.proofs.Common.{◌≡◌, ℕ, ◌<◌, ◌≤◌, List, [], ◌∷◌, Bool, true, false, cond, not, length, map, refl, sym, ap, ◌∙◌, subst, arith}
 use Rattle.std.specs.Prelude.{Option, None, Some, nat_lt, ◌&&◌, slice_get, slice_index_or}
 use Rattle.std.proofs.Math.Bool.{and-false}
 use Rattle.std.proofs.lemmas.Bool.{cond-true, cond-false, le-leb, lt-ltb}
 use Rattle.std.proofs.lemmas.List.{length-map, get_or-map}
 use Rattle.std.proofs.lemmas.Option.{slice_get-get_or}
+use Rattle.lower_bound.specs.Bound.{View}
 use Rattle.subtree_build.specs.declared.node.Node.{Node, Leaf}
+use Rattle.subtree_build.specs.Index.{IndexParts}
 use Rattle.subtree_build.specs.Outline.{leaf_numbers}
 use Rattle.subtree_build.specs.Start.{start_leaf_of}
 use Rattle.search_machine.specs.declared.calls.Call.{Call}
+use Rattle.search_machine.specs.declared.calls.Call.TheVariants.{Read}
 use Rattle.search_machine.specs.declared.calls.Reply.{Reply}
+use Rattle.search_machine.specs.declared.calls.Reply.TheVariants.{Seen}
 use Rattle.search_machine.specs.declared.phase.Phase.{Phase}
 use Rattle.search_machine.specs.declared.phase.Phase.TheVariants.{Claim, Give, Look}
 use Rattle.search_machine.specs.declared.phase.Onward.{Onward}
@@ -17,9 +21,9 @@ use Rattle.search_machine.specs.declared.phase.Onward.TheVariants.{Look as ToLoo
 use Rattle.search_machine.specs.Calls.{call_in}
 use Rattle.search_machine.specs.Ground.{Ground}
 use Rattle.search_machine.specs.Workers.{Worker, after_claim, after_late, after_look, in_phase, is_new, onward, scanned_by, skip, stopped, without, after_reply, leaves_below}
-use Rattle.query_core.specs.Questions.{last_of, view_in}
+use Rattle.query_core.specs.Questions.{last_of, leaf_bound, view_in}
 use Rattle.search_machine.specs.Replies.{ReplyFits}
-use Rattle.query_core.specs.Turning.{ReplyNotLow, TurnsBy, search_of, taken_by}
+use Rattle.query_core.specs.Turning.{Acts, ReplyNotLow, TurnsBy, search_of, taken_by}
 use Rattle.query_core.specs.Walks.{Advances}
 use Rattle.query_core.specs.Working.{IsOf, Working, Shows, is_marked}
 
@@ -94,11 +98,25 @@ pub none_without : (start : Option ℕ) → without start [] ≡ []
 none_without None = refl
 none_without (Some l) = refl
 
--- after a look that came to a leaf the leaf is given, and the rest is what the walk left
-pub look_gives : (g : Ground) (w : Working) (m : Worker) (start : Option ℕ) (v : ℕ) (before left : List ℕ) (n : ℕ)
-    → Shows w m → w.rest ≡ without start before → Advances g start v before left (Some n)
-    → Shows (record w { phase = Give n; rest = without start left }) (after_look g m v)
-look_gives g w m start v before left n shows rest moved =
+-- the phase after a look: the leaf that it came to is given, and where it came to none the worker claims
+abbrev pub phase_after_look : Option ℕ → Phase
+phase_after_look None = Claim
+phase_after_look (Some n) = Give n
+
+-- after a look the rest is what the walk left
+pub look_shows : (g : Ground) (w : Working) (m : Worker) (start : Option ℕ) (v : ℕ) (before left : List ℕ) (told : Option ℕ)
+    → Shows w m → w.rest ≡ without start before → Advances g start v before left told
+    → Shows (record w { phase = phase_after_look told; rest = without start left }) (after_look g m v)
+look_shows g w m start v before left None shows rest moved =
+    let none : skip g v m.rest ≡ [] = ap (skip g v) (shows.rest ∙ rest) ∙ moved.0 in
+    let nothing : without start left ≡ [] = ap (without start) moved.1 ∙ none_without start in
+    record {
+      phase = ap (λ (ls : List ℕ). (stopped m ls).phase) none;
+      rest = ap (λ (ls : List ℕ). (stopped m ls).rest) none ∙ sym nothing;
+      list = ap (λ (ls : List ℕ). (stopped m ls).list) none ∙ shows.list;
+      marks = λ l inside. ap (λ (ls : List ℕ). is_new l (stopped m ls)) none ∙ shows.marks l inside;
+    }
+look_shows g w m start v before left (Some n) shows rest moved =
     let some : skip g v m.rest ≡ n ∷ without start left = ap (skip g v) (shows.rest ∙ rest) ∙ moved in
     record {
       phase = ap (λ (ls : List ℕ). (stopped m ls).phase) some;
@@ -107,18 +125,31 @@ look_gives g w m start v before left n shows rest moved =
       marks = λ l inside. ap (λ (ls : List ℕ). is_new l (stopped m ls)) some ∙ shows.marks l inside;
     }
 
--- after a look that came to no leaf nothing is left, and the worker claims
-pub look_ends : (g : Ground) (w : Working) (m : Worker) (start : Option ℕ) (v : ℕ) (before left : List ℕ)
-    → Shows w m → w.rest ≡ without start before → Advances g start v before left None
-    → Shows (record w { phase = Claim; rest = without start left }) (after_look g m v)
-look_ends g w m start v before left shows rest moved =
-    let none : skip g v m.rest ≡ [] = ap (skip g v) (shows.rest ∙ rest) ∙ moved.0 in
-    let nothing : without start left ≡ [] = ap (without start) moved.1 ∙ none_without start in
+-- a look: the limit is read, the walk goes on, and the worker becomes what the walk came to
+pub looked : {H : Type 0} (floor roots : H → ℕ) (did : H → Call → Reply → H → Type 0) (told : Option ℕ) (before now : H)
+    (w old : Working) (limit most : ℕ) (start : Option ℕ) (leaves left : List ℕ) (view : View) (ix : IndexParts)
+    → w ≡ old → old.phase ≡ Look → floor before ≡ last_of old.question → floor before ≤ limit
+    → did before Read (Seen limit) now → (floor now ≡ floor before) × (roots now ≡ roots before)
+    → w.rest ≡ without start leaves → view ≡ view_in w.question → ix ≡ w.index → most ≡ limit
+    → ((g : Ground) → g.bound ≡ leaf_bound view ix → Advances g start most leaves left told)
+    → Acts floor roots did before now old (record w { phase = phase_after_look told; rest = without start left }) (Seen limit)
+looked floor roots did told before now w old limit most start leaves left view ix same is own low did_it kept rest seen over
+    limited moved =
+    let last : floor before ≡ last_of w.question =
+    subst (λ (o : Working). floor before ≡ last_of o.question) (sym same) own in
+    let bounds : leaf_bound (view_in w.question) w.index ≡ leaf_bound view ix =
+    ap (λ (v : View). leaf_bound v w.index) (sym seen) ∙ ap (leaf_bound view) (sym over) in
     record {
-      phase = ap (λ (ls : List ℕ). (stopped m ls).phase) none;
-      rest = ap (λ (ls : List ℕ). (stopped m ls).rest) none ∙ sym nothing;
-      list = ap (λ (ls : List ℕ). (stopped m ls).list) none ∙ shows.list;
-      marks = λ l inside. ap (λ (ls : List ℕ). is_new l (stopped m ls)) none ∙ shows.marks l inside;
+      turns = turned did before now w old _ (Seen limit) Look same is
+          (λ workers m shows. did_it)
+          (λ workers. tt)
+          (omega (arith, low, last))
+          (λ workers m shows.
+          look_shows (search_of w workers) w m start limit leaves left told shows rest
+          (subst (λ (n : ℕ). Advances (search_of w workers) start n leaves left told) limited
+          (moved (search_of w workers) bounds)));
+      place = stays w old _ _ same;
+      hand = kept;
     }
 
 -- a leaf without a mark is taken by a scan

@@ -1,5 +1,5 @@
 -- The fate of a leaf, first without the queues and then queue by queue, from the last to the first.
-use Rattle.std.specs.Prelude.{◌≡◌, ℕ, suc, ◌<◌, List, [], ◌∷◌, Option, None, Some, cond, nat_lt, length, slice_get}
+use Rattle.std.specs.Prelude.{◌≡◌, ℕ, suc, ◌<◌, ◌≤◌, List, [], ◌∷◌, Option, None, Some, cond, nat_lt, length, slice_get}
 use Rattle.series_core.specs.declared.queue_words.Entry.{Entry}
 use Rattle.search_machine.specs.declared.outcome.QueueLine.{QueueLine}
 use Rattle.search_machine.specs.declared.outcome.Fate.{Fate}
@@ -11,8 +11,9 @@ use Rattle.search_machine.specs.Outcome.{first_place, is_start, late_fate}
 use Rattle.search_machine.specs.Sound.{scans}
 use Rattle.search_machine.specs.Basics.{entered}
 use Rattle.subtree_build.specs.Index.{IndexParts}
-use Rattle.query_core.specs.Questions.{Question, search_over}
-use Rattle.query_core.specs.Teams.{AreShown}
+use Rattle.subtree_build.specs.Start.{start_leaf_of}
+use Rattle.query_core.specs.Questions.{CanBeSearched, Question, search_over, view_in}
+use Rattle.query_core.specs.Teams.{AreOver, AreShown}
 use Rattle.query_core.specs.Working.{Working}
 
 -- the fate of leaf l where no queue gave it
@@ -34,6 +35,13 @@ fate_queued start m (q ∷ qs) l f = fate_over start m q.taken l (fate_queued st
 abbrev pub leaf_of : Option Start → Option ℕ
 leaf_of None = None
 leaf_of (Some start) = Some start.leaf
+
+-- at most 64 workers over an index that can be searched for the question, with the leaf of the start, if any, for its start leaf
+pub record HaveSearched (a : Question) (ix : IndexParts) (start : Option Start) (ws : List Working) : Type 0 where
+  pub searches : CanBeSearched a ix
+  pub start_is : leaf_of start ≡ start_leaf_of (view_in a) ix
+  pub over : AreOver a ix ws
+  pub few : length ws ≤ 64
 
 -- each leaf that had a fate has the fate that these entries of queue m give it
 abbrev pub AreMarked : Option ℕ → ℕ → List Entry → List Fate → List Fate → Type 0

@@ -8,9 +8,8 @@ ghost use Rattle.search_machine.specs.Machine.{State};
 ghost use Rattle.search_machine.specs.Outcome.{fates_from, first_place, is_start, outcome};
 ghost use Rattle.search_machine.specs.Sound.{scans};
 ghost use Rattle.search_machine.specs.Workers.{Worker as Shown};
-ghost use Rattle.query_core.specs.Fates.{AreMarked, FatesUnqueued, fate_unqueued, leaf_of};
-ghost use Rattle.query_core.specs.Questions.{CanBeSearched, search_over, view_in};
-ghost use Rattle.subtree_build.specs.Start.{start_leaf_of};
+ghost use Rattle.query_core.specs.Fates.{AreMarked, FatesUnqueued, HaveSearched, fate_unqueued, leaf_of};
+ghost use Rattle.query_core.specs.Questions.{search_over};
 ghost use Rattle.query_core.specs.Teams.{AreOver, AreShown, EndsIn, HaveLeaf, all_lists};
 
 use crate::index_laws::search_law;
@@ -78,10 +77,7 @@ fn fates<R: Rows>(
     workers: &[Worker<'_, R>],
     lines: &[QueueLine],
 ) -> Result<FateList, NoMemory>
-    requires searches { CanBeSearched task.now index.now }
-    requires start { leaf_of start ≡ start_leaf_of (view_in task.now) index.now }
-    requires over { AreOver task.now index.now workers.now }
-    requires workers { length workers.now ≤ 64 }
+    requires ended { HaveSearched task.now index.now start workers.now }
     requires lines { length lines.now ≤ 64 }
     ensures { (n m : ℕ) (s : State) → EndsIn workers.now lines.now s
         → IfOk result (λ fs. fs ≡ fates_from (search_over task.now index.now n m) s 0 (length index.now.leaves)) }
@@ -104,10 +100,7 @@ fn unqueued<R: Rows>(
     start: Option<Start>,
     workers: &[Worker<'_, R>],
 ) -> Result<Vec<Fate>, NoMemory>
-    requires searches { CanBeSearched task.now index.now }
-    requires start { leaf_of start ≡ start_leaf_of (view_in task.now) index.now }
-    requires over { AreOver task.now index.now workers.now }
-    requires workers { length workers.now ≤ 64 }
+    requires ended { HaveSearched task.now index.now start workers.now }
     ensures { IfOk result (λ fs. FatesUnqueued task.now index.now workers.now fs.items) }
 {
     let leaves = index.leaf_count();
@@ -126,10 +119,7 @@ fn unqueued_fate<R: Rows>(
     workers: &[Worker<'_, R>],
     leaf: u32,
 ) -> Fate
-    requires searches { CanBeSearched task.now index.now }
-    requires start { leaf_of start ≡ start_leaf_of (view_in task.now) index.now }
-    requires over { AreOver task.now index.now workers.now }
-    requires workers { length workers.now ≤ 64 }
+    requires ended { HaveSearched task.now index.now start workers.now }
     requires leaf { leaf < length index.now.leaves }
     ensures { (n m : ℕ) (s : State) → AreShown workers.now s.workers
         → result ≡ fate_unqueued (search_over task.now index.now n m) s leaf }

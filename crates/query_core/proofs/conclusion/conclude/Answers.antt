@@ -15,9 +15,13 @@ use Rattle.query_core.proofs.TeamEnds.{leaf_of_start}
 use Rattle.query_core.proofs.TeamOpening.{start_same}
 use Rattle.query_core.proofs.conclusion.conclude.Goals as goal
 
-pub fates-requires-clause-start : goal.fates-requires-clause-start
-fates-requires-clause-start g c =
-    ap leaf_of c.requires.start ∙ leaf_of_start (search_over c.args.task.now c.args.index.now 1 1)
+pub fates-requires-clause-ended : goal.fates-requires-clause-ended
+fates-requires-clause-ended g c = record {
+  searches = c.search_law.ensures.searches;
+  start_is = ap leaf_of c.requires.start ∙ leaf_of_start (search_over c.args.task.now c.args.index.now 1 1);
+  over = c.requires.over;
+  few = c.requires.workers;
+}
 
 pub returns : goal.returns
 returns g c =

@@ -32,7 +32,7 @@ returns g c =
     let z : k ≡ 0 + k = omega arith in
     let f : Fate = fate_unqueued (search_over c.args.task.now c.args.index.now n q) s k in
     c.loop-m.invariant.each n q s ends.workers k low
-    ∙ ap (λ (o : Option ℕ). Some (fate_queued o c.loop-m.m (drop c.loop-m.m c.args.lines.now) k f)) c.requires.start
+    ∙ ap (λ (o : Option ℕ). Some (fate_queued o c.loop-m.m (drop c.loop-m.m c.args.lines.now) k f)) c.requires.ended.start_is
     ∙ ap (λ (m : ℕ). Some (fate_queued (search_over c.args.task.now c.args.index.now n q).start m
     (drop c.loop-m.m c.args.lines.now) k f)) none
     ∙ ap (λ (ls : List QueueLine). Some (fate_queued (search_over c.args.task.now c.args.index.now n q).start 0 ls k f)) rest
