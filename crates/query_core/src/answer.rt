@@ -12,7 +12,10 @@ use series_core::{KBest, PairList, Rows};
 use std::alloc::Global;
 use subtree_build::Index;
 
-/// How many members are scanned for a closer limit, where means tell little by the first one.
+/// How many members are scanned for a first limit, at least.
+const FIRST: usize = 128;
+
+/// How many are scanned for a closer limit, where means tell little by the first one.
 const CLOSE: usize = 512;
 
 /// The answer alone, the k nearest rows, without what an outcome has for a certificate. One worker needs no queues, so
@@ -41,7 +44,7 @@ impl<'a, R: Rows> Task<'a, R> {
         ensures { IfOk result (λ best. best.pairs ≡ answer self.now.collection self.now.query self.now.k) }
     {
         search_law(self, index);
-        let first = self.first_limit(alloc, index, 0)?;
+        let first = self.first_limit(alloc, index, FIRST)?;
         if self.means_tell_little(index, first) {
             return self.nearest_by_sample(alloc, index);
         }

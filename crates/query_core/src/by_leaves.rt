@@ -1,6 +1,6 @@
-//! The answer by the leaves that are near: those of least bound are scanned first, which tells a closer limit. The list that they gave
-//! is handed on where few leaves are left; many are scanned anew, in the order of their numbers.
-ghost use Rattle.std.specs.Prelude.{◌≡◌, ℕ, ◌≤◌, ◌++◌, List, [], IfOk, length};
+//! The answer by the leaves that are near: those of least bound are scanned first, which tells a closer limit, and then the others in the
+//! order of their numbers. The list that the first gave is handed on where few leaves are left; many are scanned anew.
+ghost use Rattle.std.specs.Prelude.{◌≡◌, ℕ, ◌≤◌, ◌++◌, List, [], IfOk, IsPermutation, length};
 ghost use Rattle.std.specs.List.{All};
 ghost use Rattle.list_totals.specs.Totals.{times};
 ghost use Rattle.series_core.specs.Answer.{answer};
@@ -24,8 +24,17 @@ const CLOSEST: u64 = 64;
 /// How many members these leaves are to have, as far as all leaves have as many.
 const CLOSEST_MEMBERS: u64 = 512;
 
-/// Where more leaves than these are left, they are scanned in the order of their numbers, as they lie in memory.
+/// Where more leaves than these are left, they are looked for once more, by the closer limit.
 const MANY: usize = 4096;
+
+/// In which order leaves are scanned.
+#[derive(Clone, Copy)]
+enum Order {
+    /// That of their bounds, which tells a closer limit soon.
+    Bounds,
+    /// That of their numbers, as they lie in memory.
+    Numbers,
+}
 
 impl<'a, R: Rows> Task<'a, R> {
     /// The list of the answer, by the leaves that may have a member within the limit, or where the closer limit shows that means tell
@@ -45,7 +54,7 @@ impl<'a, R: Rows> Task<'a, R> {
         let mut list = KBest::new(alloc, self.k())?;
         let count = self.closest_count(index);
         if near.len() <= count {
-            self.scan_within(alloc, index, &near, first, &mut list)?;
+            self.scan_within(alloc, index, &near, Order::Bounds, first, &mut list)?;
             return Ok(list);
         }
         let (closest, next, others) = near.select_nth_unstable_by_key(count, |entry| entry.bound);
@@ -59,7 +68,7 @@ impl<'a, R: Rows> Task<'a, R> {
             return self.answer_in_order(alloc, index, limit);
         }
         self.scan_entry(index, next, limit, &mut list);
-        self.scan_within(alloc, index, others, limit, &mut list)?;
+        self.scan_within(alloc, index, others, Order::Numbers, limit, &mut list)?;
         Ok(list)
     }
 
@@ -90,7 +99,7 @@ impl<'a, R: Rows> Task<'a, R> {
             IfOk result (λ _. ListSound g (leaves_in closest.now) list.new.pairs) }
     {
         search_law(self, index);
-        self.scan_within(alloc, index, closest, first, list)?;
+        self.scan_within(alloc, index, closest, Order::Bounds, first, list)?;
         Ok(distance_of_worst(list).min(first))
     }
 
@@ -107,12 +116,13 @@ impl<'a, R: Rows> Task<'a, R> {
         Ok(list)
     }
 
-    // Scans the leaves of these entries into a list, in ascending order of their bounds. What lies beyond the limit is left out.
+    // Scans the leaves of these entries into a list, in an order. What lies beyond the limit is left out.
     fn scan_within(
         &self,
         alloc: Global,
         index: &Index,
         entries: &[Entry],
+        order: Order,
         limit: u64,
         list: &mut KBest,
     ) -> Result<(), NoMemory>
@@ -126,8 +136,7 @@ impl<'a, R: Rows> Task<'a, R> {
             → ListSound g (met ++ leaves_in entries.now) list.new.pairs) }
     {
         search_law(self, index);
-        let mut within = within_bound(alloc, entries, limit)?;
-        within.sort_unstable_by_key(|entry| entry.bound);
+        let within = ordered(within_bound(alloc, entries, limit)?, order);
         self.scan_entries(index, &within, limit, list);
         Ok(())
     }
@@ -144,4 +153,15 @@ fn within_bound(alloc: Global, entries: &[Entry], limit: u64) -> Result<Vec<Entr
         }
     }
     Ok(within)
+}
+
+// The entries in an order.
+fn ordered(mut entries: Vec<Entry>, order: Order) -> Vec<Entry>
+    ensures { IsPermutation entries.items result.items }
+{
+    match order {
+        Order::Bounds => entries.sort_unstable_by_key(|entry| entry.bound),
+        Order::Numbers => entries.sort_unstable_by_key(|entry| entry.leaf),
+    }
+    entries
 }

@@ -17,9 +17,9 @@ pub scan_entries-requires-clause-leaves : goal.scan_entries-requires-clause-leav
 scan_entries-requires-clause-leaves g c =
     let ground = search_over c.args.self.now c.args.index.now 1 1 in
     subst (All (IsLeafEntry ground)) (sym c.deref.ensures.value)
-    (All-permutation (IsLeafEntry ground) c.in_ok-within.within.items c.sort_unstable_by_key.new.self.items
-    c.sort_unstable_by_key.ensures.permutation
-    (subst (All (IsLeafEntry ground)) (sym c.in_ok-within.ensures)
+    (All-permutation (IsLeafEntry ground) c.in_ok-within_bound.field-0.items c.ordered-within.result.items
+    c.ordered-within.ensures
+    (subst (All (IsLeafEntry ground)) (sym c.in_ok-within_bound.ensures)
     (within_all ground c.args.limit c.args.entries.now c.requires.leaves)))
 
 pub returns-clause-met : goal.returns-clause-met
@@ -30,9 +30,9 @@ returns-clause-met g c met once sound =
     let v = c.args.limit in
     let kept = c.deref.result.now in
     let moved : IsPermutation (within_bound v es) kept
-    = subst (λ (ds : List Entry). IsPermutation ds kept) c.in_ok-within.ensures
-    (subst (IsPermutation c.in_ok-within.within.items) (sym c.deref.ensures.value)
-    c.sort_unstable_by_key.ensures.permutation) in
+    = subst (λ (ds : List Entry). IsPermutation ds kept) c.in_ok-within_bound.ensures
+    (subst (IsPermutation c.in_ok-within_bound.field-0.items) (sym c.deref.ensures.value)
+    c.ordered-within.ensures) in
     let same : (l : ℕ) → times l (met ++ leaves_in kept) ≡ times l (met ++ leaves_in (within_bound v es))
     = λ l.
     let a = times_append l met (leaves_in kept) in
