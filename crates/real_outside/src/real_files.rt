@@ -5,7 +5,7 @@ ghost use Rattle.outside.specs.declared.faults.OpenFault.TheVariants.{Absent, Fa
 ghost use Rattle.outside.specs.Count.{Rose};
 ghost use Rattle.real_outside.specs.Refusals.{open_fault_of, faults_after, misses_after};
 
-use crate::counter::count;
+use crate::counter::{count, count_error, failed};
 use outside::{Failed, Files, OpenFault};
 use std::fs::File;
 use std::io::{ErrorKind, Read};
@@ -118,69 +118,11 @@ fn read_on<F: Read>(file: &mut F, buf: &mut [u8], faults: &mut u64) -> Result<us
     for _ in 0..u64::MAX {
         match file.read(buf) {
             Ok(count) => return Ok(count),
-            Err(error) if error.kind() == ErrorKind::Interrupted => count(faults),
-            Err(_) => break,
+            Err(error) => count_error(&error, faults)?,
         }
     }
-    count(faults);
-    Err(Failed)
+    Err(failed(faults))
 }
 
 #[cfg(test)]
-mod tests {
-    use super::{RealFiles, read_on};
-    use outside::{Failed, Files, OpenFault};
-    use std::io::{self, ErrorKind, Read};
-    use std::test::Fail;
-    use std::{env, fs, process};
-
-    /// A reader that is interrupted once, and then has filled the buffer.
-    #[derive(Drop)]
-    struct Interrupted {
-        is_next: bool,
-    }
-
-    impl Read for Interrupted {
-        fn read(&mut self, buf: &mut [u8]) -> io::Result<usize> {
-            if self.is_next {
-                self.is_next = false;
-                return Err(io::Error::from(ErrorKind::Interrupted));
-            }
-            Ok(buf.len())
-        }
-    }
-
-    #[test]
-    fn opens_and_reads_and_counts_refusals(rt: HostRuntime) -> Result<(), Fail> {
-        let name = format!(in rt.alloc(); "real-outside-{}", process::id(rt.process()))?;
-        let path = env::temp_dir(&rt)?.join(rt.alloc(), name.as_str())?;
-        fs::write(&rt, path.as_path(), b"query 0\n".as_slice())?;
-        let mut files = RealFiles::new(&rt);
-        let mut buf = [0u8; 5];
-        assert_eq!(rt; files.read(&mut buf), Ok(0), "no file is open");
-        let opened = files.open_file(path.as_str());
-        fs::remove_file(&rt, path.as_path())?;
-        assert_eq!(rt; opened, Ok(()));
-        assert_eq!(rt; (files.read(&mut buf), buf), (Ok(5), *b"query"));
-        assert_eq!(rt; (files.read(&mut buf), buf), (Ok(3), *b" 0\nry"));
-        assert_eq!(rt; (files.read(&mut buf), buf), (Ok(0), *b" 0\nry"));
-        assert_eq!(rt; files.open_file(path.as_str()), Err(OpenFault::Absent));
-        assert_eq!(rt; (files.misses, files.faults), (1, 0), "an absent file");
-        assert_eq!(rt; files.open_file("a\0b"), Err(OpenFault::Failed));
-        assert_eq!(rt;
-            (files.misses, files.faults),
-            (1, 1),
-            "a name that the system refuses"
-        );
-        assert_eq!(rt; files.open_file("/"), Ok(()));
-        assert_eq!(rt; files.read(&mut buf), Err(Failed), "a directory");
-        assert_eq!(rt; (files.misses, files.faults), (1, 2), "a directory");
-        assert_eq!(rt; files.read(&mut buf), Ok(0), "after a refusal");
-
-        let mut faults = 0;
-        let mut reader = Interrupted { is_next: true };
-        assert_eq!(rt; read_on(&mut reader, &mut buf, &mut faults), Ok(5));
-        assert_eq!(rt; faults, 1, "an interruption");
-        Ok(())
-    }
-}
+mod tests;
