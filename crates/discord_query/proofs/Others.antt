@@ -1,10 +1,10 @@
 -- The nearest other of a series is the first of its two nearest that is not the series itself.
-use Rattle.std.proofs.Common.{◌≡◌, ◌≢◌, ℕ, zero, suc, ◌+◌, ◌<◌, ◌≤◌, Bool, true, false, List, [], ◌∷◌, All, length, get_or, map, take, refl, sym, ap, ◌∙◌, subst, inl, inr, ⊎_elim, arith}
+use Rattle.std.proofs.Common.{◌≡◌, ◌≢◌, ℕ, zero, suc, ◌+◌, ◌<◌, ◌≤◌, Bool, true, false, List, [], ◌∷◌, All, length, get_or, map, drop, take, refl, sym, ap, ◌∙◌, subst, inl, inr, ⊎_elim, arith}
 use Rattle.std.specs.Prelude.{ℤ}
 use Rattle.std.specs.List.{filter}
 use Rattle.std.proofs.lemmas.Bool.{cond-true, cond-false, cond_both, cases_Bool}
 use Rattle.std.proofs.lemmas.Bool.Decides.{nat_tests}
-use Rattle.std.proofs.lemmas.List.{take_all}
+use Rattle.std.proofs.lemmas.List.{drop_more, take_all}
 use Rattle.list_totals.specs.Standing.{In}
 use Rattle.series_core.specs.Collection.{Collection}
 use Rattle.series_core.specs.Order.{Above, Ascending}
@@ -108,20 +108,33 @@ other_of_two c s =
     ∙ sym (ap (λ l. take 1 (filter (is_other s) l)) whole)
 
 -- a pair of another number is of another series, and one of the number is not
-pub differs : (s : ℕ) (p : Pair) → p.number ≢ s → is_other s p ≡ true
+differs : (s : ℕ) (p : Pair) → p.number ≢ s → is_other s p ≡ true
 differs s p h = grind (arith, nat_tests)
 
-pub same_series : (s : ℕ) (p : Pair) → p.number ≡ s → is_other s p ≡ false
+same_series : (s : ℕ) (p : Pair) → p.number ≡ s → is_other s p ≡ false
 same_series s p h = grind (arith, nat_tests)
 
 -- what a list begins with where its first passes, and where it does not
-pub passes_first : (f : Pair → Bool) (p : Pair) (ps : List Pair) → f p ≡ true
+passes_first : (f : Pair → Bool) (p : Pair) (ps : List Pair) → f p ≡ true
     → take 1 (filter f (p ∷ ps)) ≡ p ∷ []
 passes_first f p ps h = ap (λ l. take 1 l) (cond-true (f p) (p ∷ filter f ps) (filter f ps) h)
 
-pub passes_none : (f : Pair → Bool) (p : Pair) (ps : List Pair) → f p ≡ false
+passes_none : (f : Pair → Bool) (p : Pair) (ps : List Pair) → f p ≡ false
     → take 1 (filter f (p ∷ ps)) ≡ take 1 (filter f ps)
 passes_none f p ps h = ap (λ l. take 1 l) (cond-false (f p) (p ∷ filter f ps) (filter f ps) h)
+
+-- the first of another series among the pairs from a place on: the pair there where it has another number, and else one behind it
+pub other_here : (s : ℕ) (ps : List Pair) (i : ℕ) (d : Pair) → i < length ps → (get_or ps i d).number ≢ s
+    → get_or ps i d ∷ [] ≡ take 1 (filter (is_other s) (drop i ps))
+other_here s ps i d inside other =
+    sym (ap (λ l. take 1 (filter (is_other s) l)) (drop_more ps i d inside)
+    ∙ passes_first (is_other s) (get_or ps i d) (drop (i + 1) ps) (differs s (get_or ps i d) other))
+
+pub other_behind : (s : ℕ) (ps : List Pair) (i : ℕ) (d : Pair) → i < length ps → (get_or ps i d).number ≡ s
+    → take 1 (filter (is_other s) (drop (i + 1) ps)) ≡ take 1 (filter (is_other s) (drop i ps))
+other_behind s ps i d inside same =
+    sym (ap (λ l. take 1 (filter (is_other s) l)) (drop_more ps i d inside)
+    ∙ passes_none (is_other s) (get_or ps i d) (drop (i + 1) ps) (same_series s (get_or ps i d) same))
 
 -- what passes stands among those that pass
 in_filter : (f : Pair → Bool) (r : Pair) (ps : List Pair) → In r ps → f r ≡ true → In r (filter f ps)

@@ -29,15 +29,17 @@ loop-worker-preserved g c =
       space = omega (arith, c.push_reserved.ensures.capacity, was.space);
     }
 
+-- where none is left all were yielded
+all_yielded : (done left all : List Searcher) → length left ≡ 0 → done ++ left ≡ all → done ≡ all
+all_yielded done left all none whole =
+    sym (append-nil done) ∙ (ap (λ (l : List Searcher). done ++ l) (sym (nil_from_length left none)) ∙ whole)
+
 pub close-requires-clause-own : goal.close-requires-clause-own
 close-requires-clause-own g c =
     let own : Pass → Type 0 = λ p. p.claims ≡ c.args.claims in
     let left = c.loop-worker.worker-iterator in
-    let none : into_iter_items left ≡ []
-    = nil_from_length (into_iter_items left) (omega (arith, c.in-None.ensures.steps.0, left.rest.ok.0)) in
-    let whole : c.loop-worker.yielded ≡ c.args.team.items
-    = sym (append-nil c.loop-worker.yielded) ∙ (ap (λ l. c.loop-worker.yielded ++ l) (sym none)
-    ∙ c.loop-worker.invariant.whole) in
+    let whole = all_yielded c.loop-worker.yielded (into_iter_items left) c.args.team.items
+    (omega (arith, c.in-None.ensures.steps.0, left.rest.ok.0)) c.loop-worker.invariant.whole in
     let P : List Pass → Type 0 = λ ps. All own ps in
     subst P (sym c.loop-worker.invariant.passes)
     (All-map own (λ (w : Searcher). w.pass) c.loop-worker.yielded
@@ -50,11 +52,8 @@ returns g c =
     let was = c.loop-worker.invariant in
     let ws = c.loop-worker.yielded in
     let left = c.loop-worker.worker-iterator in
-    let none : into_iter_items left ≡ []
-    = nil_from_length (into_iter_items left) (omega (arith, c.in-None.ensures.steps.0, left.rest.ok.0)) in
-    let whole : c.loop-worker.yielded ≡ c.args.team.items
-    = sym (append-nil c.loop-worker.yielded) ∙ (ap (λ l. c.loop-worker.yielded ++ l) (sym none)
-    ∙ c.loop-worker.invariant.whole) in
+    let whole = all_yielded c.loop-worker.yielded (into_iter_items left) c.args.team.items
+    (omega (arith, c.in-None.ensures.steps.0, left.rest.ok.0)) c.loop-worker.invariant.whole in
     let Done : Searcher → Type 0 = λ w. w.ended ≡ true → IsDone all k w.pass w.list in
     let done : All Done ws = subst (λ l. All Done l) (sym whole) c.requires.done in
     let some : 0 < length ws = omega (arith, ap length whole, c.requires.some, c.args.team.ok.0) in
