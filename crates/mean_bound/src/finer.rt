@@ -162,10 +162,11 @@ fn parts_of(n: u32) -> u32
     (n / 128).min(2)
 }
 
-/// A query as bounds by finer means see it: a view of each of its parts.
+/// A query as bounds by finer means see it: a view of each of its parts, and whether the last of two is tried first.
 #[derive(Drop)]
 pub struct FinerView {
     count: u32,
+    last_first: bool,
     views: [PartView; 2],
 }
 
@@ -191,7 +192,12 @@ impl FinerView {
         for p in 0..count {
             views[p as usize] = cuts.view(query, p);
         }
-        FinerView { count, views }
+        let last_first = views[1].lies_farther(&views[0]);
+        FinerView {
+            count,
+            last_first,
+            views,
+        }
     }
 
     /// How many parts the query has.
@@ -202,19 +208,21 @@ impl FinerView {
         self.count
     }
 
-    /// Whether the lower bound of a series by its finer means, which are one `MeanCells` for each part, is at most a limit. No part is
-    /// looked at behind the one that passes it.
+    /// Whether the lower bound of a series by its finer means, which are one `MeanCells` for each part, is at most a limit. Of two parts
+    /// the one whose values lie farther from their means is tried first: there most series lie far from the query, and where one does
+    /// by that part alone, the other is not looked at.
     pub fn is_within(&self, cells: &[MeanCells], limit: u64) -> bool
         requires { length cells.now ≡ length self.now }
         ensures { result ≡ leb (finer_bound self.now cells.now) limit }
     {
-        let mut sum = 0;
-        for p in 0..self.count as usize {
-            sum += self.views[p].bound(&cells[p]);
-            if sum > limit {
-                return false;
+        match self.count {
+            0 => true,
+            1 => self.views[0].bound(&cells[0]) <= limit,
+            _ => {
+                let (first, second) = if self.last_first { (1, 0) } else { (0, 1) };
+                let sum = self.views[first].bound(&cells[first]);
+                sum <= limit && sum + self.views[second].bound(&cells[second]) <= limit
             }
         }
-        true
     }
 }

@@ -121,6 +121,11 @@ impl PartView {
         }
     }
 
+    // Whether values lie farther from their means than those of another part.
+    pub(crate) fn lies_farther(&self, other: &PartView) -> bool {
+        self.spread > other.spread
+    }
+
     // The lower bound of a series by its cells.
     pub(crate) fn bound(&self, cells: &MeanCells) -> u64
         ensures value { result ≡ part_bound self.now cells.now }
