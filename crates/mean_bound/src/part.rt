@@ -127,6 +127,7 @@ impl PartView {
     }
 
     // The lower bound of a series by its cells.
+    #[inline(always)]
     pub(crate) fn bound(&self, cells: &MeanCells) -> u64
         ensures value { result ≡ part_bound self.now cells.now }
         ensures small { result < 2 ^ 56 }
