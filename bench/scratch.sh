@@ -1,5 +1,6 @@
 # For the scripts beside, which set `here` and then read this: the C program is built in a scratch folder outside, which goes
 # with the script; `copy_crates` copies crates into a repository in it, and `build_timed` proves and builds a program over them.
+# The C is compiled for the processor at hand, so the programs are too, for any that has AVX2.
 set -eu
 top="$(cd "$(dirname "${BASH_SOURCE[0]}")/.." && pwd)"
 work="$(mktemp -d)"
@@ -27,7 +28,7 @@ build_timed() {
     echo "timed: $2" >> "$work/repository/crates.txt"
     cp "$top/HANDLES" "$work/repository/"
     cp "$here/main.rt.txt" "$program/src/main.rt"
-    (cd "$program" && rt run >"$work/build.log" 2>&1) || [ -x "$program/out/timed" ] || { cat "$work/build.log"; exit 1; }
+    (cd "$program" && rt run --cpu x86-64-v3 >"$work/build.log" 2>&1) || [ -x "$program/out/timed" ] || { cat "$work/build.log"; exit 1; }
     timed="$program/out/timed"
     ${READY:-true}
 }

@@ -5,7 +5,7 @@ set -eu
 top="$(cd "$(dirname "${BASH_SOURCE[0]}")/../.." && pwd)"
 count="${1:-500000}"
 length="${2:-256}"
-(cd "$top/crates/isearch" && rt run -- nearest data/row1.iser data/row1q.iser >/dev/null)
+(cd "$top/crates/isearch" && rt run --cpu x86-64-v3 -- nearest data/row1.iser data/row1q.iser >/dev/null)
 program="$top/crates/isearch/out/isearch"
 
 # Prints how many microseconds a trial of so many queries by so many workers takes.

@@ -13,7 +13,7 @@ simd_distance: series_core
 kernel_bench: outside series_core simd_distance anyhow
 LINES
 cd "$work/repository/crates/kernel_bench"
-rt run >"$work/build.log" 2>&1 || { cat "$work/build.log"; exit 1; }
+rt run --cpu x86-64-v3 >"$work/build.log" 2>&1 || { cat "$work/build.log"; exit 1; }
 for round in 1 2 3 4 5; do
     "$work/baseline" >>"$work/times"
     out/kernel_bench >>"$work/times"

@@ -16,7 +16,7 @@ lower_bound: breakpoints segment_sums isax_word series_core
 words_bench: breakpoints segment_sums isax_word lower_bound anyhow
 LINES
 cd "$work/repository/crates/words_bench"
-rt run >"$work/build.log" 2>&1 || { cat "$work/build.log"; exit 1; }
+rt run --cpu x86-64-v3 >"$work/build.log" 2>&1 || { cat "$work/build.log"; exit 1; }
 for round in 1 2 3 4 5; do
     echo "== round $round, plain C"
     "$work/baseline"
