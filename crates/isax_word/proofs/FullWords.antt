@@ -12,8 +12,8 @@ use Rattle.segment_sums.specs.Sum.{segment_sum, segment_sums, NoSumBelow, NoSumA
 use Rattle.segment_sums.proofs.Sums.{segment_sums_at}
 use Rattle.isax_word.specs.declared.layout.Layout.{Layout}
 use Rattle.isax_word.specs.FullWord.{IsFullWord, full_word, segment_symbol}
-use Rattle.isax_word.specs.Padded.{padded}
-use Rattle.isax_word.proofs.PaddedLists.{IsKept, padded_next}
+use Rattle.isax_word.specs.Padded.{IsKept, padded}
+use Rattle.isax_word.proofs.PaddedLists.{padded_next}
 use Rattle.isax_word.proofs.Symbols.{IsFullWord-full_word}
 
 -- a sum that is read as a number of 32 bits is that of its segment

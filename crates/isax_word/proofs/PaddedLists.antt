@@ -1,14 +1,9 @@
 -- Items kept in 16 places, the rest padded: writing at the first padded place adds an item
 -- (`padded_next`).
-use Rattle.std.proofs.Common.{◌≡◌, ℕ, suc, ◌+◌, ◌-◌, ◌<◌, ◌≤◌, arith, refl, List, [], ◌∷◌, ◌++◌, replicate, length, set, take, sym, ◌∙◌, ap, append_assoc}
-use Rattle.std.proofs.lemmas.List.{set_at, set-append_left, length-append, length-replicate, length_push, take_more_set, length-set}
+use Rattle.std.proofs.Common.{◌≡◌, ℕ, suc, ◌+◌, ◌-◌, ◌<◌, ◌≤◌, arith, refl, List, [], ◌∷◌, ◌++◌, replicate, length, map, get_or, set, take, sym, ◌∙◌, ap, append_assoc}
+use Rattle.std.proofs.lemmas.List.{get_or_append_left, get_or-map, length-map, set_at, set-append_left, length-append, length-replicate, length_push, map-append, take_more, take_more_set, length-set}
 use Rattle.std.proofs.Math.Seq.{take-set-lt}
-use Rattle.isax_word.specs.Padded.{padded}
-
--- a list whose first k items are all that is kept in it
-pub record IsKept {X : Type 0} (padding : X) (xs : List X) (k : ℕ) : Type 0 where
-  pub long : length (take k xs) ≡ k
-  pub kept : xs ≡ padded padding (take k xs)
+use Rattle.isax_word.specs.Padded.{padded, IsKept}
 
 -- a list of padding keeps no items
 pub padded_none : {X : Type 0} (padding : X) → IsKept padding (replicate 16 padding) 0
@@ -64,3 +59,33 @@ padded_set {X} padding xs k j y few used is =
       },
       more,
     )
+
+-- a list that keeps the images of the first k items of another
+pub record HoldsImages {X : Type 0} (f : X → ℕ) (xs : List X) (ys : List ℕ) (k : ℕ) : Type 0 where
+  pub kept : IsKept 0 ys k
+  pub are : take k ys ≡ map f (take k xs)
+
+-- writing the image of the next item at the first padded place adds it
+pub images_next : {X : Type 0} (f : X → ℕ) (xs : List X) (ys : List ℕ) (k y : ℕ) (d : X) → k < 16 → k < length xs
+    → y ≡ f (get_or xs k d) → HoldsImages f xs ys k → HoldsImages f xs (set ys k y) (k + 1)
+images_next {X} f xs ys k y d inside used is holds =
+    let next = padded_next 0 ys k y inside holds.kept in
+    record {
+      kept = next.0;
+      are = next.1
+          ∙ ap (λ (l : List ℕ). l ++ y ∷ []) holds.are
+          ∙ ap (λ (n : ℕ). map f (take k xs) ++ n ∷ []) is
+          ∙ sym (map-append f (take k xs) (get_or xs k d ∷ []))
+          ∙ ap (λ (l : List X). map f l) (sym (take_more xs k d used));
+    }
+
+-- the images of all items that are kept are padded as these are
+pub images_padded : {X : Type 0} (f : X → ℕ) (xs : List X) (ys : List ℕ) (k : ℕ) → HoldsImages f xs ys k
+    → ys ≡ padded 0 (map f (take k xs))
+images_padded f xs ys k holds = holds.kept.kept ∙ ap (λ (l : List ℕ). padded 0 l) holds.are
+
+-- among the images of all items, padded, stands that of each
+pub get_or-images : {X : Type 0} (f : X → ℕ) (xs : List X) (j : ℕ) (d : X) → j < length xs
+    → get_or (padded 0 (map f xs)) j 0 ≡ f (get_or xs j d)
+get_or-images f xs j d used =
+    get_or_append_left (map f xs) _ 0 j (omega (arith, length-map xs f)) ∙ get_or-map f xs j d 0 used

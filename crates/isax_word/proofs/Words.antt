@@ -6,9 +6,9 @@ use Rattle.std.proofs.lemmas.Bool.{and_parts, and_from, eqb-true, eqb-false, eq-
 use Rattle.std.proofs.lemmas.List.{drop_more, length-set}
 use Rattle.std.proofs.lemmas.List.Elements.{All-get_or, All-set}
 use Rattle.std.proofs.lemmas.Nat.{pow_pos, pow-add, shr-shr, shr_split, mod_below}
-use Rattle.std.proofs.Math.Nat.{lt-div-mul-add, div-mul-le_self, mul_comm, pow-le-pow_right}
+use Rattle.std.proofs.Math.Nat.{lt-div-mul-add, div-mul-le_self, mul_comm, mul-le-mul_right, pow-le-pow_right}
 use Rattle.isax_word.specs.declared.word.Part.{Part}
-use Rattle.isax_word.specs.Word.{IsPart, IsWord, no_part, part_at, parts_of, first_bits, part_contains, word_contains, child_part, child_word, next_bit}
+use Rattle.isax_word.specs.Word.{IsPart, IsWord, no_part, part_at, parts_of, first_bits, part_contains, word_contains, first_symbol, end_symbol, child_part, child_word, next_bit}
 
 -- a symbol that a part contains lies from p * 2^(8-c) up to (p+1) * 2^(8-c), the latter left out
 pub symbols_of_part : (p : Part) (s : ℕ) → part_contains p s ≡ true
@@ -191,3 +191,14 @@ part_at-parts_of (p ∷ prefixes) [] j in_prefixes in_bits = absurd (omega arith
 part_at-parts_of (p ∷ prefixes) (b ∷ bits) zero in_prefixes in_bits = refl
 part_at-parts_of (p ∷ prefixes) (b ∷ bits) (suc j) in_prefixes in_bits =
     part_at-parts_of prefixes bits j (omega arith) (omega arith)
+
+-- a part holds at least one symbol, and none past 255
+pub part_symbols : (p : Part) → IsPart p → (first_symbol p < end_symbol p) × (end_symbol p ≤ 256)
+part_symbols p is =
+    let place = 2 ^ (8 - p.bits) in
+    let whole : p.bits + (8 - p.bits) ≡ 8 = omega (arith, is.eight_bits) in
+    let all : 2 ^ p.bits * place ≡ 256 = sym (pow-add 2 p.bits (8 - p.bits))
+    ∙ ap (λ k. 2 ^ k) whole in
+    let top : (p.prefix + 1) * place ≤ 2 ^ p.bits * place
+    = mul-le-mul_right place (omega (arith, is.prefix_fits)) in
+    (omega (arith, pow_pos (8 - p.bits)), omega (arith, top, all))

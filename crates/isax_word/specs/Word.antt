@@ -1,7 +1,8 @@
 -- Words: for each segment the first bits of its symbol, and how many bits these are, from 1 to 8.
-use Rattle.std.specs.Prelude.{ℕ, zero, suc, ◌≡◌, ◌+◌, ◌-◌, ◌*◌, ◌/◌, ◌%◌, ◌^◌, ◌<◌, ◌≤◌, ◌==◌, ◌&&◌, Bool, true, false, if◌then◌else◌, List, [], ◌∷◌, length, slice_index, slice_index_or, slice_set}
+use Rattle.std.specs.Prelude.{ℕ, zero, suc, ◌≡◌, ◌+◌, ◌-◌, ◌*◌, ◌/◌, ◌%◌, ◌^◌, ◌<◌, ◌≤◌, ◌==◌, ◌&&◌, Bool, true, false, if◌then◌else◌, List, [], ◌∷◌, length, map, slice_index, slice_index_or, slice_set}
 use Rattle.std.specs.List.{All}
 use Rattle.isax_word.specs.declared.word.Part.{Part}
+use Rattle.isax_word.specs.Padded.{padded}
 
 -- a part keeps 1 to 8 bits, and its prefix has no more
 pub record IsPart (part : Part) : Type 0 where
@@ -48,6 +49,26 @@ word_contains [] [] = true
 word_contains [] (s ∷ symbols) = false
 word_contains (p ∷ word) [] = false
 word_contains (p ∷ word) (s ∷ symbols) = part_contains p s && word_contains word symbols
+
+-- the least symbol whose first bits are a part's prefix
+abbrev pub first_symbol : Part → ℕ
+first_symbol part = part.prefix * 2 ^ (8 - part.bits)
+
+-- the symbol behind the greatest one whose first bits are a part's prefix
+abbrev pub end_symbol : Part → ℕ
+end_symbol part = (part.prefix + 1) * 2 ^ (8 - part.bits)
+
+-- the greatest symbol whose first bits are a part's prefix
+abbrev pub last_symbol : Part → ℕ
+last_symbol part = end_symbol part - 1
+
+-- the least symbols of a word's parts, in 16 places
+abbrev pub first_symbols : List Part → List ℕ
+first_symbols word = padded 0 (map first_symbol word)
+
+-- the greatest symbols of a word's parts, in 16 places
+abbrev pub last_symbols : List Part → List ℕ
+last_symbols word = padded 0 (map last_symbol word)
 
 -- the part with one bit more: a 1 in the high child and a 0 in the low one
 abbrev pub child_part : Part → Bool → Part

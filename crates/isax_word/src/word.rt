@@ -1,6 +1,9 @@
-//! Words: for each segment a prefix of its symbol and the number of bits of that prefix.
-ghost use Rattle.std.specs.Prelude.{ℕ, ◌≡◌, ◌<◌, ◌≤◌, ◌^◌, ◌↔◌, IsTrue, IsSome, IfSome, length};
-ghost use Rattle.isax_word.specs.Word.{IsPart, IsWord, MakeWord, part_at, parts_of, one_bit_word, word_contains, child_part, child_word};
+//! Words: for each segment a prefix of its symbol and the number of bits of that prefix. Beside these a word keeps the least and the
+//! greatest symbol of each prefix, so that bounds find the symbols nearest to a query's in all segments at once.
+ghost use Rattle.std.specs.Prelude.{ℕ, ◌≡◌, ◌<◌, ◌≤◌, ◌^◌, ◌↔◌, IsTrue, IsSome, IfSome, length, take};
+ghost use Rattle.isax_word.specs.Padded.{IsKept};
+ghost use Rattle.isax_word.specs.Word.{IsPart, IsWord, MakeWord, no_part, part_at, parts_of, one_bit_word, word_contains};
+ghost use Rattle.isax_word.specs.Word.{child_part, child_word, first_symbol, first_symbols, last_symbol, last_symbols};
 
 use crate::full::Full;
 use std::marker::Model;
@@ -23,6 +26,22 @@ impl Part {
         1 <= self.bits && self.bits <= 8 && u32::from(self.prefix) < 1 << self.bits
     }
 
+    /// The least symbol that begins with the prefix.
+    fn first_symbol(self) -> u8
+        requires { IsPart self }
+        ensures { result ≡ first_symbol self }
+    {
+        (u32::from(self.prefix) << (8 - self.bits)) as u8
+    }
+
+    /// The greatest symbol that begins with the prefix.
+    fn last_symbol(self) -> u8
+        requires { IsPart self }
+        ensures { result ≡ last_symbol self }
+    {
+        (((u32::from(self.prefix) + 1) << (8 - self.bits)) - 1) as u8
+    }
+
     /// The part with one bit more.
     fn child(self, high: bool) -> Part
         requires fits { self.prefix < 128 }
@@ -41,6 +60,8 @@ impl Part {
 pub struct Word {
     count: u32,
     parts: [Part; 16],
+    firsts: [u8; 16],
+    lasts: [u8; 16],
 }
 
 impl Model for Word {
@@ -48,7 +69,7 @@ impl Model for Word {
     ghost use Rattle.std.proofs.Common.{sym};
     ghost use Rattle.isax_word.specs.declared.word.Part.{Part};
     ghost use Rattle.isax_word.specs.Padded.{padded};
-    ghost use Rattle.isax_word.specs.Word.{IsWord, no_part};
+    ghost use Rattle.isax_word.specs.Word.{IsWord, no_part, first_symbols, last_symbols};
 
     ghost Value = { List Part };
 
@@ -56,11 +77,23 @@ impl Model for Word {
 
     ghost invariant = { λ word. IsWord (take word.count word.parts)
         × (length (take word.count word.parts) ≡ word.count)
-        × (word.parts ≡ padded no_part (take word.count word.parts)) };
+        × (word.parts ≡ padded no_part (take word.count word.parts))
+        × (word.firsts ≡ first_symbols (take word.count word.parts))
+        × (word.lasts ≡ last_symbols (take word.count word.parts)) };
 
-    ghost inverse = { λ word. record { count = length word; parts = padded no_part word } };
+    ghost inverse = { λ word. record {
+      count = length word;
+      parts = padded no_part word;
+      firsts = first_symbols word;
+      lasts = last_symbols word;
+    } };
 
-    ghost inverse_ok = { λ word kept i. record { count = kept.1 i; parts = sym kept.2 i } };
+    ghost inverse_ok = { λ word kept i. record {
+      count = kept.1 i;
+      parts = sym kept.2 i;
+      firsts = sym kept.3 i;
+      lasts = sym kept.4 i;
+    } };
 }
 
 impl Word {
@@ -81,7 +114,7 @@ impl Word {
             };
             rest %= 1 << place;
         }
-        Word { count: w, parts }
+        Word::of_padded(w, parts)
     }
 
     /// The word of these prefixes and numbers of bits, one of each for each segment. None exactly where
@@ -105,10 +138,28 @@ impl Word {
             }
             parts[j] = part;
         }
-        Some(Word {
-            count: prefixes.len() as u32,
+        Some(Word::of_padded(prefixes.len() as u32, parts))
+    }
+
+    // The word of the first of these parts, behind which there are none.
+    fn of_padded(count: u32, parts: [Part; 16]) -> Word
+        requires word { IsWord (take count parts) }
+        requires kept { IsKept no_part parts count }
+        ensures { result ≡ take count parts }
+    {
+        let mut firsts = [0; 16];
+        let mut lasts = [0; 16];
+        for j in 0..count {
+            let part = parts[j as usize];
+            firsts[j as usize] = part.first_symbol();
+            lasts[j as usize] = part.last_symbol();
+        }
+        Word {
+            count,
             parts,
-        })
+            firsts,
+            lasts,
+        }
     }
 
     /// The first bits of the symbol of segment `j`, as a number below 2 to the number of these bits.
@@ -128,6 +179,21 @@ impl Word {
         ensures eight_bits { result ≤ 8 }
     {
         self.parts[j as usize].bits
+    }
+
+    /// The least symbols that begin with the prefixes of all segments, and 0 in the places behind them.
+    pub fn first_symbols(&self) -> &[u8; 16]
+        ensures value { result.now ≡ first_symbols self.now }
+        ensures is_word { IsWord self.now }
+    {
+        &self.firsts
+    }
+
+    /// The greatest symbols that begin with the prefixes of all segments, and 0 in the places behind them.
+    pub fn last_symbols(&self) -> &[u8; 16]
+        ensures { result.now ≡ last_symbols self.now }
+    {
+        &self.lasts
     }
 
     /// The number of segments, from 1 to 16.
@@ -158,8 +224,8 @@ pub fn child(word: &Word, segment: u32, high: bool) -> Word
     requires divisible { (part_at word.now segment).bits < 8 }
     ensures { result ≡ child_word word.now segment high }
 {
-    let mut child = *word;
-    let part = child.parts[segment as usize];
-    child.parts[segment as usize] = part.child(high);
-    child
+    let mut parts = word.parts;
+    let part = parts[segment as usize];
+    parts[segment as usize] = part.child(high);
+    Word::of_padded(word.count, parts)
 }

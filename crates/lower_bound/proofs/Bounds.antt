@@ -18,14 +18,14 @@ use Rattle.isax_word.specs.declared.layout.Layout.{Layout}
 use Rattle.isax_word.specs.declared.word.Part.{Part}
 use Rattle.isax_word.specs.Symbol.{symbol_of}
 use Rattle.isax_word.specs.FullWord.{full_word, segment_symbol}
-use Rattle.isax_word.specs.Word.{IsPart, part_at, part_contains, word_contains, child_part, child_word}
+use Rattle.isax_word.specs.Word.{IsPart, part_at, part_contains, word_contains, child_part, child_word, first_symbol, end_symbol}
 use Rattle.isax_word.proofs.Roots.{pow_doubles}
 use Rattle.isax_word.proofs.Symbols.{IsFullWord-full_word}
-use Rattle.isax_word.proofs.Words.{symbols_of_part, added_bit, added_bit-le, IsPart-child_part}
+use Rattle.isax_word.proofs.Words.{symbols_of_part, added_bit, added_bit-le, IsPart-child_part, part_symbols}
 use Rattle.series_core.specs.Distance.{squared_distance}
-use Rattle.lower_bound.specs.Gap.{gap, first_symbol, end_symbol, part_cost}
+use Rattle.lower_bound.specs.Gap.{gap, part_cost}
 use Rattle.lower_bound.specs.Bound.{View, IsView, view_of, sum_at, length_at, parts_bound, word_bound, eight_bit_word}
-use Rattle.lower_bound.proofs.Gaps.{gap_within, gap_rises, cost-le, cost_rises, part_symbols}
+use Rattle.lower_bound.proofs.Gaps.{gap_within, gap_rises, cost-le, cost_rises}
 use Rattle.lower_bound.proofs.Distances.{difference_of_sums, squared_distance-append}
 use Rattle.lower_bound.proofs.Views.{sum_at-view_of, length_at-pos, eight_bit_word_parts}
 

@@ -13,10 +13,11 @@ use Rattle.breakpoints.proofs.Ascending.{breakpoint_rises, breakpoint_within}
 use Rattle.segment_sums.proofs.Places.{quotient_rises}
 use Rattle.isax_word.specs.declared.word.Part.{Part}
 use Rattle.isax_word.specs.Symbol.{symbol_of}
-use Rattle.isax_word.specs.Word.{IsPart}
+use Rattle.isax_word.proofs.Words.{part_symbols}
+use Rattle.isax_word.specs.Word.{IsPart, first_symbol, end_symbol}
 use Rattle.isax_word.proofs.Scaled.{scaled_rises}
 use Rattle.isax_word.proofs.Symbols.{symbol_reached, symbol_unreached}
-use Rattle.lower_bound.specs.Gap.{excess, gap_below, gap_above, gap, cost_of_gap, first_symbol, end_symbol, part_cost, symbol_cost, nearest_symbol}
+use Rattle.lower_bound.specs.Gap.{excess, gap_below, gap_above, gap, cost_of_gap, part_cost, symbol_cost, nearest_symbol}
 use borrow.Author.Differences.{up, down}
 
 -- an excess is a difference that stops at 0
@@ -237,17 +238,6 @@ pub cost_bound : (l g : ℕ) → 1 ≤ l → g ≤ 65280 * l → cost_of_gap l g
 cost_bound l g some small =
     cost-le l g (4261478400 * l) some
     (omega (arith, mul-le g g (65280 * l) (65280 * l) small small))
-
--- a part holds at least one symbol, and none past 255
-pub part_symbols : (p : Part) → IsPart p → (first_symbol p < end_symbol p) × (end_symbol p ≤ 256)
-part_symbols p is =
-    let place = 2 ^ (8 - p.bits) in
-    let whole : p.bits + (8 - p.bits) ≡ 8 = omega (arith, is.eight_bits) in
-    let all : 2 ^ p.bits * place ≡ 256 = sym (pow-add 2 p.bits (8 - p.bits))
-    ∙ ap (λ k. 2 ^ k) whole in
-    let top : (p.prefix + 1) * place ≤ 2 ^ p.bits * place
-    = mul-le-mul_right place (omega (arith, is.prefix_fits)) in
-    (omega (arith, pow_pos (8 - p.bits)), omega (arith, top, all))
 
 -- the cost of a part is that of its symbol nearest to the sum's
 pub part_cost_nearest : (t : Table) (l : ℕ) (s : ℤ) (p : Part) → IsPart p

@@ -14,12 +14,13 @@ use Rattle.segment_sums.specs.Sum.{segment_sums, NoSumBelow, NoSumAbove}
 use Rattle.segment_sums.proofs.Places.{cut_place_rises, cut_place_inside}
 use Rattle.isax_word.specs.declared.layout.Layout.{Layout}
 use Rattle.isax_word.specs.declared.word.Part.{Part}
-use Rattle.isax_word.specs.Word.{IsPart, one_bit_word}
+use Rattle.isax_word.specs.Word.{IsPart, one_bit_word, first_symbol, end_symbol}
 use Rattle.isax_word.proofs.Roots.{length-one_bit_word, one_bit_word_parts}
-use Rattle.lower_bound.specs.Gap.{part_cost, first_symbol, end_symbol}
+use Rattle.isax_word.proofs.Words.{part_symbols}
+use Rattle.lower_bound.specs.Gap.{part_cost}
 use Rattle.lower_bound.specs.Bound.{View, IsView, view_of, sum_at, length_at, parts_bound, word_bound}
 use Rattle.lower_bound.specs.Halves.{view_with, bit_cost, HoldsBounds, HoldsHalves, high_segments, low_segments}
-use Rattle.lower_bound.proofs.Gaps.{gap-le, cost_bound, part_symbols}
+use Rattle.lower_bound.proofs.Gaps.{gap-le, cost_bound}
 use Rattle.lower_bound.proofs.Views.{length_at-pos, IsView-view_of}
 
 -- the bits of a number are its high bits and then its low bits

@@ -4,3 +4,4 @@ pub mod Distances
 pub mod Views
 pub mod Bounds
 pub mod HalfBounds
+pub mod Nearest

@@ -1,6 +1,6 @@
 -- Views of queries: their sums are those of the query's segments (`IsView-view_of`), and the bound
 -- of a word of all their segments is below 2^49 (`word_bound-lt`).
-use Rattle.std.proofs.Common.{◌≡◌, ℕ, ◌+◌, ◌*◌, ◌^◌, ◌<◌, ◌≤◌, arith, sym, ap, subst, ◌∙◌, ℤ, pos, neg_ℤ, ◌≤ℤ◌, List, [], ◌∷◌, length, get_or, drop}
+use Rattle.std.proofs.Common.{◌≡◌, ℕ, ◌+◌, ◌*◌, ◌^◌, ◌<◌, ◌≤◌, arith, sym, ap, subst, ◌∙◌, ℤ, pos, neg_ℤ, ◌≤ℤ◌, List, [], ◌∷◌, length, get_or, drop, replicate}
 use Rattle.std.specs.List.{All}
 use Rattle.std.proofs.lemmas.List.{drop_more}
 use Rattle.std.proofs.lemmas.List.Elements.{All-head, All-tail, All-map, All-weaker}
@@ -12,10 +12,11 @@ use Rattle.isax_word.specs.declared.layout.Layout.{Layout}
 use Rattle.isax_word.specs.declared.word.Part.{Part}
 use Rattle.isax_word.specs.Symbol.{symbol_of}
 use Rattle.isax_word.specs.FullWord.{full_word, segment_symbol}
-use Rattle.isax_word.specs.Word.{IsPart, no_part, part_at}
-use Rattle.lower_bound.specs.Gap.{part_cost, symbol_cost, HoldsCosts, gap, cost_of_gap, first_symbol, end_symbol}
+use Rattle.isax_word.specs.Word.{IsPart, no_part, part_at, first_symbol, end_symbol}
+use Rattle.isax_word.proofs.Words.{part_symbols}
+use Rattle.lower_bound.specs.Gap.{part_cost, symbol_cost, HoldsCosts, gap, cost_of_gap}
 use Rattle.lower_bound.specs.Bound.{View, IsView, view_of, sum_at, length_at, HoldsView, parts_bound, word_bound, eight_bit_word}
-use Rattle.lower_bound.proofs.Gaps.{gap-le, cost_bound, part_symbols}
+use Rattle.lower_bound.proofs.Gaps.{gap-le, cost_bound}
 
 -- the sums of a view are those of the query's segments
 pub sum_at-view_of : (layout : Layout) (query : List ℤ) (j : ℕ) → j < layout.cuts.segments
@@ -44,8 +45,9 @@ pub HoldsView-view_of : (layout : Layout) (query : List ℤ) (costs : List (List
     → ((j : ℕ) → j < layout.cuts.segments
     → HoldsCosts layout.table (segment_length layout.cuts j) (segment_sum layout.cuts query j)
     (get_or costs j []))
+    → ((j : ℕ) → layout.cuts.segments ≤ j → j < 16 → get_or costs j [] ≡ replicate 256 0)
     → HoldsView (view_of layout query) (full_word layout query) costs
-HoldsView-view_of layout query costs each =
+HoldsView-view_of layout query costs each behind =
     record {
       as_many = length-map-range_with_len (segment_symbol layout query) 0 layout.cuts.segments;
       symbols_of = λ j used.
@@ -57,6 +59,7 @@ HoldsView-view_of layout query costs each =
           λ j used. subst
           (λ s. HoldsCosts layout.table (segment_length layout.cuts j) s (get_or costs j []))
           (sym (sum_at-view_of layout query j used)) (each j used);
+      none_behind = behind;
     }
 
 -- a segment of a view is not empty

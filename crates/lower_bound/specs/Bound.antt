@@ -1,6 +1,6 @@
 -- The lower bound of a word for a query: the sum of the costs of its parts. Of a query it knows the sums of its
 -- segments alone.
-use Rattle.std.specs.Prelude.{ℕ, ℤ, pos, ◌≡◌, ◌+◌, ◌*◌, ◌<◌, neg_ℤ, ◌≤ℤ◌, List, [], ◌∷◌, length, map, slice_index, slice_index_or}
+use Rattle.std.specs.Prelude.{ℕ, ℤ, pos, ◌≡◌, ◌+◌, ◌*◌, ◌<◌, ◌≤◌, neg_ℤ, ◌≤ℤ◌, List, [], ◌∷◌, length, map, replicate, slice_index, slice_index_or}
 use Rattle.segment_sums.specs.Division.{IsDivision, segment_length}
 use Rattle.segment_sums.specs.Sum.{segment_sums}
 use Rattle.isax_word.specs.declared.layout.Layout.{Layout}
@@ -50,9 +50,10 @@ eight_bit_word symbols = map (λ s. record { prefix = s; bits = 8 }) symbols
 abbrev pub symbol_at : View → ℕ → ℕ
 symbol_at view j = symbol_of view.layout.table (length_at view j) (sum_at view j)
 
--- the symbols of a query and the costs of all symbols, segment by segment
+-- the symbols of a query and the costs of all symbols, segment by segment; in the places behind the segments nothing costs
 pub record HoldsView (view : View) (symbols : List ℕ) (costs : List (List ℕ)) : Type 0 where
   pub as_many : length symbols ≡ view.layout.cuts.segments
   pub symbols_of : (j : ℕ) → j < view.layout.cuts.segments → slice_index symbols j ≡ symbol_at view j
   pub costs_of : (j : ℕ) → j < view.layout.cuts.segments
       → HoldsCosts view.layout.table (length_at view j) (sum_at view j) (slice_index_or costs j [])
+  pub none_behind : (j : ℕ) → view.layout.cuts.segments ≤ j → j < 16 → slice_index_or costs j [] ≡ replicate 256 0

@@ -5,6 +5,7 @@ use Rattle.std.specs.Prelude.{ℕ, ℤ, pos, negsuc, ◌+◌, ◌-◌, ◌*◌, 
 use Rattle.breakpoints.specs.declared.table.Table.{Table}
 use Rattle.breakpoints.specs.Breakpoint.{breakpoint}
 use Rattle.isax_word.specs.declared.word.Part.{Part}
+use Rattle.isax_word.specs.Word.{first_symbol, end_symbol, last_symbol}
 
 -- how far a whole number is above 0, and 0 where it is not above
 abbrev pub excess : ℤ → ℕ
@@ -29,14 +30,6 @@ gap table length sum first end = gap_below table length sum first + gap_above ta
 abbrev pub cost_of_gap : ℕ → ℕ → ℕ
 cost_of_gap length gap = (gap * gap + (length - 1)) / length
 
--- the first symbol whose first bits are a part's prefix
-abbrev pub first_symbol : Part → ℕ
-first_symbol part = part.prefix * 2 ^ (8 - part.bits)
-
--- the symbol behind the last one whose first bits are a part's prefix
-abbrev pub end_symbol : Part → ℕ
-end_symbol part = (part.prefix + 1) * 2 ^ (8 - part.bits)
-
 -- the cost of a part for a segment of this length and sum
 abbrev pub part_cost : Table → ℕ → ℤ → Part → ℕ
 part_cost table length sum part = cost_of_gap length (gap table length sum (first_symbol part) (end_symbol part))
@@ -47,7 +40,7 @@ symbol_cost table length sum symbol = cost_of_gap length (gap table length sum s
 
 -- the symbol nearest to another among those whose first bits are a part's prefix
 abbrev pub nearest_symbol : Part → ℕ → ℕ
-nearest_symbol part symbol = max (first_symbol part) (min (end_symbol part - 1) symbol)
+nearest_symbol part symbol = max (first_symbol part) (min (last_symbol part) symbol)
 
 -- the length of a segment and the sum of as many values of 16 bits
 pub record IsSum (long : ℕ) (sum : ℤ) : Type 0 where

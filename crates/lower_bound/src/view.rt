@@ -1,9 +1,8 @@
 //! A query as bounds see it: for each segment the cost of each symbol, so that the bound of a word is one
-//! look-up and one addition a segment. The cost of a prefix is that of its symbol nearest to the query's.
-ghost use Rattle.std.specs.Prelude.{◌≡◌, ◌+◌, ◌*◌, ◌<◌, ◌≤◌, ◌^◌, length};
-ghost use Rattle.isax_word.specs.declared.word.Part.{Part};
-ghost use Rattle.isax_word.specs.Word.{IsPart, one_bit_word};
-ghost use Rattle.lower_bound.specs.Gap.{nearest_symbol};
+//! look-up and one addition a segment. The cost of a prefix is that of its symbol nearest to the query's, and the
+//! nearest symbols of all segments are found at once.
+ghost use Rattle.std.specs.Prelude.{◌≡◌, ℕ, ◌*◌, ◌<◌, ◌^◌, length, max, min, slice_index};
+ghost use Rattle.isax_word.specs.Word.{one_bit_word};
 ghost use Rattle.lower_bound.specs.Bound.{IsView, view_of, word_bound, eight_bit_word};
 
 use crate::cost::costs_of_symbols;
@@ -72,10 +71,10 @@ impl QueryView {
         ensures value { result ≡ word_bound self.now word.now }
         ensures small { result < 2 ^ 49 }
     {
+        let nearest = nearest_symbols(self.full.symbols(), word.first_symbols(), word.last_symbols());
         let mut bound = 0;
-        for j in 0..word.segments() {
-            let symbol = nearest_to(self.full.symbol(j), word.prefix(j), word.bits(j));
-            bound += self.costs[j as usize][symbol as usize];
+        for j in 0..16 {
+            bound += self.costs[j][nearest[j] as usize];
         }
         bound
     }
@@ -115,14 +114,15 @@ impl QueryView {
     }
 }
 
-/// The symbol nearest to another among those whose first `bits` bits are `prefix`.
-fn nearest_to(symbol: u8, prefix: u8, bits: u8) -> u32
-    requires { IsPart (record { prefix = prefix; bits = bits }) }
-    ensures value { result ≡ nearest_symbol (record { prefix = prefix; bits = bits }) symbol }
-    ensures eight_bits { result < 256 }
+/// In each place the number nearest to the symbol among those from the first to the last.
+#[inline(always)]
+fn nearest_symbols(symbols: &[u8; 16], firsts: &[u8; 16], lasts: &[u8; 16]) -> [u8; 16]
+    ensures { (j : ℕ) → j < 16 → slice_index result j
+        ≡ max (slice_index firsts.now j) (min (slice_index lasts.now j) (slice_index symbols.now j)) }
 {
-    let room = 8 - bits;
-    let first = u32::from(prefix) << room;
-    let last = first + (1 << room) - 1;
-    u32::from(symbol).min(last).max(first)
+    let mut nearest = [0; 16];
+    for j in 0..16 {
+        nearest[j] = symbols[j].min(lasts[j]).max(firsts[j]);
+    }
+    nearest
 }

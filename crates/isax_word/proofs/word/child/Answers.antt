@@ -4,7 +4,8 @@ use Rattle.std.proofs.lemmas.List.{get_or-take}
 use Rattle.std.proofs.lemmas.List.Elements.{All-get_or}
 use Rattle.isax_word.specs.declared.word.Part.{Part}
 use Rattle.isax_word.specs.Word.{IsPart, IsWord, no_part, part_at, child_part, child_word}
-use Rattle.isax_word.proofs.PaddedLists.{IsKept, padded_set}
+use Rattle.isax_word.specs.Padded.{IsKept}
+use Rattle.isax_word.proofs.PaddedLists.{padded_set}
 use Rattle.isax_word.proofs.Words.{IsWord-child_word, prefix-lt}
 use Rattle.isax_word.proofs.word.child.Goals as goal
 
@@ -21,20 +22,12 @@ child-requires-clause-fits c =
     let word = c.args.word.now in
     let j = c.args.segment in
     let there =
-    part_is c.child.inside.parts word c.child.inside.count j c.child.view_is c.child.invariant.1
+    part_is c.word.inside.parts word c.word.inside.count j c.word.view_is c.word.invariant.1
     c.requires.used in
-    let is : IsWord word = subst IsWord c.child.view_is c.child.invariant.0 in
+    let is : IsWord word = subst IsWord c.word.view_is c.word.invariant.0 in
     subst (λ p. p.prefix < 128) (sym there)
     (prefix-lt (part_at word j)
     (All-get_or IsPart word j no_part c.requires.used is.parts) c.requires.divisible)
-
-pub child-requires-clause-divisible : goal.child-requires-clause-divisible
-child-requires-clause-divisible c =
-    let there =
-    part_is c.child.inside.parts c.args.word.now c.child.inside.count c.args.segment
-    c.child.view_is
-    c.child.invariant.1 c.requires.used in
-    subst (λ p. p.bits < 8) (sym there) c.requires.divisible
 
 -- the parts with the child's part in its place
 child_is : (parts word : List Part) (count j : ℕ) (high : Bool) (child : Part)
@@ -54,29 +47,32 @@ child_is parts word count j high child view kept is used value =
           ∙ ap (λ p. child_part p high) (part_is parts word count j view kept.long used)),
     )
 
-pub invariant_of-child : goal.invariant_of-child
-invariant_of-child c =
+-- the parts of the word are kept
+kept_is : (c : goal.After-child) → IsKept no_part c.word.inside.parts c.word.inside.count
+kept_is c = record { long = c.word.invariant.1; kept = c.word.invariant.2 }
+
+-- what is written makes the child
+written_is : (c : goal.After-child)
+    → IsKept no_part (set c.word.inside.parts c.args.segment c.child.result) c.word.inside.count
+    × (take c.word.inside.count (set c.word.inside.parts c.args.segment c.child.result)
+    ≡ child_word c.args.word.now c.args.segment c.args.high)
+written_is c =
+    child_is c.word.inside.parts c.args.word.now c.word.inside.count c.args.segment c.args.high c.child.result
+    c.word.view_is (kept_is c) (subst IsWord c.word.view_is c.word.invariant.0) c.requires.used c.child.ensures
+
+pub of_padded-requires-clause-word : goal.of_padded-requires-clause-word
+of_padded-requires-clause-word c =
     let word = c.args.word.now in
-    let is : IsWord word = subst IsWord c.child.view_is c.child.invariant.0 in
-    let kept : IsKept no_part c.child.inside.parts c.child.inside.count
-    = record { long = c.child.invariant.1; kept = c.child.invariant.2 } in
-    let written =
-    child_is c.child.inside.parts word c.child.inside.count c.args.segment c.args.high
-    c.child-2.result
-    c.child.view_is kept is c.requires.used c.child-2.ensures in (
-      subst IsWord (sym written.1)
-          (IsWord-child_word word c.args.segment c.args.high is c.requires.used
-          c.requires.divisible),
-      written.0.long,
-      written.0.kept,
-    )
+    let is : IsWord word = subst IsWord c.word.view_is c.word.invariant.0 in
+    subst IsWord (sym (written_is c).1)
+    (IsWord-child_word word c.args.segment c.args.high is c.requires.used c.requires.divisible)
+
+pub of_padded-requires-clause-kept : goal.of_padded-requires-clause-kept
+of_padded-requires-clause-kept c = (written_is c).0
 
 pub returns : goal.returns
 returns c =
-    let word = c.args.word.now in
-    let kept : IsKept no_part c.child.inside.parts c.child.inside.count
-    = record { long = c.child.invariant.1; kept = c.child.invariant.2 } in
-    (child_is c.child.inside.parts word c.child.inside.count c.args.segment c.args.high
-    c.child-2.result
-    c.child.view_is kept
-    (subst IsWord c.child.view_is c.child.invariant.0) c.requires.used c.child-2.ensures).1
+    c.of_padded.ensures
+    ∙ (child_is c.word.inside.parts c.args.word.now c.word.inside.count c.args.segment c.args.high c.child.result
+    c.word.view_is (record { long = c.word.invariant.1; kept = c.word.invariant.2 })
+    (subst IsWord c.word.view_is c.word.invariant.0) c.requires.used c.child.ensures).1

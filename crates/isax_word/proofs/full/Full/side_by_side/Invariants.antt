@@ -2,7 +2,7 @@
 use Rattle.std.proofs.Common.{◌≡◌, map, take}
 use Rattle.std.specs.List.{range_with_len}
 use Rattle.isax_word.specs.FullWord.{segment_symbol}
-use Rattle.isax_word.proofs.PaddedLists.{IsKept}
+use Rattle.isax_word.specs.Padded.{IsKept}
 use Rattle.isax_word.proofs.full.Full.side_by_side.Given as goal
 
 abbrev pub invariant-loop-j : goal.invariant-loop-j

@@ -2,7 +2,7 @@
 use Rattle.std.proofs.Common.{◌≡◌, ◌++◌, take, drop}
 use Rattle.std.specs.List.{All}
 use Rattle.isax_word.specs.Word.{IsPart, no_part, parts_of}
-use Rattle.isax_word.proofs.PaddedLists.{IsKept}
+use Rattle.isax_word.specs.Padded.{IsKept}
 use Rattle.isax_word.proofs.word.Word.of_parts.Given as goal
 
 abbrev pub invariant-loop-j : goal.invariant-loop-j

@@ -1,10 +1,11 @@
 -- The highest bit of the rest becomes the next part, and the word of the other bits is left.
-use Rattle.std.proofs.Common.{◌≡◌, ℕ, suc, ◌+◌, ◌-◌, ◌*◌, ◌/◌, ◌%◌, ◌^◌, ◌<◌, [], ◌∷◌, ◌++◌, arith, ap, sym, ◌∙◌, subst, take, append_assoc}
+use Rattle.std.proofs.Common.{◌≡◌, ℕ, List, suc, ◌+◌, ◌-◌, ◌*◌, ◌/◌, ◌%◌, ◌^◌, ◌<◌, [], ◌∷◌, ◌++◌, arith, ap, sym, ◌∙◌, subst, take, append_assoc}
 use Rattle.std.proofs.lemmas.List.{append-nil}
 use Rattle.std.proofs.lemmas.Nat.{one_shl, pow_pos, mod_below}
 use Rattle.isax_word.specs.declared.word.Part.{Part}
 use Rattle.isax_word.specs.Word.{IsWord, no_part, one_bit_word}
-use Rattle.isax_word.proofs.PaddedLists.{IsKept, padded_next}
+use Rattle.isax_word.specs.Padded.{IsKept}
+use Rattle.isax_word.proofs.PaddedLists.{padded_next}
 use Rattle.isax_word.proofs.Roots.{IsWord-one_bit_word}
 use Rattle.isax_word.proofs.word.Word.of_root.Goals as goal
 
@@ -41,21 +42,29 @@ loop-j-preserved c =
       bits = subst (λ r. rest % r < 2 ^ m) (sym is_place) (mod_below rest (2 ^ m) (pow_pos m));
     }
 
-pub invariant_of-result : goal.invariant_of-result
-invariant_of-result c =
-    let parts = c.loop-j.parts in
-    let w = c.args.w in
-    let end : c.loop-j.j ≡ w = omega (arith, c.loop-j-test.false, c.loop-j.auto.j-end) in
-    let none : w - c.loop-j.j ≡ 0 = omega (arith, end) in
-    let kept : IsKept no_part parts w = subst (IsKept no_part parts) end c.loop-j.invariant.kept in
-    let whole : take w parts ≡ one_bit_word c.args.root w
-    = ap (λ k. take k parts) (sym end)
-    ∙ sym (append-nil (take c.loop-j.j parts))
-    ∙ ap (λ k. take c.loop-j.j parts ++ one_bit_word c.loop-j.rest k) (sym none)
-    ∙ c.loop-j.invariant.whole in (
-      subst IsWord (sym whole)
-          (IsWord-one_bit_word c.args.root w c.requires.some_segments c.requires.few_segments
-          c.requires.bits),
-      kept.long,
-      kept.kept,
-    )
+-- the parts are those of the word of the root number
+whole_is : (parts : List Part) (root rest w j : ℕ) → j ≡ w → take j parts ++ one_bit_word rest (w - j) ≡ one_bit_word root w
+    → take w parts ≡ one_bit_word root w
+whole_is parts root rest w j end whole =
+    let none : w - j ≡ 0 = omega (arith, end) in
+    ap (λ k. take k parts) (sym end)
+    ∙ sym (append-nil (take j parts))
+    ∙ ap (λ k. take j parts ++ one_bit_word rest k) (sym none)
+    ∙ whole
+
+pub of_padded-requires-clause-word : goal.of_padded-requires-clause-word
+of_padded-requires-clause-word c =
+    let end : c.loop-j.j ≡ c.args.w = omega (arith, c.loop-j-test.false, c.loop-j.auto.j-end) in
+    subst IsWord
+    (sym (whole_is c.loop-j.parts c.args.root c.loop-j.rest c.args.w c.loop-j.j end c.loop-j.invariant.whole))
+    (IsWord-one_bit_word c.args.root c.args.w c.requires.some_segments c.requires.few_segments c.requires.bits)
+
+pub of_padded-requires-clause-kept : goal.of_padded-requires-clause-kept
+of_padded-requires-clause-kept c =
+    let end : c.loop-j.j ≡ c.args.w = omega (arith, c.loop-j-test.false, c.loop-j.auto.j-end) in
+    subst (IsKept no_part c.loop-j.parts) end c.loop-j.invariant.kept
+
+pub returns : goal.returns
+returns c =
+    let end : c.loop-j.j ≡ c.args.w = omega (arith, c.loop-j-test.false, c.loop-j.auto.j-end) in
+    c.of_padded.ensures ∙ whole_is c.loop-j.parts c.args.root c.loop-j.rest c.args.w c.loop-j.j end c.loop-j.invariant.whole

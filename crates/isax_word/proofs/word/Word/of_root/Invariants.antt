@@ -1,7 +1,7 @@
 -- The parts so far and the one-bit word of the rest make the whole word.
 use Rattle.std.proofs.Common.{◌≡◌, ◌-◌, ◌^◌, ◌<◌, ◌++◌, take}
 use Rattle.isax_word.specs.Word.{no_part, one_bit_word}
-use Rattle.isax_word.proofs.PaddedLists.{IsKept}
+use Rattle.isax_word.specs.Padded.{IsKept}
 use Rattle.isax_word.proofs.word.Word.of_root.Given as goal
 
 abbrev pub invariant-loop-j : goal.invariant-loop-j

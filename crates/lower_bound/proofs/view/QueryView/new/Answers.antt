@@ -59,6 +59,8 @@ loop-j-preserved c =
           (sym (get_or-set_other costs j k made [] other)) (c.loop-j.invariant.each k before))
           (subst (HoldsCosts layout.table (segment_length cuts j) (segment_sum cuts query j))
           (sym (get_or-set_same costs j made [] inside)) here);
+      behind = λ k after few. let other : k ≢ j = omega (arith, after) in
+          get_or-set_other costs j k made [] other ∙ c.loop-j.invariant.behind k (omega (arith, after)) few;
     }
 
 pub bounds_of_bits-high-requires-clause-is_view : goal.bounds_of_bits-high-requires-clause-is_view
@@ -77,6 +79,8 @@ invariant_of-result c =
     let query = c.args.query.now in
     let w = layout.cuts.segments in
     let costs = c.loop-j.costs in
+    let end : c.loop-j.j ≡ w
+    = omega (arith, c.segments-j-end.ensures.value, c.loop-j-test.false, c.loop-j.auto.j-end) in
     let same : view_with layout c.sums.new.into ≡ view_of layout query
     = view_of_sums layout query c.sums.new.into _ c.sums.ensures.sums in
     let is : IsView (view_with layout c.sums.new.into)
@@ -84,7 +88,8 @@ invariant_of-result c =
     c.sums.ensures.sums c.sums.ensures.not_low c.sums.ensures.not_high in
     let holds = HoldsView-view_of layout query costs
     (λ k used. c.loop-j.invariant.each k
-    (omega (arith, used, c.segments-j-end.ensures.value, c.loop-j-test.false))) in
+    (omega (arith, used, c.segments-j-end.ensures.value, c.loop-j-test.false)))
+    (λ k past few. c.loop-j.invariant.behind k (omega (arith, past, end)) few) in
     let high : c.saturating_sub-high_segments.result ≡ w - 8
     = omega (arith, c.segments-segments.ensures.value, c.saturating_sub-high_segments.ensures) in
     let low : c.segments-segments.result - c.saturating_sub-high_segments.result ≡ w - (w - 8)
