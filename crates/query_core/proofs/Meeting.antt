@@ -1,11 +1,16 @@
 -- What one member makes of a list: one whose distance is above the limit or above the k-th pair leaves it (`meet_far`),
 -- as one whose bound by its means is (`meet_above`), and any other is added (`meet_near`); so series are scanned one by one
--- (`IsScanning`, `one_scanned`, `member_scanned`).
+-- (`IsScanning`, `one_scanned`, `member_scanned`), and members that are all farther leave a list as it is (`far_scanned`), as do
+-- those of a leaf whose bound is above (`beyond_members`).
 use Rattle.std.proofs.Common.{◌≡◌, ℕ, zero, suc, ◌<◌, ◌≤◌, ℤ, List, [], ◌∷◌, ◌++◌, ◌+◌, length, take, get_or, refl, sym, ap, ◌∙◌, subst, arith}
 use Rattle.std.specs.Prelude.{Some, slice_get, nat_le}
 use Rattle.std.proofs.lemmas.Bool.{cond-true, cond_both, leb-true, le-leb}
-use Rattle.std.proofs.lemmas.List.{map-append, take_all, take_more}
+use Rattle.std.proofs.lemmas.List.{append-nil, append_assoc, get_or-map, length-map, map-append, take_all, take_more}
+use Rattle.std.proofs.lemmas.List.Elements.{All-head, All-tail}
+use Rattle.std.specs.List.{All}
 use Rattle.std.proofs.lemmas.Option.{get_or_from_slice_get}
+use Rattle.list_totals.specs.Totals.{times}
+use Rattle.list_totals.proofs.Places.{times_at}
 use Rattle.series_core.specs.Answer.{distance_or_none}
 use Rattle.series_core.specs.Best.{Best}
 use Rattle.series_core.specs.Distance.{squared_distance}
@@ -16,9 +21,11 @@ use Rattle.mean_bound.proofs.BelowDistances.{mean_bound_below}
 use Rattle.mean_bound.specs.MeanBound.{mean_bound, mean_view_of}
 use Rattle.isax_word.specs.FullWord.{full_word}
 use Rattle.isax_word.specs.declared.member.Member.{Member}
+use Rattle.subtree_build.specs.Index.{IndexParts, leaf_at}
 use Rattle.subtree_build.specs.Means.{means_of}
 use Rattle.subtree_build.specs.Members.{numbers_of, series_at}
 use Rattle.search_machine.specs.Ground.{pair_of, scan_one}
+use Rattle.query_core.specs.NearLeaves.{IsBelowLeaf}
 use Rattle.query_core.specs.Questions.{Question, IsQuestion, IsMemberOf, search_over}
 use Rattle.query_core.specs.Scanning.{AreScanned, IsScannedOne, MayAdd}
 use Rattle.query_core.proofs.OfIndex.{distance_small}
@@ -138,3 +145,49 @@ module _ {a : Question} {limit most : ℕ} {first : List Pair} (items : List Mem
   pub all_scanned : length items ≤ i → AreScanned a limit (numbers_of items) first before.pairs
   all_scanned end =
       subst (λ (ms : List Member). AreScanned a limit (numbers_of ms) first before.pairs) (take_all i items end) was.pairs
+
+-- where nothing is scanned, nothing is added
+none_scanned : (a : Question) (limit most : ℕ) (best : Best) → MayAdd a limit best most
+    → IsScanning a limit [] best.pairs best most
+none_scanned a limit most best may = record {
+  list = may;
+  pairs = λ ix workers queues.
+      sym (ap (take a.k) may.is_best.ordered ∙ take_all a.k best.pairs (omega (arith, may.is_best.size, may.wanted)));
+}
+
+-- members that are farther are passed over, one after another
+far_from_here : (a : Question) (limit most : ℕ) (best : Best) (done items : List Member) → IsQuestion a
+    → All (IsMemberOf a) items → All (λ (m : Member). most < far_is a m.number) items
+    → IsScanning a limit (numbers_of done) best.pairs best most
+    → IsScanning a limit (numbers_of (done ++ items)) best.pairs best most
+far_from_here a limit most best done [] question members far was =
+    subst (λ (ms : List Member). IsScanning a limit (numbers_of ms) best.pairs best most) (sym (append-nil done)) was
+far_from_here a limit most best done (m ∷ items) question members far was =
+    let far_one = λ (x : Member). most < far_is a x.number in
+    let member = All-head (IsMemberOf a) m items members in
+    let step = meet_far a m best limit most question member was.list (All-head far_one m items far) in
+    let next : IsScanning a limit (numbers_of (done ++ m ∷ [])) best.pairs best most
+    = subst (λ (ns : List ℕ). IsScanning a limit ns best.pairs best most)
+    (sym (map-append (λ (x : Member). x.number) done (m ∷ []))) (one_scanned m.number was was.list step) in
+    subst (λ (ms : List Member). IsScanning a limit (numbers_of ms) best.pairs best most) (append_assoc done (m ∷ []) items)
+    (far_from_here a limit most best (done ++ m ∷ []) items question (All-tail (IsMemberOf a) m items members)
+    (All-tail far_one m items far) next)
+
+-- members that are all farther leave a list as it is
+pub far_scanned : (a : Question) (limit most : ℕ) (best : Best) (items : List Member) → IsQuestion a
+    → All (IsMemberOf a) items → All (λ (m : Member). most < far_is a m.number) items → MayAdd a limit best most
+    → AreScanned a limit (numbers_of items) best.pairs best.pairs
+far_scanned a limit most best items question members far may =
+    (far_from_here a limit most best [] items question members far (none_scanned a limit most best may)).pairs
+
+-- the members of a leaf whose bound is above are all farther
+pub beyond_members : (a : Question) (ix : IndexParts) (l bound most : ℕ) → IsBelowLeaf (search_over a ix 1 1) l bound
+    → most < bound → All (λ (m : Member). most < far_is a m.number) (leaf_at ix.leaves l).members
+beyond_members a ix l bound most below above k d inside =
+    let items = (leaf_at ix.leaves l).members in
+    let number : Member → ℕ = λ m. m.number in
+    let there : 0 < times (get_or items k d).number (numbers_of items)
+    = times_at (get_or items k d).number (numbers_of items) k 0 (omega (arith, inside, length-map items number))
+    (get_or-map number items k d 0 inside) in
+    let low = below (get_or items k d).number there in
+    omega (arith, above, low)

@@ -1,4 +1,5 @@
-//! Scanning a leaf for the answer alone: a member is passed over by its means, or else by its finer means, or else measured.
+//! Scanning a leaf: a member is passed over by its means, or for the answer alone by its finer means too, or else measured; and a
+//! whole leaf by the box of its means.
 ghost use Rattle.std.specs.Prelude.{◌≡◌, ◌+◌, ◌*◌, ◌<◌, ◌≤◌, false, length, take, drop};
 ghost use Rattle.series_core.specs.Distance.{squared_distance};
 ghost use Rattle.subtree_build.specs.Fits.{Fits as IndexFits};
@@ -6,7 +7,7 @@ ghost use Rattle.subtree_build.specs.Means.{finer_of, means_of};
 ghost use Rattle.subtree_build.specs.Members.{series_at};
 ghost use Rattle.search_machine.specs.Ground.{scan};
 ghost use Rattle.query_core.specs.Questions.{IsQuestion, search_over, IsMemberOf, leaf_series};
-ghost use Rattle.query_core.specs.Scanning.{IsScannedOne, MayAdd};
+ghost use Rattle.query_core.specs.Scanning.{AreScanned, IsScannedOne, MayAdd};
 
 use crate::index_laws::search_law;
 use crate::scan::most_to_add;
@@ -39,6 +40,21 @@ impl<'a, R: Rows> Task<'a, R> {
             let near = self.may_be_within(member, &means[i], own, most);
             most = self.measure_near(near, member, limit, most, list);
         }
+    }
+
+    /// The same for each member of a leaf, but where the box of their means is too far, nothing of the leaf is read.
+    pub(crate) fn scan_boxed(&self, index: &Index, leaf: u32, limit: u64, list: &mut KBest)
+        requires fits { IndexFits self.now.collection self.now.layout index.now }
+        requires leaf { leaf < length index.now.leaves }
+        requires k { list.old.k ≡ self.now.k }
+        ensures k { list.new.k ≡ self.now.k }
+        ensures pairs { AreScanned self.now limit (leaf_series index.now leaf) list.old.pairs list.new.pairs }
+    {
+        search_law(self, index);
+        if self.leaf_bound(index, leaf) > most_to_add(limit, list) {
+            return;
+        }
+        self.scan(index.leaf_members(leaf), index.leaf_means(leaf), limit, list);
     }
 
     /// Adds the member's pair where it is near and its distance is at most `most`, and tells what is then the most.

@@ -152,8 +152,8 @@ impl<'a, R: Rows> Task<'a, R> {
         Ok(())
     }
 
-    // A bound that is above the distance of no member of the leaf.
-    fn leaf_bound(&self, index: &Index, leaf: u32) -> u64
+    /// A bound that is above the distance of no member of the leaf.
+    pub(crate) fn leaf_bound(&self, index: &Index, leaf: u32) -> u64
         requires fits { IndexFits self.now.collection self.now.layout index.now }
         requires leaf { leaf < length index.now.leaves }
         ensures { IsBelowLeaf (search_over self.now index.now 1 1) leaf result }

@@ -216,9 +216,7 @@ impl<'a, R: Rows> Worker<'a, R> {
         ensures scanned { (workers : ℕ) (m : Shown) → Shows self.old m
             → Shows self.new (scanned_by (search_of self.old workers) m leaf limit next) }
     {
-        let members = self.index.leaf_members(leaf);
-        let means = self.index.leaf_means(leaf);
-        self.task.scan(members, means, limit, &mut self.list);
+        self.task.scan_boxed(self.index, leaf, limit, &mut self.list);
         self.marks[leaf as usize] = true;
         self.stage = Stage::after_scan(distance_of_worst(&self.list), limit, next);
     }

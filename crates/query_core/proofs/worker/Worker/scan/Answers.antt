@@ -1,34 +1,20 @@
 use Rattle.std.proofs.Common.{◌≡◌, ◌<◌, false, refl, sym, subst, arith}
-use Rattle.subtree_build.proofs.Meaning.{means_of_leaf}
 use Rattle.query_core.specs.Questions.{view_in}
 use Rattle.query_core.specs.Working.{OnwardInRange, is_marked, phase_of}
-use Rattle.query_core.proofs.Homes.{leaf_is_members}
 use Rattle.query_core.proofs.Keeping.{leaf_of_same, scan_keeps}
 use Rattle.query_core.proofs.Showing.{scan_shown_as}
 use Rattle.query_core.proofs.worker.Worker.scan.Goals as goal
-
-pub scan-requires-clause-members : goal.scan-requires-clause-members
-scan-requires-clause-members g c =
-    rw c.leaf_members-members.ensures
-    (leaf_is_members c.self.inside.task.now c.self.inside.index.now c.args.leaf c.self.invariant.searched
-    (leaf_of_same _ c.args.self.now c.args.leaf c.self.view_is c.requires.leaf))
-
-pub scan-requires-clause-means : goal.scan-requires-clause-means
-scan-requires-clause-means g c =
-    rw c.leaf_means-means.ensures
-    (rw c.leaf_members-members.ensures (means_of_leaf _ _ c.self.inside.index.now c.args.leaf c.self.invariant.searched.fits
-    (leaf_of_same _ c.args.self.now c.args.leaf c.self.view_is c.requires.leaf)))
 
 pub invariant_of-self : goal.invariant_of-self
 invariant_of-self g c =
     let inside = c.self.inside in
     let back = sym c.self.view_is in
-    let pairs = c.scan.ensures.pairs inside.index.now 1 inside.queues in
-    scan_keeps inside.start inside.walk inside.list c.scan.new.list inside.stage c.after_scan-self-inside.result _
+    let pairs = c.scan_boxed.ensures.pairs inside.index.now 1 inside.queues in
+    scan_keeps inside.start inside.walk inside.list c.scan_boxed.new.list inside.stage c.after_scan-self-inside.result _
     c.args.leaf c.args.limit c.self.invariant refl
     (leaf_of_same _ c.args.self.now c.args.leaf c.self.view_is c.requires.leaf)
     (subst (λ w. is_marked w.marks c.args.leaf ≡ false) back c.requires.new)
-    c.scan.ensures.k (rw (← c.leaf_members-members.ensures) pairs)
+    c.scan_boxed.ensures.k pairs
     (c.after_scan-self-inside.ensures.range (view_in inside.task.now) inside.index.now inside.queues
     (subst (λ w. OnwardInRange w.queues c.args.next) back c.requires.next))
 
@@ -36,10 +22,10 @@ pub returns-clause-scanned : goal.returns-clause-scanned
 returns-clause-scanned g c workers m shows =
     let inside = c.self.inside in
     let kept = c.self.invariant in
-    let pairs = c.scan.ensures.pairs inside.index.now workers inside.queues in
+    let pairs = c.scan_boxed.ensures.pairs inside.index.now workers inside.queues in
     let leaf = leaf_of_same _ c.args.self.now c.args.leaf c.self.view_is c.requires.leaf in
-    scan_shown_as _ c.args.self.now workers m c.args.leaf c.args.limit c.args.next c.scan.new.list.pairs
-    (phase_of c.after_scan-self-inside.result) c.scan.new.list.k c.distance_of_worst.result c.self.view_is shows
+    scan_shown_as _ c.args.self.now workers m c.args.leaf c.args.limit c.args.next c.scan_boxed.new.list.pairs
+    (phase_of c.after_scan-self-inside.result) c.scan_boxed.new.list.k c.distance_of_worst.result c.self.view_is shows
     (subst (λ n. c.args.leaf < n) (sym kept.marks) leaf) (omega (arith, c.ranges.limit))
-    (rw (← c.leaf_members-members.ensures) pairs) c.scan.ensures.k c.distance_of_worst.ensures
+    pairs c.scan_boxed.ensures.k c.distance_of_worst.ensures
     c.after_scan-self-inside.ensures.phase
