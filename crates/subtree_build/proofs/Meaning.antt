@@ -2,9 +2,9 @@
 -- the members of all leaves holds of all members (`all_cut`), and one more stands behind (`map_push`); the means of a leaf
 -- of an index that fits are those of its members (`means_of_leaf`), one by one (`means_of_one`); and so for finer means; and tables by them are tables (`tables_are`).
 use Rattle.std.proofs.Common.{◌≡◌, ℕ, ◌+◌, ◌-◌, ◌*◌, ◌/◌, ◌%◌, ◌<◌, List, [], ◌∷◌, ◌++◌, length, take, drop, map, get_or, refl, sym, ap, ◌∙◌, subst, arith, All}
-use Rattle.std.proofs.lemmas.List.{length-map, take-append-drop, take-map, drop-map, map-append, take_more, take_all, take-append-le, length-drop, get_or-map, ext_get_or}
+use Rattle.std.proofs.lemmas.List.{length-map, take-append-drop, take-map, drop-map, map-append, take_more, take_all, take-append-le, length-drop, length-take-le, get_or-map, ext_get_or}
+use Rattle.std.proofs.lemmas.List.Concat.{get_or-flat_map}
 use Rattle.std.proofs.lemmas.List.FromFn.{length-map-range_with_len, get_or-map-range_with_len}
-use Rattle.std.proofs.Math.Nat.{mod-lt}
 use Rattle.std.proofs.lemmas.List.Elements.{All-nil, All-append, All-head, All-tail}
 use Rattle.series_core.specs.Collection.{Collection}
 use Rattle.mean_bound.proofs.Parts.{part_few}
@@ -23,7 +23,7 @@ use Rattle.subtree_build.specs.Means.{means_of, all_means, leaf_means, means_at,
 use Rattle.subtree_build.specs.declared.tables.Tables.{Tables}
 use Rattle.subtree_build.specs.Places.{leaves_seen, means_seen, finer_seen, AreTables, AreTablesOf}
 use Rattle.subtree_build.specs.Members.{series_at}
-use Rattle.subtree_build.proofs.Flattened.{length_pieces, drop_pieces, take_pieces, in_pieces, first_piece, drop_at, above_none}
+use Rattle.subtree_build.proofs.Flattened.{length_pieces, drop_pieces, take_pieces, first_piece, drop_at}
 
 -- the means of all members, cut by places, are those of the leaves at the places
 pub means_are_own : (c : Collection) (layout : Layout) (members : List Member) (means : List (List ℕ))
@@ -106,17 +106,20 @@ pub length_finer : (c : Collection) (members : List Member)
     → length (all_finer c members) ≡ length members * part_count (finer_points c)
 length_finer c members = length_pieces (finer_of c) (part_count (finer_points c)) (finer_long c) members
 
--- the cells at a place are those of a part of a member
-pub finer_there : (c : Collection) (members : List Member) (i : ℕ) (m : Member)
-    → i < length members * part_count (finer_points c) → m ≡ get_or members (i / part_count (finer_points c)) m
-    → part_cells (finer_points c) (series_at c m.number) (i % part_count (finer_points c)) ≡ get_or (all_finer c members) i no_cells
-finer_there c members i m low item =
+-- the cells of part p of a member stand p places behind those of the members before it
+pub finer_place : (c : Collection) (members : List Member) (i p : ℕ) (m : Member) → i < length members
+    → p < part_count (finer_points c) → m ≡ get_or members i m
+    → part_cells (finer_points c) (series_at c m.number) p
+    ≡ get_or (all_finer c members) (i * part_count (finer_points c) + p) no_cells
+finer_place c members i p m inside low item =
     let n = part_count (finer_points c) in
-    let some : 0 < n = above_none (length members) n i low in
-    ap (λ (x : Member). part_cells (finer_points c) (series_at c x.number) (i % n)) item
-    ∙ sym (get_or-map-range_with_len (part_cells (finer_points c) (series_at c (get_or members (i / n) m).number)) 0 n (i % n)
-    (i % n) no_cells (mod-lt i some) (omega arith))
-    ∙ sym (in_pieces (finer_of c) n (finer_long c) members i m no_cells low)
+    let own = get_or members i m in
+    let before : length (all_finer c (take i members)) ≡ i * n
+    = length_finer c (take i members) ∙ ap (λ k. k * n) (length-take-le i members (omega arith)) in
+    ap (λ (x : Member). part_cells (finer_points c) (series_at c x.number) p) item
+    ∙ sym (get_or-map-range_with_len (part_cells (finer_points c) (series_at c own.number)) 0 n p p no_cells low (omega arith))
+    ∙ sym (get_or-flat_map (finer_of c) members i p m no_cells inside (omega (arith, low, finer_long c own)))
+    ∙ ap (λ k. get_or (all_finer c members) (k + p) no_cells) before
 
 -- the finer means of all members, cut by places, are those of the leaves at the places
 pub finer_are_own : (c : Collection) (members : List Member) (finer : List Cells) (places : List LeafPlace)

@@ -1,5 +1,5 @@
 -- The means and the finer means of members: those of their series' segments, member by member and leaf by leaf.
-use Rattle.std.specs.Prelude.{ℕ, ◌*◌, List, [], cond, length, ltb, map, slice_index_or}
+use Rattle.std.specs.Prelude.{ℕ, ◌≡◌, ◌*◌, ◌^◌, ◌<◌, All, List, [], cond, length, ltb, map, slice_index_or}
 use Rattle.std.specs.List.{flat_map}
 use Rattle.series_core.specs.Collection.{Collection}
 use Rattle.series_core.specs.declared.rows.TheConstants.{MAX_VALUES}
@@ -7,7 +7,7 @@ use Rattle.isax_word.specs.declared.layout.Layout.{Layout}
 use Rattle.isax_word.specs.declared.member.Member.{Member}
 use Rattle.mean_bound.specs.Means.{row_means}
 use Rattle.mean_bound.specs.Cells.{Cells}
-use Rattle.mean_bound.specs.Finer.{finer_means}
+use Rattle.mean_bound.specs.Finer.{finer_means, part_count}
 use Rattle.subtree_build.specs.declared.leaf.TreeLeaf.{TreeLeaf}
 use Rattle.subtree_build.specs.Members.{series_at}
 
@@ -47,3 +47,20 @@ leaf_finer c x = all_finer c x.members
 -- the finer means that stand for leaf l
 abbrev pub finer_at : List (List Cells) → ℕ → List Cells
 finer_at finer l = slice_index_or finer l []
+
+-- members, each a series of a collection whose length is that of the layout, and that many places for their means, and for the finer
+-- means that rows cut by a length have
+pub record HavePlaces (c : Collection) (layout : Layout) (cuts : ℕ) (members : List Member) (means : List (List ℕ))
+    (finer : List Cells) : Type 0 where
+  pub row_length : layout.cuts.row_length ≡ c.points
+  pub cut_length : cuts ≡ finer_points c
+  pub series : All (λ m. m.number < length c.series) members
+  pub few : length members < 2 ^ 32
+  pub means_places : length means ≡ length members
+  pub finer_places : length finer ≡ length members * part_count cuts
+
+-- the means and the finer means of members stand at their places
+pub record AreFilled (c : Collection) (layout : Layout) (members : List Member) (means : List (List ℕ)) (finer : List Cells)
+    : Type 0 where
+  pub own_means : means ≡ all_means c layout members
+  pub own_finer : finer ≡ all_finer c members

@@ -1,62 +1,99 @@
 //! The means of members and their finer means, in the order of the members. Workers make them side by side, each for a
-//! stretch of members, so that a row is read once for either.
-ghost use Rattle.std.specs.Prelude.{◌≡◌, ℕ, ◌*◌, ◌^◌, ◌<◌, ◌≤◌, [], All, IfOk, length, slice_index_or};
+//! stretch of members, and a row is fetched once for both: rows lie in another order, and building waits for them most.
+ghost use Rattle.std.specs.Prelude.{◌≡◌, ◌+◌, ◌*◌, ◌^◌, ◌<◌, ◌≤◌, [], All, IfOk, length, slice_index_or};
 ghost use Rattle.mean_bound.specs.Cells.{no_cells};
-ghost use Rattle.mean_bound.specs.Finer.{part_cells, part_count};
-ghost use Rattle.subtree_build.specs.Means.{all_finer, all_means, finer_points};
-ghost use Rattle.subtree_build.specs.Members.{series_at};
+ghost use Rattle.mean_bound.specs.Finer.{part_count};
+ghost use Rattle.std.specs.Thread.{IsSync};
+ghost use Rattle.subtree_build.specs.Means.{AreFilled, HavePlaces, all_finer, all_means, finer_points};
 
 use isax_word::Layout;
 use mean_bound::{FinerCuts, MeanCells, Means};
 use outside::NoMemory;
 use series_core::{MAX_VALUES, Rows};
 use std::alloc::Global;
-use std::thread;
-use std::thread::Threads;
+use std::thread::{Threads, join_mut};
 use summary_phase::Member;
 
-/// The means of members, each of which is a series of the rows.
+/// The means of members, each of which is a series of the rows, and their finer means: one `MeanCells` for each part of a series.
 pub(crate) fn means_of_all<H: Threads + Sync, R: Rows + Sync>(
     rt: &H,
     alloc: Global,
     rows: &R,
     layout: &Layout,
+    cuts: &FinerCuts,
     members: &[Member],
     workers: u32,
-) -> Result<Vec<Means>, NoMemory>
+) -> Result<(Vec<Means>, Vec<MeanCells>), NoMemory>
     requires length { layout.now.cuts.row_length ≡ (R.collection rows.now).points }
+    requires cuts { cuts.now ≡ finer_points (R.collection rows.now) }
     requires series { All (λ m. m.number < length (R.collection rows.now).series) members.now }
-    requires some { 1 ≤ workers }
-    ensures { IfOk result (λ means. means.items ≡ all_means (R.collection rows.now) layout.now members.now) }
+    requires few { length members.now < 2 ^ 32 }
+    ensures means { IfOk result (λ r. r.0.items ≡ all_means (R.collection rows.now) layout.now members.now) }
+    ensures finer { IfOk result (λ r. r.1.items ≡ all_finer (R.collection rows.now) members.now) }
 {
     let mut means = vec![in alloc; Means::zeros(); members.len()]?;
-    fill_means(rt, rows, layout, members, workers, means.as_mut_slice());
-    Ok(means)
+    let mut finer = vec![in alloc; MeanCells::zeros(); members.len() * cuts.parts() as usize]?;
+    fill(rt, rows, layout, cuts, members, workers, means.as_mut_slice(), finer.as_mut_slice());
+    Ok((means, finer))
 }
 
-/// Puts the means of each member at its place.
-fn fill_means<H: Threads + Sync, R: Rows + Sync>(
+/// Puts the means and the finer means of members at their places, by so many workers, each for a stretch of members.
+#[cycle(stretches)]
+fn fill<H: Threads + Sync, R: Rows + Sync>(
     rt: &H,
     rows: &R,
     layout: &Layout,
+    cuts: &FinerCuts,
     members: &[Member],
     workers: u32,
     means: &mut [Means],
+    finer: &mut [MeanCells],
 )
-    requires length { layout.now.cuts.row_length ≡ (R.collection rows.now).points }
-    requires series { All (λ m. m.number < length (R.collection rows.now).series) members.now }
-    requires some { 1 ≤ workers }
-    requires places { length means.old ≡ length members.now }
-    ensures len { length means.new ≡ length means.old }
-    ensures each { (i : ℕ) (d : Means) → i < length means.old
-        → slice_index_or means.new i d ≡ slice_index_or (all_means (R.collection rows.now) layout.now members.now) i [] }
+    requires { HavePlaces (R.collection rows.now) layout.now cuts.now members.now means.old finer.old }
+    ensures { AreFilled (R.collection rows.now) layout.now members.now means.new finer.new }
 {
-    thread::for_each_mut(
-        rt,
-        means,
-        workers as usize,
-        &|i, place| *place = means_at(rows, layout, members, i),
-    );
+    if workers < 2 {
+        fill_in_turn(rows, layout, cuts, members, means, finer);
+        return;
+    }
+    let half = workers / 2;
+    let rest = workers - half;
+    let mid = members.len() * half as usize / workers as usize;
+    let (low, high) = members.split_at(mid);
+    let (low_means, high_means) = means.split_at_mut(mid);
+    let (low_finer, high_finer) = finer.split_at_mut(mid * cuts.parts() as usize);
+    let mut front = ||
+        requires { IsSync H.row × IsSync R.row
+            × HavePlaces (R.collection rows.now) layout.now cuts.now low.now low_means.now low_finer.now }
+        ensures { AreFilled (R.collection rows.entry.now) layout.entry.now low.entry.now low_means.exit.now low_finer.exit.now }
+    { fill(rt, rows, layout, cuts, low, half, low_means, low_finer) };
+    let mut back = ||
+        requires { IsSync H.row × IsSync R.row
+            × HavePlaces (R.collection rows.now) layout.now cuts.now high.now high_means.now high_finer.now }
+        ensures { AreFilled (R.collection rows.entry.now) layout.entry.now high.entry.now high_means.exit.now high_finer.exit.now }
+    { fill(rt, rows, layout, cuts, high, rest, high_means, high_finer) };
+    join_mut(rt, &mut front, &mut back);
+}
+
+/// Puts the means and the finer means of members at their places, member by member, so that each row is fetched once.
+fn fill_in_turn<R: Rows>(
+    rows: &R,
+    layout: &Layout,
+    cuts: &FinerCuts,
+    members: &[Member],
+    means: &mut [Means],
+    finer: &mut [MeanCells],
+)
+    requires { HavePlaces (R.collection rows.now) layout.now cuts.now members.now means.old finer.old }
+    ensures { AreFilled (R.collection rows.now) layout.now members.now means.new finer.new }
+{
+    let parts = cuts.parts() as usize;
+    for i in 0..members.len() {
+        means[i] = means_at(rows, layout, members, i);
+        for part in 0..parts {
+            finer[i * parts + part] = finer_at(rows, cuts, members, i, part as u32);
+        }
+    }
 }
 
 /// The means of member `i`.
@@ -87,71 +124,16 @@ pub fn finer_length<R: Rows>(rows: &R) -> u32
     }
 }
 
-/// The finer means of members, each of which is a series of the rows: one `MeanCells` for each part of it.
-pub(crate) fn finer_of_all<H: Threads + Sync, R: Rows + Sync>(
-    rt: &H,
-    alloc: Global,
-    rows: &R,
-    cuts: &FinerCuts,
-    members: &[Member],
-    workers: u32,
-) -> Result<Vec<MeanCells>, NoMemory>
-    requires length { cuts.now ≡ finer_points (R.collection rows.now) }
+/// The cells of part `part` of member `i`.
+fn finer_at<R: Rows>(rows: &R, cuts: &FinerCuts, members: &[Member], i: usize, part: u32) -> MeanCells
+    requires cuts { cuts.now ≡ finer_points (R.collection rows.now) }
     requires series { All (λ m. m.number < length (R.collection rows.now).series) members.now }
-    requires few { length members.now < 2 ^ 32 }
-    requires some { 1 ≤ workers }
-    ensures { IfOk result (λ finer. finer.items ≡ all_finer (R.collection rows.now) members.now) }
-{
-    let mut finer = vec![in alloc; MeanCells::zeros(); members.len() * cuts.parts() as usize]?;
-    fill_finer(rt, rows, cuts, members, workers, finer.as_mut_slice());
-    Ok(finer)
-}
-
-/// Puts the cells of each part of each member at their place.
-fn fill_finer<H: Threads + Sync, R: Rows + Sync>(
-    rt: &H,
-    rows: &R,
-    cuts: &FinerCuts,
-    members: &[Member],
-    workers: u32,
-    finer: &mut [MeanCells],
-)
-    requires length { cuts.now ≡ finer_points (R.collection rows.now) }
-    requires series { All (λ m. m.number < length (R.collection rows.now).series) members.now }
-    requires some { 1 ≤ workers }
-    requires places { length finer.old ≡ length members.now * part_count cuts.now }
-    ensures len { length finer.new ≡ length finer.old }
-    ensures each { (i : ℕ) (d : MeanCells) → i < length finer.old
-        → slice_index_or finer.new i d ≡ slice_index_or (all_finer (R.collection rows.now) members.now) i no_cells }
-{
-    thread::for_each_mut(
-        rt,
-        finer,
-        workers as usize,
-        &|i, place| *place = finer_at(rows, cuts, members, i),
-    );
-}
-
-/// The cells at place `i`: those of the part whose number is `i` by the number of parts, of the member before it.
-fn finer_at<R: Rows>(rows: &R, cuts: &FinerCuts, members: &[Member], i: usize) -> MeanCells
-    requires length { cuts.now ≡ finer_points (R.collection rows.now) }
-    requires series { All (λ m. m.number < length (R.collection rows.now).series) members.now }
-    requires inside { i < length members.now * part_count cuts.now }
-    ensures { result ≡ slice_index_or (all_finer (R.collection rows.now) members.now) i no_cells }
-{
-    let parts = cuts.parts() as usize;
-    let part = (i % parts) as u32;
-    cells_of_part(rows, cuts, &members[i / parts], part)
-}
-
-/// The cells of the means of one part of a member.
-fn cells_of_part<R: Rows>(rows: &R, cuts: &FinerCuts, member: &Member, part: u32) -> MeanCells
-    requires length { cuts.now ≡ finer_points (R.collection rows.now) }
-    requires series { member.now.number < length (R.collection rows.now).series }
+    requires inside { i < length members.now }
     requires part { part < part_count cuts.now }
-    ensures { result ≡ part_cells cuts.now (series_at (R.collection rows.now) member.now.number) part }
+    ensures { let place = i * part_count cuts.now + part in
+        result ≡ slice_index_or (all_finer (R.collection rows.now) members.now) place no_cells }
 {
     // for the fact that the rows are a collection
     let _count = rows.count();
-    cuts.cells(rows.row(member.number), part)
+    cuts.cells(rows.row(members[i].number), part)
 }

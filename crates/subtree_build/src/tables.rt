@@ -4,7 +4,7 @@ ghost use Rattle.subtree_build.specs.Places.{AreTables, AreTablesOf, IsPlace};
 
 use crate::boxes::{Boxes, boxes_of};
 use crate::leaf::LeafPlace;
-use crate::means::{finer_length, finer_of_all, means_of_all};
+use crate::means::{finer_length, means_of_all};
 use isax_word::Layout;
 use mean_bound::{FinerCuts, MeanCells, Means};
 use outside::NoMemory;
@@ -40,8 +40,7 @@ pub(crate) fn tables_of<H: Threads + Sync, R: Rows + Sync>(
     ensures { IfOk result (AreTablesOf (R.collection rows.now) layout.now members.now places.now) }
 {
     let cuts = FinerCuts::new(finer_length(rows));
-    let means = means_of_all(rt, alloc, rows, layout, members, workers)?;
-    let finer = finer_of_all(rt, alloc, rows, &cuts, members, workers)?;
+    let (means, finer) = means_of_all(rt, alloc, rows, layout, &cuts, members, workers)?;
     let boxes = boxes_of(alloc, means.as_slice(), places)?;
     Ok(Tables {
         means,
