@@ -168,6 +168,33 @@ fn words_of_parts(rt: HostRuntime) -> Result<(), Fail> {
 }
 
 #[test]
+fn symbols_of_prefixes(rt: HostRuntime) -> Result<(), Fail> {
+    let rows: [([u8; 2], [u8; 2], [u8; 3], [u8; 3]); 4] = [
+        ([0, 1], [1, 1], [0, 128, 0], [127, 255, 0]),
+        ([1, 5], [2, 3], [64, 160, 0], [127, 191, 0]),
+        ([255, 0], [8, 8], [255, 0, 0], [255, 0, 0]),
+        ([127, 3], [7, 2], [254, 192, 0], [255, 255, 0]),
+    ];
+    for (prefixes, bits, firsts, lasts) in rows {
+        let word = Word::of_parts(&prefixes, &bits);
+        assert!(rt; word.is_some(), "{prefixes:?} at {bits:?} bits make a word");
+        if let Some(word) = word {
+            assert_eq!(rt;
+                &word.first_symbols()[..3],
+                &firsts[..],
+                "the least of {prefixes:?} at {bits:?} bits"
+            );
+            assert_eq!(rt;
+                &word.last_symbols()[..3],
+                &lasts[..],
+                "the greatest of {prefixes:?} at {bits:?} bits"
+            );
+        }
+    }
+    Ok(())
+}
+
+#[test]
 fn a_row_goes_down_by_its_bits(rt: HostRuntime) -> Result<(), Fail> {
     let layout = Layout {
         cuts: Cuts::new(2, 2),

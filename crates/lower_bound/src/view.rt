@@ -71,7 +71,11 @@ impl QueryView {
         ensures value { result ≡ word_bound self.now word.now }
         ensures small { result < 2 ^ 49 }
     {
-        let nearest = nearest_symbols(self.full.symbols(), word.first_symbols(), word.last_symbols());
+        let nearest = nearest_symbols(
+            self.full.symbols(),
+            word.first_symbols(),
+            word.last_symbols(),
+        );
         let mut bound = 0;
         for j in 0..16 {
             bound += self.costs[j][nearest[j] as usize];

@@ -54,7 +54,12 @@ impl<'a, R: Rows> Task<'a, R> {
         if self.leaf_bound(index, leaf) > most_to_add(limit, list) {
             return;
         }
-        self.scan(index.leaf_members(leaf), index.leaf_means(leaf), limit, list);
+        self.scan(
+            index.leaf_members(leaf),
+            index.leaf_means(leaf),
+            limit,
+            list,
+        );
     }
 
     /// Adds the member's pair where it is near and its distance is at most `most`, and tells what is then the most.

@@ -216,7 +216,8 @@ impl<'a, R: Rows> Worker<'a, R> {
         ensures scanned { (workers : ℕ) (m : Shown) → Shows self.old m
             → Shows self.new (scanned_by (search_of self.old workers) m leaf limit next) }
     {
-        self.task.scan_boxed(self.index, leaf, limit, &mut self.list);
+        self.task
+            .scan_boxed(self.index, leaf, limit, &mut self.list);
         self.marks[leaf as usize] = true;
         self.stage = Stage::after_scan(distance_of_worst(&self.list), limit, next);
     }

@@ -33,7 +33,16 @@ pub(crate) fn means_of_all<H: Threads + Sync, R: Rows + Sync>(
 {
     let mut means = vec![in alloc; Means::zeros(); members.len()]?;
     let mut finer = vec![in alloc; MeanCells::zeros(); members.len() * cuts.parts() as usize]?;
-    fill(rt, rows, layout, cuts, members, workers, means.as_mut_slice(), finer.as_mut_slice());
+    fill(
+        rt,
+        rows,
+        layout,
+        cuts,
+        members,
+        workers,
+        means.as_mut_slice(),
+        finer.as_mut_slice(),
+    );
     Ok((means, finer))
 }
 
@@ -125,7 +134,13 @@ pub fn finer_length<R: Rows>(rows: &R) -> u32
 }
 
 /// The cells of part `part` of member `i`.
-fn finer_at<R: Rows>(rows: &R, cuts: &FinerCuts, members: &[Member], i: usize, part: u32) -> MeanCells
+fn finer_at<R: Rows>(
+    rows: &R,
+    cuts: &FinerCuts,
+    members: &[Member],
+    i: usize,
+    part: u32,
+) -> MeanCells
     requires cuts { cuts.now ≡ finer_points (R.collection rows.now) }
     requires series { All (λ m. m.number < length (R.collection rows.now).series) members.now }
     requires inside { i < length members.now }
