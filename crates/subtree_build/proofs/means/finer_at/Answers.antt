@@ -30,7 +30,8 @@ returns g c =
     let p = c.args.part in
     let points = c.requires.cuts in
     c.cells.ensures
-    ∙ ap (λ (xs : List ℤ). part_cells c.args.cuts.now xs p) (sym (get_or_from_slice_get all.series m.number c.row.result.now [] c.row.ensures))
+    ∙ ap (λ (xs : List ℤ). part_cells c.args.cuts.now xs p)
+    (sym (get_or_from_slice_get all.series m.number c.row.result.now [] c.row.ensures))
     ∙ ap (λ n. part_cells n (series_at all m.number) p) points
     ∙ finer_place all members i p m c.requires.inside (subst (λ n. p < part_count n) points c.requires.part) (ap (λ (x : Member). get_or members i x) c.index-members-i.is)
     ∙ ap (λ n. get_or (all_finer all members) (i * part_count n + p) no_cells) (sym points)
