@@ -29,6 +29,7 @@ pub mod Placed
 pub mod InRow
 pub mod Meaning
 pub mod Gathering
+pub mod SideBySide
 pub mod Spliced
 pub mod Placing
 pub mod Rooting

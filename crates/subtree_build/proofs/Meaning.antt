@@ -1,7 +1,7 @@
 -- Means in the order of all members: cut by the places of leaves they are those of the leaves (`means_are_own`), what holds of
 -- the members of all leaves holds of all members (`all_cut`), and one more stands behind (`map_push`); the means of a leaf
 -- of an index that fits are those of its members (`means_of_leaf`), one by one (`means_of_one`); and so for finer means; and tables by them are tables (`tables_are`).
-use Rattle.std.proofs.Common.{◌≡◌, ℕ, ◌+◌, ◌-◌, ◌*◌, ◌/◌, ◌%◌, ◌<◌, List, [], ◌∷◌, ◌++◌, length, take, drop, map, get_or, refl, sym, ap, ◌∙◌, subst, arith, All}
+use Rattle.std.proofs.Common.{◌≡◌, ℕ, ◌+◌, ◌-◌, ◌*◌, ◌<◌, List, [], ◌∷◌, ◌++◌, length, take, drop, map, get_or, refl, sym, ap, ◌∙◌, subst, arith, All}
 use Rattle.std.proofs.lemmas.List.{length-map, take-append-drop, take-map, drop-map, map-append, take_more, take_all, take-append-le, length-drop, length-take-le, get_or-map, ext_get_or}
 use Rattle.std.proofs.lemmas.List.Concat.{get_or-flat_map}
 use Rattle.std.proofs.lemmas.List.FromFn.{length-map-range_with_len, get_or-map-range_with_len}

@@ -1,5 +1,5 @@
 -- The means and the finer means of members: those of their series' segments, member by member and leaf by leaf.
-use Rattle.std.specs.Prelude.{ℕ, ◌≡◌, ◌*◌, ◌^◌, ◌<◌, All, List, [], cond, length, ltb, map, slice_index_or}
+use Rattle.std.specs.Prelude.{ℕ, ℤ, ◌≡◌, ◌*◌, ◌^◌, ◌<◌, All, List, [], cond, length, ltb, map, slice_index_or}
 use Rattle.std.specs.List.{flat_map}
 use Rattle.series_core.specs.Collection.{Collection}
 use Rattle.series_core.specs.declared.rows.TheConstants.{MAX_VALUES}
@@ -47,6 +47,10 @@ leaf_finer c x = all_finer c x.members
 -- the finer means that stand for leaf l
 abbrev pub finer_at : List (List Cells) → ℕ → List Cells
 finer_at finer l = slice_index_or finer l []
+
+-- the values of members' series, one series after another
+abbrev pub all_values : Collection → List Member → List ℤ
+all_values c members = flat_map (λ m. series_at c m.number) members
 
 -- members, each a series of a collection whose length is that of the layout, and that many places for their means, and for the finer
 -- means that rows cut by a length have

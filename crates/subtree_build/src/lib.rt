@@ -4,6 +4,7 @@
 mod assembly;
 mod boxes;
 mod building;
+mod fetched;
 mod index;
 mod laws;
 mod leaf;
