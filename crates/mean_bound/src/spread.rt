@@ -91,5 +91,5 @@ pub(crate) fn root_of(n: u64) -> u16
     requires { n < 4294967296 }
     ensures { result ≡ root n }
 {
-    n.isqrt() as u16
+    (n as u32).isqrt() as u16
 }
