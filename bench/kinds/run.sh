@@ -24,7 +24,7 @@ kind() {
     # a line is 'name: microseconds (checksum)'
     awk -F'[:(]' '{ time = $2 + 0; if (!($1 in least) || time < least[$1]) least[$1] = time; checks[$1] = $3 }
         END { for (line in least) { print line ": " least[line] " (" checks[line];
-            if (line ~ /search$/) own = least[line]; else if (line !~ /build$/ && (!best || least[line] < best)) best = least[line] }
+            if (line ~ /search$/) own = least[line]; else if (line !~ /(build|outcome)$/ && (!best || least[line] < best)) best = least[line] }
             printf "    the best scan takes %.2f times as long\n", best / own }' "$work/times" | sort -r
 }
 

@@ -1,8 +1,9 @@
--- What a bound above the radius rules out: of a member's means that member (`far_member`), of a leaf's all of it (`far_leaf`),
--- and of a root child's all below it (`far_root`).
-use Rattle.std.proofs.Common.{append-nil, ◌≡◌, ℕ, ℤ, ◌<◌, ◌≤◌, List, [], ◌∷◌, ◌++◌, All, Some, length, refl, sym, ap, ◌∙◌, subst, true, false, arith}
+-- What a bound above the radius rules out: of a member's means that member (`far_member`), of the box of a leaf's means all of it
+-- (`far_leaf`), and of a root child's all below it (`far_root`).
+use Rattle.std.proofs.Common.{◌≡◌, ℕ, ℤ, ◌<◌, ◌≤◌, List, [], ◌∷◌, ◌++◌, All, Some, length, get_or, refl, sym, ap, ◌∙◌, subst, true, false, arith}
 use Rattle.std.specs.Prelude.{slice_get, slice_index}
 use Rattle.std.proofs.lemmas.Bool.{cond-true, cond-false, le-leb, lt-leb}
+use Rattle.std.proofs.lemmas.List.{get_or-map, length-map}
 use Rattle.std.proofs.lemmas.List.Concat.{flat_map-append}
 use Rattle.std.proofs.lemmas.List.Elements.{All-head, All-tail}
 use Rattle.std.proofs.lemmas.Option.{get_or_from_slice_get}
@@ -14,6 +15,8 @@ use Rattle.isax_word.proofs.Words.{IsWord-child_word}
 use Rattle.lower_bound.specs.Bound.{View, view_of, word_bound}
 use Rattle.lower_bound.proofs.Bounds.{child_bound}
 use Rattle.mean_bound.proofs.BelowDistances.{mean_bound_below}
+use Rattle.mean_bound.proofs.Boxes.{box_below}
+use Rattle.mean_bound.specs.Boxes.{box_bound, box_of}
 use Rattle.mean_bound.specs.Means.{row_means}
 use Rattle.mean_bound.specs.MeanBound.{mean_bound, mean_view_of}
 use Rattle.isax_word.specs.declared.member.Member.{Member}
@@ -24,8 +27,10 @@ use Rattle.subtree_build.specs.Outline.{outline}
 use Rattle.subtree_build.specs.Start.{node_at, root_bound}
 use Rattle.isax_word.proofs.Roots.{IsWord-one_bit_word}
 use Rattle.std.proofs.lemmas.Option.{slice_get-get_or}
+use Rattle.subtree_build.specs.Means.{all_means, means_at, means_of}
 use Rattle.subtree_build.specs.Members.{series_at}
-use Rattle.subtree_build.proofs.Bounds.{members_no_nearer}
+use Rattle.subtree_build.proofs.Bounds.{member_is_series, members_no_nearer}
+use Rattle.subtree_build.proofs.Meaning.{means_of_leaf}
 use Rattle.range_query.specs.Near.{Asked, IsAsked, near_series, near_members, near_leaf, near_leaves, near_root}
 
 -- a row that is lent is the series
@@ -68,15 +73,22 @@ module _ (a : Asked) (ix : IndexParts) (view : View) (is : IsAsked a ix view) wh
       ap (λ (xs : List ℤ). length xs) (sym (series_is_row a i row there))
       ∙ (is.collection.each i [] low).points ∙ is.points ∙ sym is.query
 
+  -- a series lies at its bound by its means or farther
+  mean_is_below : (i : ℕ) → i < length a.collection.series
+      → mean_bound (mean_view_of view.layout.cuts a.query) (row_means view.layout.cuts (series_at a.collection i))
+      ≤ squared_distance (series_at a.collection i) a.query
+  mean_is_below i low =
+      let series = series_at a.collection i in
+      let whole = is.collection.each i [] low in
+      let long : length series ≡ view.layout.cuts.row_length = whole.points ∙ is.points in
+      mean_bound_below view.layout.cuts series a.query is.cuts long is.query whole.values is.values
+
   -- a member whose bound by its means is above the radius is not near
   pub far_member : (i : ℕ) (means : List ℕ) → i < length a.collection.series
       → means ≡ row_means view.layout.cuts (series_at a.collection i)
       → a.radius < mean_bound (mean_view_of view.layout.cuts a.query) means → near_series a i ≡ []
   far_member i means low own above =
-      let series = series_at a.collection i in
-      let whole = is.collection.each i [] low in
-      let long : length series ≡ view.layout.cuts.row_length = whole.points ∙ is.points in
-      let below = mean_bound_below view.layout.cuts series a.query is.cuts long is.query whole.values is.values in
+      let below = mean_is_below i low in
       let same = ap (mean_bound (mean_view_of view.layout.cuts a.query)) own in
       far_series a i (omega arith)
 
@@ -118,9 +130,17 @@ module _ (a : Asked) (ix : IndexParts) (view : View) (is : IsAsked a ix view) wh
       (is.index.roots_fit i 0 inside))
       (is.index.nodes_stand i (node_at ix i) (slice_get-get_or ix.nodes i (Leaf 0) low)) above
 
-  -- in a leaf whose bound is above the radius nothing is near
-  pub far_leaf : (l : ℕ) → l < length ix.leaves → IsWord (leaf_at ix.leaves l).word
-      → a.radius < word_bound view (leaf_at ix.leaves l).word → near_leaf a ix.leaves l ≡ []
-  far_leaf l inside kept above =
-      sym (append-nil (near_leaf a ix.leaves l))
-      ∙ far_below (leaf_at ix.leaves l).word (leaf l) kept (inside, refl) above
+  -- in a leaf whose box has a bound above the radius nothing is near
+  pub far_leaf : (l : ℕ) → l < length ix.leaves
+      → a.radius < box_bound (mean_view_of view.layout.cuts a.query) (box_of (means_at ix.means l)) → near_leaf a ix.leaves l ≡ []
+  far_leaf l inside above =
+      let c = a.collection in
+      let seen = mean_view_of view.layout.cuts a.query in
+      let members = (leaf_at ix.leaves l).members in
+      let all = all_means c view.layout members in
+      let own = ap (λ (ms : List (List ℕ)). box_bound seen (box_of ms)) (means_of_leaf c view.layout ix l is.fits inside) in
+      far_members a members (λ k d there.
+      let low = member_is_series c view.layout ix l k d is.fits inside there in
+      let inner = box_below seen all k (omega (arith, there, length-map members (means_of c view.layout))) in
+      let one = ap (mean_bound seen) (get_or-map (means_of c view.layout) members k d [] there) in
+      omega (arith, above, own, inner, one, mean_is_below (get_or members k d).number low))

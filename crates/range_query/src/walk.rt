@@ -1,5 +1,5 @@
-//! The walk over one root child: it is cut where its bound is above the radius, and so is each leaf below it; the members of
-//! the leaves that remain are tested by the bounds of their means and then by their distances.
+//! The walk over one root child: it is cut where its bound is above the radius, and so is each leaf below it, by the box of its
+//! means; the members of the leaves that remain are tested by the bounds of their means and then by their distances.
 ghost use Rattle.std.specs.Prelude.{◌≡◌, ◌<◌, ◌++◌, [], OnOk, length, true};
 ghost use Rattle.std.specs.Option.{option_to_list};
 ghost use Rattle.subtree_build.specs.Means.{means_of};
@@ -55,15 +55,13 @@ impl<'a, R: Rows> Search<'a, R> {
         }
     }
 
-    /// Whether the bound of a leaf is above the radius; then none of its members is near.
+    /// Whether the bound of the box of a leaf's means is above the radius; then none of its members is near.
     fn is_cut(&self, leaf: u32) -> bool
         requires ready { IsReady R.collection self.now }
         requires leaf { leaf < length self.now.index.now.leaves }
         ensures { result ≡ true → near_leaf (asked_of R.collection self.now) self.now.index.now.leaves leaf ≡ [] }
     {
-        let word = self.index.leaf_word(leaf);
-        let _segments = word.segments();
-        self.view.bound_word(word) > self.radius
+        self.means.bound_box(self.index.leaf_box(leaf)) > self.radius
     }
 
     /// Puts the pairs of a leaf's members that are within the radius behind those that were found. There is none where the
