@@ -1,5 +1,5 @@
--- What one member makes of a list: one whose distance is above the limit or above the k-th pair leaves it (`meet_far`),
--- as one whose bound by its means is (`meet_above`), and any other is added (`meet_near`); so series are scanned one by one
+-- What one member makes of a list: one whose distance is above the limit or above the k-th pair leaves it (`meet_far`), and any
+-- other is added (`meet_near`); so series are scanned one by one
 -- (`IsScanning`, `one_scanned`, `member_scanned`), and members that are all farther leave a list as it is (`far_scanned`), as do
 -- those of a leaf whose bound is above (`beyond_members`).
 use Rattle.std.proofs.Common.{◌≡◌, ℕ, zero, suc, ◌<◌, ◌≤◌, ℤ, List, [], ◌∷◌, ◌++◌, ◌+◌, length, take, get_or, refl, sym, ap, ◌∙◌, subst, arith}
@@ -59,18 +59,6 @@ module _ (a : Question) (m : Member) (best : Best) (limit most : ℕ) (question 
       (distance_small a m.number question member.series)
       (omega (arith, far, may.most_is, leb-true (far_is a m.number) limit within)))))
       (λ _. refl)
-
-  -- and so is one whose bound by its means is above
-  pub meet_above : (means : List ℕ) → means ≡ means_of a.collection a.layout m
-      → most < mean_bound (mean_view_of a.layout.cuts a.query) means → IsScannedOne a limit m.number best.pairs best.pairs
-  meet_above means own above =
-      let series = series_at a.collection m.number in
-      let whole = question.collection.each m.number [] member.series in
-      let long : length series ≡ a.layout.cuts.row_length = whole.points ∙ question.points in
-      let below =
-      mean_bound_below a.layout.cuts series a.query question.cuts long question.query whole.values question.values in
-      let same = ap (mean_bound (mean_view_of a.layout.cuts a.query)) own in
-      meet_far (omega arith)
 
   -- any other is added
   pub meet_near : (d : ℕ) (more : List Pair) → d ≡ far_is a m.number → d ≤ most

@@ -30,8 +30,7 @@ impl<'a, R: Rows> Task<'a, R> {
         let Some(leaf) = index.start_leaf(self.view()) else {
             return Ok((None, list));
         };
-        let members = index.leaf_members(leaf);
-        self.scan(members, index.leaf_means(leaf), NONE, &mut list);
+        self.scan_leaf(index, leaf, NONE, &mut list);
         let limit = distance_of_worst(&list);
         Ok((Some(Start { leaf, limit }), list))
     }

@@ -1,12 +1,11 @@
-//! Scanning a leaf: a member is passed over by its means, or for the answer alone by its finer means too, or else measured; and a
-//! whole leaf by the box of its means.
+//! Scanning a leaf: a member is passed over by its means, or else by its finer means, or else measured; and a whole leaf by the box of
+//! its means. A row that is passed over is not read.
 ghost use Rattle.std.specs.Prelude.{◌≡◌, ◌+◌, ◌*◌, ◌<◌, ◌≤◌, false, length, take, drop};
 ghost use Rattle.series_core.specs.Distance.{squared_distance};
 ghost use Rattle.subtree_build.specs.Fits.{Fits as IndexFits};
 ghost use Rattle.subtree_build.specs.Means.{finer_of, means_of};
 ghost use Rattle.subtree_build.specs.Members.{series_at};
-ghost use Rattle.search_machine.specs.Ground.{scan};
-ghost use Rattle.query_core.specs.Questions.{IsQuestion, search_over, IsMemberOf, leaf_series};
+ghost use Rattle.query_core.specs.Questions.{IsQuestion, IsMemberOf, leaf_series};
 ghost use Rattle.query_core.specs.Scanning.{AreScanned, IsScannedOne, MayAdd};
 
 use crate::index_laws::search_law;
@@ -25,8 +24,7 @@ impl<'a, R: Rows> Task<'a, R> {
         requires leaf { leaf < length index.now.leaves }
         requires k { list.old.k ≡ self.now.k }
         ensures k { list.new.k ≡ self.now.k }
-        ensures pairs { list.new.pairs
-            ≡ scan (search_over self.now index.now 1 1) limit (leaf_series index.now leaf) list.old.pairs }
+        ensures pairs { AreScanned self.now limit (leaf_series index.now leaf) list.old.pairs list.new.pairs }
     {
         search_law(self, index);
         let members = index.leaf_members(leaf);
@@ -54,12 +52,7 @@ impl<'a, R: Rows> Task<'a, R> {
         if self.leaf_bound(index, leaf) > most_to_add(limit, list) {
             return;
         }
-        self.scan(
-            index.leaf_members(leaf),
-            index.leaf_means(leaf),
-            limit,
-            list,
-        );
+        self.scan_leaf(index, leaf, limit, list);
     }
 
     /// Adds the member's pair where it is near and its distance is at most `most`, and tells what is then the most.

@@ -28,7 +28,7 @@ loop-leaf-preserved g c =
     let met = range_with_len first (leaf - first) in
     let was = c.loop-leaf.list.pairs in
     let scanned : c.scan_leaf.new.list.pairs ≡ scan ground NONE (leaf_series ix leaf) was
-    = c.scan_leaf.ensures.pairs in
+    = c.scan_leaf.ensures.pairs ix 1 1 in
     let next = next_scanned ground fits met leaf NONE was (omega arith) (none_at_end first leaf (omega arith))
     (last_none ground fits) c.loop-leaf.invariant.sound in
     record {

@@ -1,9 +1,5 @@
 -- A leaf beyond the list is passed over; of another its members are scanned.
-use Rattle.std.proofs.Common.{List, subst}
-use Rattle.isax_word.specs.declared.member.Member.{Member}
 use Rattle.subtree_build.specs.Index.{leaf_at}
-use Rattle.subtree_build.specs.Members.{numbers_of}
-use Rattle.query_core.specs.Scanning.{AreScanned}
 use Rattle.query_core.proofs.Homes.{leaf_is_members}
 use Rattle.query_core.proofs.Meeting.{beyond_members, far_scanned}
 use Rattle.query_core.proofs.task.Task.scan_boxed.Goals as goal
@@ -19,13 +15,3 @@ returns-then-leaf_bound-most_to_add-clause-pairs g c =
     (leaf_is_members a ix l c.search_law.ensures.searches c.requires.leaf)
     (beyond_members a ix l c.leaf_bound.result most c.leaf_bound.ensures c.if-leaf_bound-most_to_add.true)
     (record { wanted = c.requires.k; is_best = c.most_to_add.ensures.sound; most_is = c.most_to_add.ensures.most })
-
-pub scan-requires-clause-members : goal.scan-requires-clause-members
-scan-requires-clause-members g c =
-    rw c.leaf_members.ensures
-    (leaf_is_members c.args.self.now c.args.index.now c.args.leaf c.search_law.ensures.searches c.requires.leaf)
-
-pub returns-clause-pairs : goal.returns-clause-pairs
-returns-clause-pairs g c =
-    subst (λ (ms : List Member). AreScanned c.args.self.now c.args.limit (numbers_of ms) c.args.list.now.pairs c.scan.new.list.pairs)
-    c.leaf_members.ensures c.scan.ensures.pairs

@@ -24,7 +24,7 @@ pub returns-clause-size : goal.returns-clause-size
 returns-clause-size g c was =
     let a = c.args.self.now in
     let ground = search_over a c.args.index.now 1 1 in
-    subst (λ (ps : List Pair). length ps ≤ a.k) (sym c.scan_leaf.ensures.pairs)
+    subst (λ (ps : List Pair). length ps ≤ a.k) (sym (c.scan_leaf.ensures.pairs c.args.index.now 1 1))
     (scan_size ground c.args.limit (leaf_series c.args.index.now c.args.entry.now.leaf) c.args.list.now.pairs)
 
 pub returns-clause-met : goal.returns-clause-met
@@ -36,7 +36,7 @@ returns-clause-met g c met unmet sound =
     let leaf = c.args.entry.now.leaf in
     let old = c.args.list.now.pairs in
     let scanned : c.scan_leaf.new.list.pairs ≡ scan ground c.args.limit (leaf_series ix leaf) old
-    = c.scan_leaf.ensures.pairs in
+    = c.scan_leaf.ensures.pairs ix 1 1 in
     let enough : last ground ≤ c.args.limit = omega (arith, c.search_law.ensures.last 1 1, c.requires.limit) in
     subst (ListSound ground (met ++ leaf ∷ [])) (sym scanned)
     (next_scanned ground fits met leaf c.args.limit old c.requires.entry.leaf unmet enough sound)

@@ -9,9 +9,9 @@ use Rattle.subtree_build.specs.Index.{IndexParts, leaf_at}
 use Rattle.subtree_build.specs.Means.{all_finer, finer_at}
 use Rattle.subtree_build.specs.Fits.{Fits as IndexFits}
 use Rattle.subtree_build.specs.Members.{numbers_of}
-use Rattle.search_machine.specs.Ground.{scan}
 use Rattle.subtree_build.proofs.Meaning.{finer_of_leaf}
-use Rattle.query_core.specs.Questions.{CanBeSearched, IsMemberOf, Question, search_over}
+use Rattle.query_core.specs.Questions.{CanBeSearched, IsMemberOf, Question}
+use Rattle.query_core.specs.Scanning.{AreScanned}
 use Rattle.query_core.proofs.FinerRows.{finer_of_member, finer_within, same_parts}
 use Rattle.query_core.proofs.Homes.{leaf_is_members}
 use Rattle.query_core.proofs.Meeting.{all_scanned, member_scanned}
@@ -75,8 +75,6 @@ loop-i-preserved g c =
 
 pub returns-clause-pairs : goal.returns-clause-pairs
 returns-clause-pairs g c =
-    let a = c.args.self.now in
-    let ix = c.args.index.now in
-    all_scanned c.leaf_members-members.result.now c.loop-i.i c.loop-i.invariant c.loop-i-test.false ix 1 1
-    ∙ ap (λ (ms : List Member). scan (search_over a ix 1 1) c.args.limit (numbers_of ms) c.args.list.now.pairs)
+    subst (λ (ms : List Member). AreScanned c.args.self.now c.args.limit (numbers_of ms) c.args.list.now.pairs c.loop-i.list.pairs)
     c.leaf_members-members.ensures
+    (all_scanned c.leaf_members-members.result.now c.loop-i.i c.loop-i.invariant c.loop-i-test.false)

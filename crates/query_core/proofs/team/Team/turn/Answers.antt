@@ -1,5 +1,5 @@
 -- The worker at the place is lent, and its turn is the machine's.
-use Rattle.std.proofs.Common.{Some, ap, set, subst, sym, ◌∙◌, ◌≡◌, ◌≢◌}
+use Rattle.std.proofs.Common.{ap, set, subst, sym, ◌∙◌, ◌≡◌, ◌≢◌}
 use Rattle.std.proofs.lemmas.Bool.{false≢true}
 use Rattle.std.proofs.lemmas.Option.{same_Some}
 use Rattle.search_machine.specs.declared.phase.Phase.TheVariants.{Done}
