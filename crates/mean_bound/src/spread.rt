@@ -5,6 +5,7 @@ ghost use Rattle.mean_bound.specs.Spread.{raised, root, row_spread, spread_times
 
 use segment_sums::Cuts;
 use series_core::values_fit;
+use std::num::saturating_f64_to_u16;
 
 /// The squared differences of a row's values from the means of its sixteen segments, rounded down for each segment and added up.
 pub(crate) fn spread_of(cuts: &Cuts, row: &[i16]) -> u64
@@ -86,10 +87,17 @@ fn raised(value: i16) -> u64
     (i64::from(value) + 32768) as u64
 }
 
-/// The root of a number, rounded down.
+/// The root of a number, rounded down. What the processor gives is a first guess, and is mended where it is not the root.
 pub(crate) fn root_of(n: u64) -> u16
     requires { n < 4294967296 }
     ensures { result ≡ root n }
 {
-    (n as u32).isqrt() as u16
+    let mut root = u64::from(saturating_f64_to_u16(f64::from(n as u32).sqrt()));
+    while root * root > n {
+        root -= 1;
+    }
+    while (root + 1) * (root + 1) <= n {
+        root += 1;
+    }
+    root as u16
 }

@@ -5,5 +5,5 @@ use Rattle.mean_bound.proofs.spread.root_of.Goals as goal
 
 pub returns : goal.returns
 returns c =
-    sym (root_is c.args.n c.isqrt.result c.requires (omega (arith, c.isqrt.ensures.square_le))
-    (omega (arith, c.isqrt.ensures.next_square_gt)))
+    sym (root_is c.args.n c.loop-root-2.root c.requires (omega (arith, c.loop-root-2.invariant))
+    (omega (arith, c.loop-root-2-test.false)))
