@@ -1,8 +1,8 @@
--- Members divided in place, one after another (`next_high`, `next_low`), until all are (`all_are_divided`).
-use Rattle.std.proofs.Common.{◌≡◌, ℕ, ◌+◌, ◌<◌, Bool, true, false, List, [], ◌∷◌, ◌++◌, length, get_or, set, take, drop, refl, sym, ap, ◌∙◌, arith, append-nil, length-append}
+-- Members divided in place, one after another (`next_in_both`), until all are (`all_are_divided`).
+use Rattle.std.proofs.Common.{◌≡◌, ℕ, ◌+◌, zero, suc, ◌-◌, ◌<◌, ◌==◌, Bool, true, false, List, [], ◌∷◌, ◌++◌, length, get_or, set, take, drop, cond, refl, subst, sym, ap, ◌∙◌, arith, append-nil, length-append}
 use Rattle.std.specs.Prelude.{filter, not}
 use Rattle.std.proofs.lemmas.Bool.{cond-true, cond-false}
-use Rattle.std.proofs.lemmas.List.{length-set, take_more, take_more_set, take_all, get_or-drop, drop-drop, drop-set-lt, length-take-le}
+use Rattle.std.proofs.lemmas.List.{length-set, take-set, take_more, take_more_set, take_all, get_or-drop, drop-drop, drop-set-lt, length-take-le}
 use Rattle.std.proofs.lemmas.List.Elements.{filter-append}
 use Rattle.std.proofs.Math.Seq.{take-append_seam, drop-append_seam}
 use Rattle.isax_word.specs.declared.member.Member.{Member}
@@ -45,7 +45,7 @@ module _ (p : Member → Bool) (all now waiting : List Member) (low i : ℕ) (wa
       drop_next xs = ap (λ (k : ℕ). drop k xs) (let e : i + 1 ≡ i + 1 = omega arith in e) ∙ sym (drop-drop 1 i xs)
 
   -- the next member passes, and waits
-  pub next_high : p m ≡ true → IsDivided p all now (waiting ++ m ∷ []) low (i + 1)
+  next_high : p m ≡ true → IsDivided p all now (waiting ++ m ∷ []) low (i + 1)
   next_high passes = record {
     front = was.front
         ∙ sym (append-nil (filter (λ x. not (p x)) (take i all)))
@@ -60,7 +60,7 @@ module _ (p : Member → Bool) (all now waiting : List Member) (low i : ℕ) (wa
   }
 
   -- the next member does not pass, and goes to the front
-  pub next_low : p m ≡ false → IsDivided p all (set now low m) waiting (low + 1) (i + 1)
+  next_low : p m ≡ false → IsDivided p all (set now low m) waiting (low + 1) (i + 1)
   next_low fails = record {
     front = take_more_set now low m (omega (arith, was.count, was.long))
         ∙ ap (λ l. l ++ m ∷ []) was.front
@@ -74,6 +74,49 @@ module _ (p : Member → Bool) (all now waiting : List Member) (low i : ℕ) (wa
     long = length-set now low m ∙ was.long;
     count = omega (arith, was.count);
   }
+
+-- what is written behind the front changes nothing, where it is no later than at i
+written_behind : (p : Member → Bool) (all now waiting : List Member) (low i : ℕ) (m : Member) → low < i
+    → IsDivided p all now waiting low i → IsDivided p all (set now low m) waiting low i
+written_behind p all now waiting low i m before was = record {
+  front = take-set now low m ∙ was.front;
+  others = was.others;
+  rest = drop-set-lt i now low m before ∙ was.rest;
+  long = length-set now low m ∙ was.long;
+  count = was.count;
+}
+
+-- a bit is 1 or 0 as it is 1 or not
+pub bit_is : (n : ℕ) → n < 2 → n ≡ cond (n == 1) 1 0
+bit_is zero few = refl
+bit_is (suc zero) few = refl
+bit_is (suc (suc n)) few = absurd (omega (arith, few))
+
+-- the next member is put in both, and stays where it belongs: `bit` is 1 where it passes, and else 0
+pub next_in_both : (p : Member → Bool) (all now scratch : List Member) (low high i bit : ℕ) (m : Member)
+    → IsDivided p all now (take high scratch) low i → m ≡ get_or now i m → i < length all → high < length scratch
+    → bit ≡ cond (p m) 1 0 → IsDivided p all (set now low m) (take (high + bit) (set scratch high m)) (low + (1 - bit)) (i + 1)
+next_in_both p all now scratch low high i bit m was is inside room told = by_cases (p m) refl told
+  where
+    by_cases : (b : Bool) → p m ≡ b → bit ≡ cond b 1 0
+        → IsDivided p all (set now low m) (take (high + bit) (set scratch high m)) (low + (1 - bit)) (i + 1)
+    by_cases true passes one =
+        let before : low < i + 1 = omega (arith, was.count) in
+        let next = written_behind p all now (take high scratch ++ m ∷ []) low (i + 1) m before
+        (next_high p all now (take high scratch) low i was m is inside passes) in
+        let waits : take high scratch ++ m ∷ [] ≡ take (high + bit) (set scratch high m)
+        = sym (take_more_set scratch high m room) ∙ ap (λ k. take (high + k) (set scratch high m)) (sym one) in
+        let stays : low ≡ low + (1 - bit) = omega (arith, one) in
+        subst (λ ms. IsDivided p all (set now low m) ms (low + (1 - bit)) (i + 1)) waits
+        (subst (λ k. IsDivided p all (set now low m) (take high scratch ++ m ∷ []) k (i + 1)) stays next)
+    by_cases false fails none =
+        let next = next_low p all now (take high scratch) low i was m is inside fails in
+        let nothing : high ≡ high + bit = omega (arith, none) in
+        let waits : take high scratch ≡ take (high + bit) (set scratch high m)
+        = sym (take-set scratch high m) ∙ ap (λ k. take k (set scratch high m)) nothing in
+        let more : low + 1 ≡ low + (1 - bit) = omega (arith, none) in
+        subst (λ ms. IsDivided p all (set now low m) ms (low + (1 - bit)) (i + 1)) waits
+        (subst (λ k. IsDivided p all (set now low m) (take high scratch) k (i + 1)) more next)
 
 -- all members are divided once those that wait stand behind the front
 pub all_are_divided : (p : Member → Bool) (all now waiting : List Member) (low i : ℕ)

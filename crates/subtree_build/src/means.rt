@@ -105,7 +105,13 @@ fn fill_in_turn<R: Rows>(
 {
     match members {
         [] => {}
-        [member] => fill_from(source, source.rows.row(member.number), members, means, finer),
+        [member] => fill_from(
+            source,
+            source.rows.row(member.number),
+            members,
+            means,
+            finer,
+        ),
         _ => {
             let values = members.len() * source.rows.length() as usize;
             if values <= FETCHED {

@@ -77,14 +77,14 @@ impl Part {
         let list = found.list_at(place);
         let mut members = gathered(alloc, list)?;
         sort_members(&mut members);
-        let mut scratch = Vec::with_capacity(alloc, members.len())?;
+        let mut scratch = members.to_vec(alloc)?;
         let mut leaves = Vec::new(alloc);
         let node = subtree(
             alloc,
             settings.leaf_size,
             &word,
             members.as_mut_slice(),
-            &mut scratch,
+            scratch.as_mut_slice(),
             &mut leaves,
         )?;
         Ok(Part {

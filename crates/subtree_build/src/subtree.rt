@@ -1,6 +1,6 @@
 //! A whole subtree: the members under a word are divided in place, until those of each leaf lie side by side in the order of
 //! the leaves. Members that ascend by number still do so in each leaf.
-ghost use Rattle.std.specs.Prelude.{◌≡◌, ℕ, ◌+◌, ◌*◌, ◌^◌, ◌<◌, ◌≤◌, ◌++◌, ◌⊎◌, length, vec_len, vec_capacity, filter, IfOk, IfSome, IfNone};
+ghost use Rattle.std.specs.Prelude.{◌≡◌, ℕ, ◌+◌, ◌*◌, ◌^◌, ◌<◌, ◌≤◌, ◌++◌, ◌⊎◌, length, vec_len, filter, IfOk, IfSome, IfNone};
 ghost use Rattle.subtree_build.specs.Division.{node_of, bits_left};
 ghost use Rattle.subtree_build.specs.Grown.{IsGrown, IsPut, grown_leaf};
 ghost use Rattle.subtree_build.specs.Members.{HaveSegments};
@@ -17,29 +17,27 @@ use std::alloc::Global;
 use summary_phase::Member;
 
 /// Puts the members whose next bit in a segment is 0 before those whose next bit is 1, each in the order that they had, and
-/// counts the first. The others wait in `scratch`, which has room for all.
-fn divide(word: &Word, segment: u32, members: &mut [Member], scratch: &mut Vec<Member>) -> usize
+/// counts the first. The others wait in `scratch`, which has as many places. Each member is put in both, and stays in one: next
+/// bits are as good as drawn, and to jump by them takes longer than to store twice.
+fn divide(word: &Word, segment: u32, members: &mut [Member], scratch: &mut [Member]) -> usize
     requires used { segment < length word.now }
     requires segments { HaveSegments (length word.now) members.old }
-    requires room { length members.old ≤ vec_capacity scratch.old }
+    requires room { length members.old ≤ length scratch.old }
     ensures divided { members.new
         ≡ filter (goes_low word.now segment) members.old ++ filter (goes_high word.now segment) members.old }
     ensures low { result ≡ length (filter (goes_low word.now segment) members.old) }
-    ensures capacity { vec_capacity scratch.new ≡ vec_capacity scratch.old }
 {
-    scratch.clear();
-    let mut low = 0;
+    let (mut low, mut high) = (0, 0);
     for i in 0..members.len() {
         let member = members[i];
-        if next_bit(word, &member.full, segment) == 1 {
-            scratch.push_reserved(member);
-        } else {
-            members[low] = member;
-            low += 1;
-        }
+        let bit = usize::from(next_bit(word, &member.full, segment));
+        members[low] = member;
+        scratch[high] = member;
+        low += 1 - bit;
+        high += bit;
     }
-    let (_, high) = members.split_at_mut(low);
-    high.copy_from_slice(scratch.as_slice());
+    let (_, behind) = members.split_at_mut(low);
+    behind.copy_from_slice(&scratch[..high]);
     low
 }
 
@@ -74,24 +72,23 @@ fn split_node(segment: u32, low: Option<Box<Node>>, high: Option<Box<Node>>) -> 
     Node::Split { segment, low, high }
 }
 
-/// The node of a word and its members, which are some; its leaves are put behind the others. `scratch` has room for all
-/// members.
+/// The node of a word and its members, which are some; its leaves are put behind the others. `scratch` has as many
+/// places.
 #[cycle(subtree)]
 pub(crate) fn subtree(
     alloc: Global,
     leaf_size: u32,
     word: &Word,
     members: &mut [Member],
-    scratch: &mut Vec<Member>,
+    scratch: &mut [Member],
     leaves: &mut Vec<GrownLeaf>,
 ) -> Result<Node, NoMemory>
     requires some { 0 < length members.old }
     requires segments { HaveSegments (length word.now) members.old }
     requires room { vec_len leaves.old + length members.old < 2 ^ 32 }
-    requires scratch { length members.old ≤ vec_capacity scratch.old }
+    requires scratch { length members.old ≤ length scratch.old }
     ensures grown { let tree = node_of leaf_size word.now members.old in
         IfOk result (λ node. IsGrown tree leaves.old.items (outline node) leaves.new.items members.new) }
-    ensures capacity { vec_capacity scratch.new ≡ vec_capacity scratch.old }
 {
     let Some(segment) = split_of(leaf_size, word, members) else {
         return leaf_node(word, members.len() as u32, leaves);
@@ -112,15 +109,14 @@ fn child_node(
     leaf_size: u32,
     word: &Word,
     members: &mut [Member],
-    scratch: &mut Vec<Member>,
+    scratch: &mut [Member],
     leaves: &mut Vec<GrownLeaf>,
 ) -> Result<Option<Box<Node>>, NoMemory>
     requires segments { HaveSegments (length word.now) members.old }
     requires room { vec_len leaves.old + length members.old < 2 ^ 32 }
-    requires scratch { length members.old ≤ vec_capacity scratch.old }
+    requires scratch { length members.old ≤ length scratch.old }
     ensures grown { let tree = node_of leaf_size word.now members.old in
         IfOk result (λ node. IsGrown tree leaves.old.items (child_outline node) leaves.new.items members.new) }
-    ensures capacity { vec_capacity scratch.new ≡ vec_capacity scratch.old }
 {
     if members.is_empty() {
         return Ok(None);

@@ -67,8 +67,14 @@ pub bounds-finer-i : goal.bounds-finer-i
 bounds-finer-i g c =
     let n = part_count c.args.source.now.cuts.now in
     let up_to : (c.loop-i.i + 1) * n ≤ length c.args.members.now * n = mul-le-mul_right n (omega (arith, c.loop-i-test.true)) in
-    omega (arith, ap (λ k. c.loop-i.i * k) c.parts-parts.ensures.count, up_to, c.loop-part.invariant.finer_length,
-    c.loop-part-test.true, c.parts-parts.ensures.count)
+    omega (
+      arith,
+      ap (λ k. c.loop-i.i * k) c.parts-parts.ensures.count,
+      up_to,
+      c.loop-part.invariant.finer_length,
+      c.loop-part-test.true,
+      c.parts-parts.ensures.count,
+    )
 
 pub offset_bounds-finer-i : goal.offset_bounds-finer-i
 offset_bounds-finer-i g c =

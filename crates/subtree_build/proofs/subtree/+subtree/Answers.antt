@@ -14,17 +14,19 @@ use Rattle.subtree_build.proofs.Dividing.{front_is, back_is}
 use Rattle.subtree_build.proofs.Growing.{leaf_is_grown, none_is_grown, grown_few, children_are_grown}
 use Rattle.subtree_build.proofs.subtree.+subtree.Goals as goal
 
-pub child_node-returns-then-is_empty-clause-grown : goal.child_node-returns-then-is_empty-clause-grown
-child_node-returns-then-is_empty-clause-grown t c =
-    none_is_grown c.args.leaf_size c.args.word.now c.args.members.now c.args.leaves.now.items
-    (eqb-true (length c.args.members.now) 0 (sym c.if-is_empty.ensures))
+pub child_node-returns-then-is_empty : goal.child_node-returns-then-is_empty
+child_node-returns-then-is_empty t c = record {
+  grown = none_is_grown c.args.leaf_size c.args.word.now c.args.members.now c.args.leaves.now.items
+      (eqb-true (length c.args.members.now) 0 (sym c.if-is_empty.ensures));
+}
 
-pub subtree-returns-in_default-clause-grown : goal.subtree-returns-in_default-clause-grown
-subtree-returns-in_default-clause-grown t c =
-    IfOk-weaker _ _ _
-    (λ node put. leaf_is_grown c.args.leaf_size c.args.word.now c.args.members.now c.args.leaves.now.items
-    c.leaf_node.new.leaves.items (outline node) _ c.requires.some c.in_default.ensures.leaf refl put)
-    c.leaf_node.ensures
+pub subtree-returns-in_default : goal.subtree-returns-in_default
+subtree-returns-in_default t c = record {
+  grown = IfOk-weaker _ _ _
+      (λ node put. leaf_is_grown c.args.leaf_size c.args.word.now c.args.members.now c.args.leaves.now.items
+      c.leaf_node.new.leaves.items (outline node) _ c.requires.some c.in_default.ensures.leaf refl put)
+      c.leaf_node.ensures;
+}
 
 pub subtree-child_node-requires : goal.subtree-child_node-requires
 subtree-child_node-requires t c =
@@ -43,7 +45,7 @@ subtree-child_node-requires t c =
             is_low c.child-low_word.ensures c.requires.segments,
         (
           omega (arith, both, c.requires.room),
-          omega (arith, both, c.requires.scratch, c.divide-count.ensures.capacity),
+          omega (arith, both, c.requires.scratch, c.divide-count.auto.scratch),
         ),
       ),
     )
@@ -74,15 +76,15 @@ subtree-child_node-requires-2 t c =
             arith,
             both,
             c.requires.scratch,
-            c.divide-count.ensures.capacity,
-            c.in_ok-low.ensures.capacity,
+            c.divide-count.auto.scratch,
+            c.child_node.auto.scratch,
           ),
         ),
       ),
     )
 
-pub subtree-returns-clause-grown : goal.subtree-returns-clause-grown
-subtree-returns-clause-grown t c =
+pub subtree-returns : goal.subtree-returns
+subtree-returns t c =
     let word = c.args.word.now in
     let members = c.args.members.now in
     let low = c.split_at_mut-low.result.0.now in
@@ -90,13 +92,15 @@ subtree-returns-clause-grown t c =
     let P : Tree ℕ → Type 0 = λ node.
     IsGrown (node_of c.args.leaf_size word members) c.args.leaves.now.items node
     c.child_node-2.new.leaves.items (c.child_node.new.members ++ c.child_node-2.new.members) in
-    subst P (sym c.split_node.ensures)
-    (children_are_grown c.args.leaf_size word members c.in-Some.segment
-    c.child-low_word.result c.child-high_word.result low high
-    c.child_node.new.members c.child_node-2.new.members
-    c.args.leaves.now.items c.child_node.new.leaves.items c.child_node-2.new.leaves.items
-    (child_outline c.in_ok-low.low) (child_outline c.in_ok-high.high) c.in-Some.ensures.split
-    c.child-low_word.ensures c.child-high_word.ensures
-    (front_is _ _ _ low _ c.divide-count.ensures.divided c.divide-count.ensures.low c.split_at_mut-low.ensures.front)
-    (back_is _ _ _ high _ c.divide-count.ensures.divided c.divide-count.ensures.low c.split_at_mut-low.ensures.back)
-    c.in_ok-low.ensures.grown c.in_ok-high.ensures.grown)
+    record {
+      grown = subst P (sym c.split_node.ensures)
+          (children_are_grown c.args.leaf_size word members c.in-Some.segment
+          c.child-low_word.result c.child-high_word.result low high
+          c.child_node.new.members c.child_node-2.new.members
+          c.args.leaves.now.items c.child_node.new.leaves.items c.child_node-2.new.leaves.items
+          (child_outline c.in_ok-low.low) (child_outline c.in_ok-high.high) c.in-Some.ensures.split
+          c.child-low_word.ensures c.child-high_word.ensures
+          (front_is _ _ _ low _ c.divide-count.ensures.divided c.divide-count.ensures.low c.split_at_mut-low.ensures.front)
+          (back_is _ _ _ high _ c.divide-count.ensures.divided c.divide-count.ensures.low c.split_at_mut-low.ensures.back)
+          c.in_ok-low.ensures.grown c.in_ok-high.ensures.grown);
+    }

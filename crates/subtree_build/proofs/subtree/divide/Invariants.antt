@@ -1,10 +1,10 @@
--- The members so far are divided.
-use Rattle.std.proofs.Common.{◌≡◌, vec_capacity}
+-- The members so far are divided: those that wait stand in front of the scratch.
+use Rattle.std.proofs.Common.{◌≡◌, ◌+◌, take}
 use Rattle.subtree_build.specs.Splitting.{goes_high}
 use Rattle.subtree_build.proofs.Dividing.{IsDivided}
 use Rattle.subtree_build.proofs.subtree.divide.Given as goal
 
 abbrev pub invariant-loop-i : goal.invariant-loop-i
 invariant-loop-i l =
-    IsDivided (goes_high l.word l.segment) l.fn.members l.members l.scratch.items l.low l.i
-    × (vec_capacity l.scratch ≡ vec_capacity l.fn.scratch)
+    IsDivided (goes_high l.word l.segment) l.fn.members l.members (take l.high l.scratch) l.low l.i
+    × (l.low + l.high ≡ l.i)
