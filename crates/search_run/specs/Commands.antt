@@ -18,6 +18,8 @@ use Rattle.search_run.specs.Plans.{CanPass, Plan, Load, Compare, Divide, LoadInd
 use Rattle.search_run.specs.Texts.{IsAnswerPiece, IsTextOf}
 use Rattle.search_run.specs.Trials.{trial_text}
 use Rattle.search_run.specs.Windows.{windows_plan}
+use Rattle.search_run.specs.declared.commands.one_file.FileText.{FileText}
+use Rattle.search_run.specs.declared.commands.one_file.FileText.TheVariants.{Converted, Saved, Discords}
 use Rattle.search_run.specs.declared.status.Which.TheVariants.{Series, Queries}
 
 -- where the command would search over queues with locks, it asks for the search over sealed runs, which has none
@@ -82,19 +84,29 @@ abbrev pub trial_plan : ℕ → ℕ → ℕ → ℕ → Options → Plan
 trial_plan seed count length queries o =
     Divide o.segments length (Write (λ text. text ≡ trial_text seed count length queries o.k))
 
+-- What is written of one file of series: the text of version 2 of what it holds; or, where its series have the asked segments,
+-- the text of its tree, or the lines of its k discords.
+abbrev pub file_rest : FileText → Options → Loaded → Plan
+file_rest Converted o x = Write (λ text. text ≡ converted_text x)
+file_rest Saved o x = Divide o.segments x.rows.points (Write (IsTreeText x.rows (settings_of x.rows.points o)))
+file_rest Discords o x =
+    Divide o.segments x.rows.points (Write (λ text. text ≡ discord_lines 1 (discords x.rows o.k)))
+
+-- one file of series, and what is written of it
+abbrev pub file_plan : FileText → List ℕ → Options → Plan
+file_plan asked series o = Load Series series (form_of o.raw) (λ x. file_rest asked o x)
+
 -- one file of series, and the text of version 2 of what it holds
 abbrev pub convert_plan : List ℕ → Options → Plan
-convert_plan series o = Load Series series (form_of o.raw) (λ x. Write (λ text. text ≡ converted_text x))
+convert_plan series o = file_plan Converted series o
 
 -- one file of series, which has the asked segments, and the text of its tree
 abbrev pub save_plan : List ℕ → Options → Plan
-save_plan series o = Load Series series (form_of o.raw) (λ x. Divide o.segments x.rows.points
-    (Write (IsTreeText x.rows (settings_of x.rows.points o))))
+save_plan series o = file_plan Saved series o
 
 -- one file of series, which has the asked segments, and the lines of its k discords
 abbrev pub discord_plan : List ℕ → Options → Plan
-discord_plan series o = Load Series series (form_of o.raw) (λ x. Divide o.segments x.rows.points
-    (Write (λ text. text ≡ discord_lines 1 (discords x.rows o.k))))
+discord_plan series o = file_plan Discords series o
 
 -- what a command does
 abbrev pub plan_of : Command → Plan

@@ -1,10 +1,9 @@
-//! What each command does with its input, one module a command: it ends with the status that says why it did not.
+//! What each command does with its input, one module a command, and one for those that read one file and write one text of it.
+//! It ends with the status that says why it did not.
 
-pub mod convert;
-pub mod discord;
 pub mod nearest;
+pub mod one_file;
 pub mod range;
-pub mod save;
 pub mod search;
 pub mod trial;
 pub mod verify;

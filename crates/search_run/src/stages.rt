@@ -19,11 +19,9 @@ ghost use Rattle.search_run.specs.Verified.{Certifies};
 ghost use Rattle.search_run.specs.declared.status.Status.{Status};
 ghost use Rattle.search_run.specs.declared.status.Which.{Which};
 
-use crate::commands::convert::answer_convert;
-use crate::commands::discord::answer_discord;
 use crate::commands::nearest::answer_nearest;
+use crate::commands::one_file::FileText::{Converted, Discords, Saved};
 use crate::commands::range::answer_range;
-use crate::commands::save::answer_save;
 use crate::commands::trial::answer_trial;
 use crate::commands::verify::answer_verify;
 use crate::commands::windows::answer_windows;
@@ -320,14 +318,14 @@ fn answer<
             queries,
             options,
         } => answer_trial(crew, rows, *seed, *count, *length, *queries, options, out),
-        Command::Convert { series, options } => answer_convert(alloc, series, options, files, out),
-        Command::Save { series, options } => answer_save(crew, series, options, files, out),
+        Command::Convert { series, options } => Converted.answer(crew, series, options, files, out),
+        Command::Save { series, options } => Saved.answer(crew, series, options, files, out),
         Command::Windows {
             series,
             queries,
             step,
             options,
         } => answer_windows(crew, windows, series, queries, *step, options, files, out),
-        Command::Discord { series, options } => answer_discord(crew, series, options, files, out),
+        Command::Discord { series, options } => Discords.answer(crew, series, options, files, out),
     }
 }

@@ -18,13 +18,13 @@ returns-in-Trial-clause-answers g c =
     answers_as reading _ _ _ _ c.in-Trial.is (c.answer_trial.ensures.answers reading)
 
 pub returns-in-Convert-clause-answers : goal.returns-in-Convert-clause-answers
-returns-in-Convert-clause-answers g c = answers_as _ _ _ _ _ c.in-Convert.is c.answer_convert.ensures.answers
+returns-in-Convert-clause-answers g c = answers_as _ _ _ _ _ c.in-Convert.is c.answer.ensures.answers
 
 pub returns-in-Windows-clause-answers : goal.returns-in-Windows-clause-answers
 returns-in-Windows-clause-answers g c = answers_as _ _ _ _ _ c.in-Windows.is c.answer_windows.ensures.answers
 
 pub returns-in-Discord-clause-answers : goal.returns-in-Discord-clause-answers
-returns-in-Discord-clause-answers g c = answers_as _ _ _ _ _ c.in-Discord.is c.answer_discord.ensures.answers
+returns-in-Discord-clause-answers g c = answers_as _ _ _ _ _ c.in-Discord.is c.answer-in-Discord.ensures.answers
 
 pub returns-in-Save-clause-answers : goal.returns-in-Save-clause-answers
-returns-in-Save-clause-answers g c = answers_as _ _ _ _ _ c.in-Save.is c.answer_save.ensures.answers
+returns-in-Save-clause-answers g c = answers_as _ _ _ _ _ c.in-Save.is c.answer-in-Save.ensures.answers

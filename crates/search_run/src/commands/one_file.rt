@@ -1,0 +1,150 @@
+//! The commands that read one series file and write one text of what it holds: `convert`, `save` and `discord`.
+//! They differ in that text alone. The tree of a file's series and their discords are written without its labels.
+
+ghost use Rattle.std.specs.Prelude.{◌≡◌, ◌≢◌, ◌⊎◌, Option, IfOk, IfErr};
+ghost use Rattle.outside.specs.Files.{Held};
+ghost use Rattle.command_words.specs.Limits.{OptionsKeepLimits};
+ghost use Rattle.discord_query.specs.Discords.{discords};
+ghost use Rattle.search_run.specs.Commands.{file_plan, file_rest};
+ghost use Rattle.search_run.specs.Conversions.{converted_text};
+ghost use Rattle.search_run.specs.DiscordLines.{discord_lines};
+ghost use Rattle.search_run.specs.Ends.{Concludes, ended};
+ghost use Rattle.search_run.specs.Finding.{IsTreeFor};
+ghost use Rattle.search_run.specs.Indexes.{IsTreeText};
+ghost use Rattle.search_run.specs.Layouts.{settings_of};
+ghost use Rattle.search_run.specs.Pairs.{HasLabels};
+ghost use Rattle.search_run.specs.Plans.{HasSegments, Refuses, Writes};
+ghost use Rattle.search_run.specs.Traffic.{Reading, read_from, wrote_to};
+ghost use Rattle.search_run.specs.declared.status.Status.{Status};
+ghost use Rattle.search_run.specs.declared.status.Which.{Which};
+
+use crate::crew::Crew;
+use crate::input::file::{form_of, load};
+use crate::input::lengths::check_segments;
+use crate::output::discords::discord_text;
+use crate::status::{Status, Which};
+use crate::tree::{Tree, tree_of};
+use command_words::{Options, Text};
+use discord_query::discord;
+use outside::{Files, Gate, NoMemory, Sink, write_whole};
+use saved_index::save;
+use series_core::{Flat, Rows};
+use series_file::{Loaded, write_numbered, write_series};
+use std::alloc::Global;
+use std::thread::Threads;
+
+/// What is written of the series of one file.
+#[derive(Clone, Copy, Debug, PartialEq, Eq)]
+pub enum FileText {
+    /// The series themselves, each with its label, or where they have none, with its number.
+    Converted,
+    /// Their tree, as the text of an index.
+    Saved,
+    /// The series whose nearest other is farthest, a line each.
+    Discords,
+}
+
+impl FileText {
+    /// Reads the series file, and writes this of its series.
+    pub fn answer<T: Threads + Sync, F: Files, S: Sink, G: Gate + Sync>(
+        self,
+        crew: &Crew<'_, T, G>,
+        series: &Text,
+        options: &Options,
+        files: &mut F,
+        out: &mut S,
+    ) -> Result<(), Status>
+        requires { OptionsKeepLimits options.now }
+        ensures answers { let plan = file_plan self series.now options.now in
+            Concludes (Writes (F.held files.old) plan)
+            (Refuses (read_from F.held F.faults F.misses F.blamed files.old files.new) plan)
+            (wrote_to S.written S.faults S.sure out.old out.new) (ended result) }
+        ensures kept { F.held files.new ≡ F.held files.old }
+        ensures reliable { F.reliable files.old → (w : Which) → result ≢ Err (Status.ReadFault w) }
+    {
+        let form = form_of(options.raw);
+        let loaded = load(crew.alloc, files, series.text.as_str(), Which::Series, form)?;
+        let text = self.text(crew, &loaded, options)?;
+        write_whole(out, &text)?;
+        Ok(())
+    }
+
+    /// The text of what the file holds, or why it cannot be written.
+    fn text<T: Threads + Sync, G: Gate + Sync>(
+        self,
+        crew: &Crew<'_, T, G>,
+        loaded: &Loaded,
+        options: &Options,
+    ) -> Result<Vec<u8>, Status>
+        requires options { OptionsKeepLimits options.now }
+        requires labels { HasLabels loaded.now }
+        ensures right { (held : Option Held)
+            → IfOk result (λ text. Writes held (file_rest self options.now loaded.now) text.items) }
+        ensures refused { (reading : Reading) → IfErr result (λ status. (status ≡ Status.Memory)
+            ⊎ Refuses reading (file_rest self options.now loaded.now) status) }
+        ensures reads_nothing { (w : Which) → result ≢ Err (Status.ReadFault w) }
+    {
+        let rows = &loaded.rows;
+        match self {
+            FileText::Converted => Ok(converted(crew.alloc, loaded)?),
+            FileText::Saved => {
+                check_segments(options.segments, rows.length())?;
+                Ok(tree_text(crew, rows, options)?)
+            }
+            FileText::Discords => {
+                check_segments(options.segments, rows.length())?;
+                let tree = tree_of(crew, rows, options)?;
+                Ok(discord_lines(crew, rows, &tree, options)?)
+            }
+        }
+    }
+}
+
+// The text of version 2 of a collection with its labels, or with its numbers.
+fn converted(alloc: Global, loaded: &Loaded) -> Result<Vec<u8>, NoMemory>
+    requires { HasLabels loaded.now }
+    ensures { IfOk result (λ text. text.items ≡ converted_text loaded.now) }
+{
+    match &loaded.labels {
+        Some(labels) => write_series(alloc, &loaded.rows, Some(labels.items.as_slice())),
+        None => write_numbered(alloc, &loaded.rows),
+    }
+}
+
+// The text of the tree of these series.
+fn tree_text<T: Threads + Sync, G: Gate + Sync>(
+    crew: &Crew<'_, T, G>,
+    rows: &Flat,
+    options: &Options,
+) -> Result<Vec<u8>, NoMemory>
+    requires options { OptionsKeepLimits options.now }
+    requires segments { HasSegments options.now.segments rows.now.points }
+    ensures { IfOk result (λ text. IsTreeText rows.now (settings_of rows.now.points options.now) text.items) }
+{
+    let tree = tree_of(crew, rows, options)?;
+    save(crew.alloc, &tree.settings, rows.count(), &tree.index)
+}
+
+// The lines of the discords of these series, which are those of this tree.
+fn discord_lines<T: Threads + Sync, G: Gate + Sync>(
+    crew: &Crew<'_, T, G>,
+    rows: &Flat,
+    tree: &Tree,
+    options: &Options,
+) -> Result<Vec<u8>, NoMemory>
+    requires options { OptionsKeepLimits options.now }
+    requires tree { IsTreeFor rows.now tree.now }
+    ensures { IfOk result (λ text. text.items ≡ discord_lines 1 (discords rows.now options.now.k)) }
+{
+    let discords = discord(
+        crew.rt,
+        crew.alloc,
+        rows,
+        &tree.index,
+        &tree.settings.layout,
+        options.k,
+        options.workers,
+        crew.gate,
+    )?;
+    discord_text(crew.alloc, &discords)
+}
