@@ -1,7 +1,7 @@
 //! Runs whose outside fails at one place: each open, each read and each write in turn, until none is left. What was written
 //! before is a beginning of the right text.
 
-use super::fixture::{Outside, ends_with, run_line};
+use super::fixture::{Ended, Outside, ends_with, run_line};
 use crate::{Status, Which};
 use outside::NoGate;
 use saved_index::IndexFault;
@@ -67,24 +67,43 @@ fn text_at(status: Status, text: &str) -> &[u8] {
     }
 }
 
+// Runs words over a file `C` of the certificate, and compares the status and what was written.
+fn ends_over<H: Threads + Wait + Abort + Sync>(
+    rt: &H,
+    alloc: Global,
+    line: &str,
+    outside: Outside,
+    wanted: (Status, &[u8]),
+) -> Result<Ended, Fail> {
+    ends_with(rt, alloc, line, CERTIFICATE.as_bytes(), outside, wanted)
+}
+
+// The same where all of a text or nothing is written, as the status tells.
+fn ends_as<H: Threads + Wait + Abort + Sync>(
+    rt: &H,
+    alloc: Global,
+    line: &str,
+    outside: Outside,
+    status: Status,
+    text: &str,
+) -> Result<Ended, Fail> {
+    ends_over(rt, alloc, line, outside, (status, text_at(status, text)))
+}
+
+// Files in pieces of `piece` bytes whose read of this number fails.
+fn read_fails(read: u64, piece: usize) -> Outside {
+    Outside {
+        read,
+        ..Outside::sound(piece)
+    }
+}
+
 #[test]
 fn each_read_may_fail(rt: HostRuntime) -> Result<(), Fail> {
     for (line, reads, text) in COMMANDS {
         for read in 1..=20u64 {
-            let outside = Outside {
-                read,
-                ..Outside::sound(16)
-            };
-            let status = status_of(read, reads);
-            let wanted = (status, text_at(status, text));
-            ends_with(
-                &rt,
-                rt.alloc(),
-                line,
-                CERTIFICATE.as_bytes(),
-                outside,
-                wanted,
-            )?;
+            let outside = read_fails(read, 16);
+            ends_as(&rt, rt.alloc(), line, outside, status_of(read, reads), text)?;
         }
     }
     Ok(())
@@ -112,10 +131,7 @@ fn reads_fail_in_turn<H: Threads + Wait + Abort + Sync>(
 ) -> Result<(), Fail> {
     let mut last = Some(0);
     for read in 1..=200u64 {
-        let outside = Outside {
-            read,
-            ..Outside::sound(piece)
-        };
+        let outside = read_fails(read, piece);
         let ended = run_line(rt, alloc, line, CERTIFICATE.as_bytes(), outside, &NoGate)?;
         let place = place_of(ended.status);
         assert!(rt; last <= place, "{line}, {outside:?}");
@@ -156,15 +172,7 @@ fn each_open_may_fail(rt: HostRuntime) -> Result<(), Fail> {
                 3 if index > 0 => Status::ReadFault(Which::Index),
                 _ => Status::Done,
             };
-            let wanted = (status, text_at(status, text));
-            ends_with(
-                &rt,
-                rt.alloc(),
-                line,
-                CERTIFICATE.as_bytes(),
-                outside,
-                wanted,
-            )?;
+            ends_as(&rt, rt.alloc(), line, outside, status, text)?;
         }
     }
     Ok(())
@@ -190,14 +198,7 @@ fn writes_fail_in_turn<H: Threads + Wait + Abort + Sync>(
             Status::Done
         };
         let written = &text.as_bytes()[..before.min(text.len())];
-        ends_with(
-            rt,
-            alloc,
-            line,
-            CERTIFICATE.as_bytes(),
-            outside,
-            (status, written),
-        )?;
+        ends_over(rt, alloc, line, outside, (status, written))?;
     }
     Ok(())
 }
@@ -232,14 +233,7 @@ fn a_line_that_is_not_told_changes_no_status(rt: HostRuntime) -> Result<(), Fail
             ..Outside::sound(1000)
         };
         let wanted = (status, [].as_slice());
-        let ended = ends_with(
-            &rt,
-            rt.alloc(),
-            line,
-            CERTIFICATE.as_bytes(),
-            outside,
-            wanted,
-        )?;
+        let ended = ends_over(&rt, rt.alloc(), line, outside, wanted)?;
         assert!(rt; ended.err.written().is_empty(), "{line}");
     }
     Ok(())
