@@ -10,7 +10,7 @@ use Rattle.search_run.specs.Certificates.{CanBeFault}
 use Rattle.search_run.specs.Commands.{CanAnswer, plan_of}
 use Rattle.search_run.specs.Indexes.{CanBeIndexFault}
 use Rattle.search_run.specs.Loads.{IsShown}
-use Rattle.search_run.specs.Plans.{HasFault, Refuses, Writes}
+use Rattle.search_run.specs.Plans.{HasFault, Plan, Refuses, Writes}
 use Rattle.search_run.specs.Traffic.{Reading, Writing}
 use Rattle.search_run.specs.declared.status.Status.{Status}
 use Rattle.search_run.specs.declared.status.Status.TheVariants.{Done, Usage, ReadFault, Format, WriteFault, Memory, Invalid, Index}
@@ -39,10 +39,13 @@ abbrev pub ended : Result (Unit {0}) Status → Status
 ended (Ok _) = Done
 ended (Err status) = status
 
+-- what shows each status of work that goes by this plan, and what was written
+abbrev pub Follows : Plan → Reading → Writing → Status → Type 0
+Follows plan reading writing status = Concludes (Writes reading.held plan) (Refuses reading plan) writing status
+
 -- what shows each status of a command, and what was written
 abbrev pub Answers : Reading → Writing → Command → Status → Type 0
-Answers reading writing command status =
-    Concludes (Writes reading.held (plan_of command)) (Refuses reading (plan_of command)) writing status
+Answers reading writing command status = Follows (plan_of command) reading writing status
 
 -- the words have no command, or memory ran out before they were read
 abbrev pub NoCommand : List (List ℕ) → Status → Type 0

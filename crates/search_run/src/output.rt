@@ -1,6 +1,7 @@
 //! What commands write: texts piece by piece, and the line that tells how a run ended.
 
 pub mod answers;
+pub mod converted;
 pub mod discords;
 pub mod pieces;
 pub mod stop;

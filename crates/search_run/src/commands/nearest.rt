@@ -6,10 +6,9 @@ ghost use Rattle.command_words.specs.Limits.{OptionsKeepLimits};
 ghost use Rattle.search_run.specs.Traffic.{read_from, wrote_to};
 ghost use Rattle.search_run.specs.Commands.{indexed_plan, nearest_plan, pieces_plan};
 ghost use Rattle.search_run.specs.Batches.{IsTeam};
-ghost use Rattle.search_run.specs.Ends.{Concludes, ended};
+ghost use Rattle.search_run.specs.Ends.{Follows, ended};
 ghost use Rattle.search_run.specs.Finding.{IsGround, IsTreeFor};
 ghost use Rattle.search_run.specs.Nearests.{IsCertifiedPiece, IsNearestPiece};
-ghost use Rattle.search_run.specs.Plans.{Refuses, Writes};
 ghost use Rattle.search_run.specs.Stops.{Stops};
 ghost use Rattle.search_run.specs.Texts.{AppendsPieces};
 ghost use Rattle.search_run.specs.declared.status.Status.{Status};
@@ -52,9 +51,8 @@ pub fn answer_nearest<
 ) -> Result<(), Status>
     requires limits { OptionsKeepLimits options.now }
     requires team { IsTeam (λ rows. rows) (P.pre team.now) (P.post team.now) }
-    ensures answers { let plan = nearest_plan series.now queries.now options.now in
-        Concludes (Writes (F.held files.old) plan)
-        (Refuses (read_from F.held F.faults F.misses F.blamed files.old files.new) plan)
+    ensures answers { Follows (nearest_plan series.now queries.now options.now)
+        (read_from F.held F.faults F.misses F.blamed files.old files.new)
         (wrote_to S.written S.faults S.sure out.old out.new) (ended result) }
     ensures kept { F.held files.new ≡ F.held files.old }
     ensures reliable { F.reliable files.old → (w : Which) → result ≢ Err (Status.ReadFault w) }
@@ -87,10 +85,9 @@ fn answer_plain<
 ) -> Result<(), Status>
     requires limits { OptionsKeepLimits search.now.options.now }
     requires team { IsTeam (λ rows. rows) (P.pre team.now) (P.post team.now) }
-    ensures answers { let plan = pieces_plan search.now.series.now search.now.queries.now search.now.options.now
-        (IsNearestPiece false search.now.options.now) in
-        Concludes (Writes (F.held files.old) plan)
-        (Refuses (read_from F.held F.faults F.misses F.blamed files.old files.new) plan)
+    ensures answers { Follows (pieces_plan search.now.series.now search.now.queries.now search.now.options.now
+        (IsNearestPiece false search.now.options.now))
+        (read_from F.held F.faults F.misses F.blamed files.old files.new)
         (wrote_to S.written S.faults S.sure out.old out.new) (ended result) }
     ensures kept { F.held files.new ≡ F.held files.old }
     ensures reliable { F.reliable files.old → (w : Which) → result ≢ Err (Status.ReadFault w) }
@@ -118,10 +115,9 @@ fn answer_indexed<
 ) -> Result<(), Status>
     requires limits { OptionsKeepLimits search.now.options.now }
     requires team { IsTeam (λ rows. rows) (P.pre team.now) (P.post team.now) }
-    ensures answers { let plan = indexed_plan index.now search.now.series.now search.now.queries.now
-        search.now.options.now in
-        Concludes (Writes (F.held files.old) plan)
-        (Refuses (read_from F.held F.faults F.misses F.blamed files.old files.new) plan)
+    ensures answers { Follows (indexed_plan index.now search.now.series.now search.now.queries.now
+        search.now.options.now)
+        (read_from F.held F.faults F.misses F.blamed files.old files.new)
         (wrote_to S.written S.faults S.sure out.old out.new) (ended result) }
     ensures kept { F.held files.new ≡ F.held files.old }
     ensures reliable { F.reliable files.old → (w : Which) → result ≢ Err (Status.ReadFault w) }
@@ -183,10 +179,9 @@ fn answer_certified<
 ) -> Result<(), Status>
     requires limits { OptionsKeepLimits search.now.options.now }
     requires team { IsTeam (λ rows. rows) (P.pre team.now) (P.post team.now) }
-    ensures answers { let plan = pieces_plan search.now.series.now search.now.queries.now search.now.options.now
-        (IsNearestPiece true search.now.options.now) in
-        Concludes (Writes (F.held files.old) plan)
-        (Refuses (read_from F.held F.faults F.misses F.blamed files.old files.new) plan)
+    ensures answers { Follows (pieces_plan search.now.series.now search.now.queries.now search.now.options.now
+        (IsNearestPiece true search.now.options.now))
+        (read_from F.held F.faults F.misses F.blamed files.old files.new)
         (wrote_to S.written S.faults S.sure out.old out.new) (ended result) }
     ensures kept { F.held files.new ≡ F.held files.old }
     ensures reliable { F.reliable files.old → (w : Which) → result ≢ Err (Status.ReadFault w) }

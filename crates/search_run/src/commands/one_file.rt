@@ -6,9 +6,8 @@ ghost use Rattle.outside.specs.Files.{Held};
 ghost use Rattle.command_words.specs.Limits.{OptionsKeepLimits};
 ghost use Rattle.discord_query.specs.Discords.{discords};
 ghost use Rattle.search_run.specs.Commands.{file_plan, file_rest};
-ghost use Rattle.search_run.specs.Conversions.{converted_text};
 ghost use Rattle.search_run.specs.DiscordLines.{discord_lines};
-ghost use Rattle.search_run.specs.Ends.{Concludes, ended};
+ghost use Rattle.search_run.specs.Ends.{Follows, ended};
 ghost use Rattle.search_run.specs.Finding.{IsTreeFor};
 ghost use Rattle.search_run.specs.Indexes.{IsTreeText};
 ghost use Rattle.search_run.specs.Layouts.{settings_of};
@@ -21,6 +20,7 @@ ghost use Rattle.search_run.specs.declared.status.Which.{Which};
 use crate::crew::Crew;
 use crate::input::file::{form_of, load};
 use crate::input::lengths::check_segments;
+use crate::output::converted::converted;
 use crate::output::discords::discord_text;
 use crate::status::{Status, Which};
 use crate::tree::{Tree, tree_of};
@@ -29,8 +29,7 @@ use discord_query::discord;
 use outside::{Files, Gate, NoMemory, Sink, write_whole};
 use saved_index::save;
 use series_core::{Flat, Rows};
-use series_file::{Loaded, write_numbered, write_series};
-use std::alloc::Global;
+use series_file::Loaded;
 use std::thread::Threads;
 
 /// What is written of the series of one file.
@@ -55,9 +54,8 @@ impl FileText {
         out: &mut S,
     ) -> Result<(), Status>
         requires { OptionsKeepLimits options.now }
-        ensures answers { let plan = file_plan self series.now options.now in
-            Concludes (Writes (F.held files.old) plan)
-            (Refuses (read_from F.held F.faults F.misses F.blamed files.old files.new) plan)
+        ensures answers { Follows (file_plan self series.now options.now)
+            (read_from F.held F.faults F.misses F.blamed files.old files.new)
             (wrote_to S.written S.faults S.sure out.old out.new) (ended result) }
         ensures kept { F.held files.new ≡ F.held files.old }
         ensures reliable { F.reliable files.old → (w : Which) → result ≢ Err (Status.ReadFault w) }
@@ -97,17 +95,6 @@ impl FileText {
                 Ok(discord_lines(crew, rows, &tree, options)?)
             }
         }
-    }
-}
-
-// The text of version 2 of a collection with its labels, or with its numbers.
-fn converted(alloc: Global, loaded: &Loaded) -> Result<Vec<u8>, NoMemory>
-    requires { HasLabels loaded.now }
-    ensures { IfOk result (λ text. text.items ≡ converted_text loaded.now) }
-{
-    match &loaded.labels {
-        Some(labels) => write_series(alloc, &loaded.rows, Some(labels.items.as_slice())),
-        None => write_numbered(alloc, &loaded.rows),
     }
 }
 

@@ -6,8 +6,8 @@ ghost use Rattle.command_words.specs.Limits.{OptionsKeepLimits};
 ghost use Rattle.search_run.specs.Traffic.{Reading, wrote_to};
 ghost use Rattle.search_run.specs.Commands.{trial_plan};
 ghost use Rattle.search_run.specs.Batches.{IsTeam};
-ghost use Rattle.search_run.specs.Ends.{Concludes, ended};
-ghost use Rattle.search_run.specs.Plans.{HasSegments, Refuses, Writes};
+ghost use Rattle.search_run.specs.Ends.{Follows, ended};
+ghost use Rattle.search_run.specs.Plans.{HasSegments};
 ghost use Rattle.search_run.specs.Trials.{KeepsTrialLimits, trial_text};
 ghost use Rattle.search_run.specs.declared.status.Status.{Status};
 ghost use Rattle.search_run.specs.declared.status.Which.{Which};
@@ -60,8 +60,7 @@ pub fn answer_trial<
     requires trial { KeepsTrialLimits count length queries }
     requires options { OptionsKeepLimits options.now }
     requires team { IsTeam (λ rows. rows) (P.pre team.now) (P.post team.now) }
-    ensures answers { let plan = trial_plan seed count length queries options.now in (reading : Reading)
-        → Concludes (Writes reading.held plan) (Refuses reading plan)
+    ensures answers { (reading : Reading) → Follows (trial_plan seed count length queries options.now) reading
         (wrote_to S.written S.faults S.sure out.old out.new) (ended result) }
     ensures reads_nothing { (w : Which) → result ≢ Err (Status.ReadFault w) }
 {

@@ -5,8 +5,7 @@ ghost use Rattle.std.specs.Prelude.{◌≡◌, ◌≢◌};
 ghost use Rattle.command_words.specs.Limits.{OptionsKeepLimits};
 ghost use Rattle.search_run.specs.Traffic.{read_from, wrote_to};
 ghost use Rattle.search_run.specs.Commands.{verify_plan};
-ghost use Rattle.search_run.specs.Ends.{Concludes, ended};
-ghost use Rattle.search_run.specs.Plans.{Refuses, Writes};
+ghost use Rattle.search_run.specs.Ends.{Follows, ended};
 ghost use Rattle.search_run.specs.declared.status.Status.{Status};
 ghost use Rattle.search_run.specs.declared.status.Which.{Which};
 
@@ -28,10 +27,8 @@ pub fn answer_verify<F: Files, S: Sink>(
     out: &mut S,
 ) -> Result<(), Status>
     requires { OptionsKeepLimits options.now }
-    ensures answers { let plan = verify_plan series.now queries.now certificate.now
-        options.now in
-        Concludes (Writes (F.held files.old) plan)
-        (Refuses (read_from F.held F.faults F.misses F.blamed files.old files.new) plan)
+    ensures answers { Follows (verify_plan series.now queries.now certificate.now options.now)
+        (read_from F.held F.faults F.misses F.blamed files.old files.new)
         (wrote_to S.written S.faults S.sure out.old out.new) (ended result) }
     ensures kept { F.held files.new ≡ F.held files.old }
     ensures reliable { F.reliable files.old → (w : Which) → result ≢ Err (Status.ReadFault w) }

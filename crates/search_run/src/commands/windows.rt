@@ -7,12 +7,11 @@ ghost use Rattle.command_words.specs.Options.{windows_needed};
 ghost use Rattle.series_core.specs.declared.best.TheConstants.{MAX_BEST};
 ghost use Rattle.series_file.specs.Stages.{IsForm};
 ghost use Rattle.search_run.specs.Batches.{IsTeam};
-ghost use Rattle.search_run.specs.Ends.{Concludes, ended};
+ghost use Rattle.search_run.specs.Ends.{Follows, ended};
 ghost use Rattle.search_run.specs.Loads.{form_of};
-ghost use Rattle.search_run.specs.Plans.{HasSegments, Refuses, Writes};
-ghost use Rattle.search_run.specs.Stops.{Stops};
+ghost use Rattle.search_run.specs.Plans.{Refuses};
 ghost use Rattle.search_run.specs.Traffic.{read_from, wrote_to};
-ghost use Rattle.search_run.specs.Windows.{AppendsChoices, FitLong, HasFew, IsChoice, long_plan, nothing_behind, windows_in, windows_plan};
+ghost use Rattle.search_run.specs.Windows.{FitLong, HasFew, long_plan, nothing_behind, windows_plan};
 ghost use Rattle.search_run.specs.declared.status.Status.{Status};
 ghost use Rattle.search_run.specs.declared.status.Which.{Which};
 
@@ -23,7 +22,6 @@ use crate::input::file::{form_of, load};
 use crate::input::lengths::check_segments;
 use crate::input::pair::{Both, Search};
 use crate::output::answers::{Telling, write_answers};
-use crate::output::stop::Stop;
 use crate::status::{Status, Which};
 use crate::tree::{Tree, tree_of};
 use command_words::{Options, Text};
@@ -57,9 +55,8 @@ pub fn answer_windows<
     requires team { IsTeam (λ windows. windows) (P.pre team.now) (P.post team.now) }
     requires step { 1 ≤ step }
     requires needed { windows_needed options.now ≤ MAX_BEST }
-    ensures answers { let plan = windows_plan series.now queries.now step options.now in
-        Concludes (Writes (F.held files.old) plan)
-        (Refuses (read_from F.held F.faults F.misses F.blamed files.old files.new) plan)
+    ensures answers { Follows (windows_plan series.now queries.now step options.now)
+        (read_from F.held F.faults F.misses F.blamed files.old files.new)
         (wrote_to S.written S.faults S.sure out.old out.new) (ended result) }
     ensures kept { F.held files.new ≡ F.held files.old }
     ensures reliable { F.reliable files.old → (w : Which) → result ≢ Err (Status.ReadFault w) }
@@ -70,7 +67,19 @@ pub fn answer_windows<
         options,
     };
     let both = read_long(crew.alloc, files, &search)?;
-    write_windows(crew, team, &both, step, options, out)?;
+    let windows = Windows::new(both.series.rows.values(), both.queries.rows.length(), step);
+    let tree = tree_of(crew, &windows, options)?;
+    let batch = Batch {
+        rows: &windows,
+        tree: &tree,
+        queries: &both.queries.rows,
+        asking: Asking {
+            k: options.windows_needed(),
+            ..asking_of(options)
+        },
+    };
+    let telling = Telling::Apart(options.apart, options.k);
+    write_answers(crew, team, &batch, &telling, out)?;
     Ok(())
 }
 
@@ -99,46 +108,4 @@ fn read_long<F: Files>(alloc: Global, files: &mut F, search: &Search<'_>) -> Res
     let queries = load(alloc, files, name.text.as_str(), Which::Queries, form)?;
     check_segments(search.options.segments, queries.rows.length())?;
     Ok(Both { series, queries })
-}
-
-// Builds the tree of the windows, and writes for each query those that are chosen.
-fn write_windows<
-    T: Threads + Sync,
-    S: Sink,
-    G: Gate + Sync,
-    P: Fn(&Windows<'_>, &Tree, &[i16], Asking) -> Result<Outcome, NoMemory>,
->(
-    crew: &Crew<'_, T, G>,
-    team: &P,
-    both: &Both,
-    step: u32,
-    options: &Options,
-    out: &mut S,
-) -> Result<(), Stop>
-    requires limits { OptionsKeepLimits options.now }
-    requires team { IsTeam (λ windows. windows) (P.pre team.now) (P.post team.now) }
-    requires segments { HasSegments options.now.segments both.now.queries.rows.points }
-    requires few { HasFew both.now.series }
-    requires step { 1 ≤ step }
-    requires needed { windows_needed options.now ≤ MAX_BEST }
-    ensures ok { let windows = windows_in both.now.series both.now.queries step in
-        OnOk result (AppendsChoices options.now windows both.now.queries.rows.series (S.written out.old) (S.written out.new)) }
-    ensures stops { let windows = windows_in both.now.series both.now.queries step in
-        IfErr result (Stops (IsChoice options.now windows) both.now.queries.rows.series
-        (wrote_to S.written S.faults S.sure out.old out.new)) }
-    ensures counts { S.faults out.old ≤ S.faults out.new }
-{
-    let windows = Windows::new(both.series.rows.values(), both.queries.rows.length(), step);
-    let tree = tree_of(crew, &windows, options)?;
-    let batch = Batch {
-        rows: &windows,
-        tree: &tree,
-        queries: &both.queries.rows,
-        asking: Asking {
-            k: options.windows_needed(),
-            ..asking_of(options)
-        },
-    };
-    let telling = Telling::Apart(options.apart, options.k);
-    write_answers(crew, team, &batch, &telling, out)
 }

@@ -1,9 +1,15 @@
-use Rattle.std.proofs.Common.{None, refl}
+use Rattle.std.proofs.Common.{rules, ◌≡◌, None, refl, subst}
+use Rattle.std.specs.Prelude.{Result, Ok, Err, IfErr, OnOk}
+use Rattle.search_run.specs.Batches.{AppendsTold, IsTold}
 use Rattle.search_run.specs.Plans.{Write}
+use Rattle.search_run.specs.Stops.{Stops}
 use Rattle.search_run.specs.Texts.{IsTextOf, query_text}
-use Rattle.search_run.specs.Windows.{IsChoice, found_apart, windows_in, windows_plan}
-use Rattle.search_run.proofs.Stopped.{refused_ends, stopped_ends}
-use Rattle.search_run.proofs.Windowed.{long_refused}
+use Rattle.search_run.specs.Traffic.{wrote_to}
+use Rattle.search_run.specs.Windows.{AppendsChoices, IsChoice, found_apart, windows_in, windows_plan}
+use Rattle.search_run.specs.declared.output.answers.Telling.TheVariants.{Apart}
+use Rattle.search_run.specs.declared.output.stop.Stop.{Stop}
+use Rattle.search_run.proofs.Stopped.{refused_ends, stop_reads_nothing, stopped_ends}
+use Rattle.search_run.proofs.Windowed.{chosen_done, chosen_stopped, long_refused}
 use Rattle.search_run.proofs.commands.windows.answer_windows.Goals as goal
 
 pub returns-in_err-both-clause-answers : goal.returns-in_err-both-clause-answers
@@ -15,15 +21,43 @@ returns-in_err-both-clause-answers g c =
     (λ x y. Write (IsTextOf (IsChoice o (windows_in x y c.args.step)) y.rows.series)) c.in_err-both.field-0.0
     c.in_err-both.ensures.refused) refl
 
-pub returns-in_err-write_windows-clause-answers : goal.returns-in_err-write_windows-clause-answers
-returns-in_err-write_windows-clause-answers g c =
+pub returns-in_err-write_answers-clause-answers : goal.returns-in_err-write_answers-clause-answers
+returns-in_err-write_answers-clause-answers g c =
     let x = c.in_ok-both.both.series in
     let y = c.in_ok-both.both.queries in
     let all = windows_in x y c.args.step in
     let o = c.args.options.now in
     let fit = c.in_ok-both.ensures.found in
+    let over : c.new-windows.result ≡ all = search rules in
+    let writing = wrote_to g.S.Sink.written g.S.Sink.faults g.S.Sink.sure c.args.out.now c.write_answers.new.out in
+    let stop = c.in_err-write_answers.field-0.0 in
+    let gave : Result (Unit {0}) Stop = Err stop in
+    let stopped = subst (λ w. IfErr gave (Stops (IsChoice o w) y.rows.series writing)) over
+    (chosen_stopped o c.requires.limits.apart.0 c.new-windows.result y.rows.series writing gave
+    (subst (λ k. IfErr gave (Stops (IsTold (Apart o.apart o.k) c.new-windows.result k) y.rows.series writing))
+    c.windows_needed.ensures c.in_err-write_answers.ensures.stops)) in
     stopped_ends (IsChoice o all) (λ i q. (query_text None i (found_apart o all q), refl)) y.rows.series _
     (windows_plan c.args.series.now c.args.queries.now c.args.step o) _
-    (λ text is. (x, fit.first, (y, fit.second, (fit.segments, is)))) c.in_err-write_windows.field-0.0
-    c.from_residual-in_err-write_windows.result c.from_residual-in_err-write_windows.ensures.1
-    c.in_err-write_windows.ensures.stops
+    (λ text is. (x, fit.first, (y, fit.second, (fit.segments, is)))) stop
+    c.from_residual-in_err-write_answers.result c.from_residual-in_err-write_answers.ensures.1 stopped
+
+pub returns-clause-answers : goal.returns-clause-answers
+returns-clause-answers g c =
+    let x = c.in_ok-both.both.series in
+    let y = c.in_ok-both.both.queries in
+    let o = c.args.options.now in
+    let fit = c.in_ok-both.ensures.found in
+    let over : c.new-windows.result ≡ windows_in x y c.args.step = search rules in
+    let before = g.S.Sink.written c.args.out.now in
+    let now = g.S.Sink.written c.write_answers.new.out in
+    let gave : Result (Unit {0}) Stop = Ok tt in
+    let wrote = subst (λ w. OnOk gave (AppendsChoices o w y.rows.series before now)) over
+    (chosen_done o c.requires.limits.apart.0 c.new-windows.result y.rows.series before now gave
+    (subst (λ k. OnOk gave (AppendsTold (Apart o.apart o.k) c.new-windows.result k y.rows.series before now))
+    c.windows_needed.ensures c.in_ok-write_answers.ensures.ok)) in
+    (wrote.0, (x, fit.first, (y, fit.second, (fit.segments, wrote.1))), wrote.2)
+
+pub returns-in_err-write_answers-clause-reliable : goal.returns-in_err-write_answers-clause-reliable
+returns-in_err-write_answers-clause-reliable g c reliable w =
+    stop_reads_nothing c.from_residual-in_err-write_answers.result c.in_err-write_answers.field-0.0 w
+    c.from_residual-in_err-write_answers.ensures.1
