@@ -28,3 +28,8 @@ misses_after _ misses = misses
 abbrev pub words_fault_of : ErrorKind → WordsFault
 words_fault_of OutOfMemory = NoMemoryForWords
 words_fault_of _ = NotText
+
+-- what stands for want of memory, or for a word that is no text
+abbrev pub told_as : {S : Type 0} → WordsFault → S → S → S
+told_as NoMemoryForWords memory usage = memory
+told_as NotText memory usage = usage

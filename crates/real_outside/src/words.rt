@@ -1,6 +1,6 @@
 //! The words of the command line, without the program's name.
 ghost use Rattle.std.specs.Prelude.{◌≡◌};
-ghost use Rattle.real_outside.specs.Refusals.{words_fault_of};
+ghost use Rattle.real_outside.specs.Refusals.{told_as, words_fault_of};
 
 use std::env;
 use std::io::ErrorKind;
@@ -16,6 +16,18 @@ pub enum WordsFault {
     /// Memory ran out.
     #[error("out of memory")]
     NoMemory,
+}
+
+impl WordsFault {
+    /// What a program tells of it: `memory` where memory ran out, and `usage` where a word is no text.
+    pub fn told_as<S: Drop>(self, memory: S, usage: S) -> S
+        ensures { result ≡ told_as self memory usage }
+    {
+        match self {
+            WordsFault::NoMemory => memory,
+            WordsFault::NotText => usage,
+        }
+    }
 }
 
 /// The words that follow the program's name.

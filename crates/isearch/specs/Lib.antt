@@ -1,2 +1,0 @@
--- The status where the words cannot be had.
-pub mod Refusals
