@@ -1,9 +1,9 @@
 -- The files of askings, one more behind the others; and how many queries they have.
-use Rattle.std.proofs.Common.{◌≡◌, ℕ, suc, ◌+◌, ◌*◌, ◌<◌, ◌≤◌, List, [], ◌∷◌, ◌++◌, All, length, map, take, drop, get_or, refl, sym, ap, ◌∙◌, subst, length-append, arith}
+use Rattle.std.proofs.Common.{◌≡◌, ℕ, suc, ◌+◌, ◌*◌, ◌<◌, ◌≤◌, List, [], ◌∷◌, ◌++◌, All, length, take, drop, get_or, refl, sym, ap, ◌∙◌, subst, length-append, arith}
 use Rattle.std.specs.List.{AllZip, AllByRecursion, flat_map}
 use Rattle.std.specs.Prelude.{Option, Some, ℤ, slice_get}
 use Rattle.std.proofs.lemmas.Option.{get_or_from_slice_get}
-use Rattle.series_core.specs.Collection.{Collection, IsCollection, IsSeries}
+use Rattle.series_core.specs.Collection.{Collection, IsCollection}
 use Rattle.std.proofs.lemmas.List.{drop_more, length-map, take-append-drop, take_more}
 use Rattle.std.proofs.lemmas.List.Elements.{All-from_recursion, All-head, All-push, All-tail}
 use Rattle.outside.specs.Files.{Held}
@@ -11,10 +11,10 @@ use Rattle.live_script.specs.Grammar.{IsAsking}
 use Rattle.live_script.specs.declared.script.Asking.{Asking}
 use Rattle.live_run.specs.Groups.{HoldAskings, HoldsAsking, RefusesAskings}
 use Rattle.live_run.specs.Loads.{RefusesFitting}
-use Rattle.live_run.specs.Traffic.{EndsReading, Reading}
+use Rattle.run_traffic.specs.Traffic.{EndsReading, Reading}
 use Rattle.live_run.specs.declared.status.LiveStatus.{LiveStatus}
 use Rattle.live_run.specs.Replies.{CanAsk}
-use Rattle.live_run.specs.Texts.{Query, file_queries}
+use Rattle.live_run.specs.Texts.{file_queries}
 use Rattle.live_run.specs.declared.group.QueryFile.{QueryFile}
 
 module _ {A B : Type 0} (R : A → B → Type 0) where

@@ -1,5 +1,5 @@
 -- The one reader of a new collection.
-use Rattle.std.proofs.Common.{◌≡◌, ℕ, ◌<◌, List, [], ◌∷◌, ◌++◌, length, refl, ap, subst, length-append, arith}
+use Rattle.std.proofs.Common.{◌≡◌, List, [], ◌∷◌, ◌++◌, length, refl, ap, subst, length-append, arith}
 use Rattle.std.specs.Prelude.{slice_index_or}
 use Rattle.live_collection.specs.Sides.{AreNewReaders, IsNewReader}
 use Rattle.live_collection.specs.declared.live.LiveCollection.{LiveCollection}

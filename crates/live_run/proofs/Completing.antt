@@ -1,24 +1,24 @@
 -- Where nothing keeps a run from its work, it ends with all of its text written, or for want of memory, or for a fault that
 -- was counted.
-use Rattle.std.proofs.Common.{◌≡◌, ℕ, zero, suc, ◌+◌, ◌<◌, ◌≤◌, ◌⊎◌, List, [], ◌∷◌, ◌++◌, length, map, get_or, Option, None, Some, inl, inr, ⊎_elim, ap, sym, ◌∙◌, subst, refl, append_assoc, append-nil, arith}
-use Rattle.std.specs.Prelude.{ℤ, IsSomeAnd, ⊤}
-use Rattle.std.specs.List.{AllZip, flat_map}
+use Rattle.std.proofs.Common.{◌≡◌, ℕ, zero, suc, ◌+◌, ◌<◌, ◌⊎◌, List, [], ◌∷◌, ◌++◌, length, map, get_or, Option, None, Some, inl, inr, ⊎_elim, ap, sym, ◌∙◌, subst, refl, append_assoc, append-nil, arith}
+use Rattle.std.specs.Prelude.{IsSomeAnd}
+use Rattle.std.specs.List.{AllZip}
 use Rattle.std.proofs.lemmas.List.{length-map}
-use Rattle.std.proofs.lemmas.Option.{same_Some}
 use Rattle.outside.specs.Files.{Held}
 use Rattle.series_core.specs.Collection.{Collection}
 use Rattle.live_collection.specs.declared.object.TheConstants.{MAX_BATCHES}
 use Rattle.series_core.specs.declared.rows.TheConstants.{MAX_COUNT}
-use Rattle.live_script.specs.Grammar.{IsFault, IsScript}
+use Rattle.live_script.specs.Grammar.{IsScript}
 use Rattle.live_script.specs.declared.script.Asking.{Asking}
 use Rattle.live_script.specs.declared.script.Group.{Group}
 use Rattle.live_script.specs.declared.script.NamedFile.{NamedFile}
 use Rattle.series_file.specs.declared.error.FileError.{FileError}
 use Rattle.live_run.specs.Ends.{CanRun, Ends, GroupsEnd, IsAnswered, Names, ScriptEnds, Taken, TellsCause}
 use Rattle.live_run.specs.Groups.{AllPass, HasRoom, HoldAskings, HoldsAsking, HoldsGroup, IsFull, RefusesGroup, StopsAt, want_of}
-use Rattle.live_run.specs.Loads.{FitsLength, HoldsBytes, HoldsScript, IsHeldAs, IsScriptFault, IsShortScript, IsShown, RefusesFitting, RefusesScript, most_bytes}
+use Rattle.live_run.specs.Loads.{IsScriptFault, IsShortScript, RefusesFitting, RefusesScript}
+use Rattle.run_traffic.specs.Named.{HoldsBytes, IsHeldAs, IsShown}
 use Rattle.live_run.specs.Texts.{all_series}
-use Rattle.live_run.specs.Traffic.{Reading, Writing}
+use Rattle.run_traffic.specs.Traffic.{Reading, Writing}
 use Rattle.live_run.specs.declared.group.Contents.{Contents}
 use Rattle.live_run.specs.declared.group.QueryFile.{QueryFile}
 use Rattle.live_run.specs.declared.status.LiveStatus.{LiveStatus}
@@ -200,8 +200,8 @@ groups_answered reading writing groups contents (Full b t) told all x = stopped 
 script_excused : (reading : Reading) (name : List ℕ) (groups : List Group) (status : LiveStatus) → IsTold reading.held
     → HoldsBytes reading.held name (IsShortScript groups) → RefusesScript reading name status → IsExcused reading status
 script_excused reading name groups (Missing l) told holds x =
-    absurd (not_absent reading.held name (IsShortScript groups) told holds x.2)
-script_excused reading name groups (ReadFault l) told holds x = x.1
+    absurd (not_absent reading.held name (IsShortScript groups) told holds x.1.1)
+script_excused reading name groups (ReadFault l) told holds x = x.1.0
 script_excused reading name groups Memory told holds x = tt
 script_excused reading name groups (Script at) told holds x =
     let both = both_bytes reading.held name (IsShortScript groups) (IsScriptFault at) told holds x in

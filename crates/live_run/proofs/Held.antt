@@ -1,7 +1,6 @@
 -- Where the files' contents are known, a named file holds one thing, and what is held is not refused.
-use Rattle.std.proofs.Common.{◌≡◌, ℕ, ◌≤◌, List, [], ◌∷◌, ◌++◌, Option, None, Some, IfSome, inl, inr, ap, sym, ◌∙◌, subst, refl}
+use Rattle.std.proofs.Common.{◌≡◌, ℕ, List, Option, None, Some, IfSome, inl, inr, sym, ◌∙◌, subst}
 use Rattle.std.specs.Prelude.{IsSomeAnd, ⊤}
-use Rattle.std.specs.List.{AllZip}
 use Rattle.std.proofs.lemmas.Option.{none-some, same_Some}
 use Rattle.outside.specs.Count.{Rose}
 use Rattle.outside.specs.Files.{Held}
@@ -11,8 +10,9 @@ use Rattle.series_file.specs.declared.error.Form.TheVariants.{Headed}
 use Rattle.series_file.proofs.Passing.{no_fault}
 use Rattle.series_file.proofs.Unique.{one_collection}
 use Rattle.live_script.specs.declared.script.NamedFile.{NamedFile}
-use Rattle.live_run.specs.Loads.{Differs, FitsLength, HoldsBytes, HoldsFile, RefusesFitting, Spells}
-use Rattle.live_run.specs.Traffic.{Reading}
+use Rattle.live_run.specs.Loads.{Differs, FitsLength, HoldsFile, RefusesFitting, Spells}
+use Rattle.run_traffic.specs.Named.{HoldsBytes}
+use Rattle.run_traffic.specs.Traffic.{Reading}
 use Rattle.live_run.specs.declared.status.LiveStatus.{LiveStatus}
 use Rattle.live_run.specs.declared.status.LiveStatus.TheVariants.{Done, Usage, Missing, ReadFault, Format, Mismatch, WriteFault, Memory, Script, Full}
 
@@ -50,8 +50,8 @@ pub file_excused : (reading : Reading) (want : Option ℕ) (file : NamedFile) (r
     → IsTold reading.held → HoldsFile reading.held file.name rows → FitsLength want rows.points
     → RefusesFitting reading want file status → IsExcused reading status
 file_excused reading want file rows (Missing l) told holds fits (inl x) =
-    absurd (not_absent reading.held file.name (Spells rows) told holds x.2)
-file_excused reading want file rows (ReadFault l) told holds fits (inl x) = x.1
+    absurd (not_absent reading.held file.name (Spells rows) told holds x.1.1)
+file_excused reading want file rows (ReadFault l) told holds fits (inl x) = x.1.0
 file_excused reading want file rows Memory told holds fits x = tt
 file_excused reading want file rows (Format l e) told holds fits (inl x) =
     let both = both_bytes reading.held file.name (Spells rows) (λ bytes. fault Headed bytes ≡ Some e) told holds x.2 in

@@ -1,13 +1,12 @@
 -- How the end of a script's groups, or a script that is refused, is the end of a run with these words.
-use Rattle.std.proofs.Common.{◌≡◌, ℕ, suc, ◌+◌, ◌≤◌, List, [], ◌∷◌, ◌++◌, length, Option, None, Some, inl, inr, ap, ◌∙◌, length-append, arith}
-use Rattle.std.specs.List.{flat_map}
+use Rattle.std.proofs.Common.{ℕ, ◌≤◌, List, [], ◌∷◌, ◌++◌, length, Option, None, Some, inl, inr, ap, length-append, arith}
 use Rattle.live_script.specs.Grammar.{lines_text, script_lines}
 use Rattle.live_script.specs.declared.script.Group.{Group}
 use Rattle.live_script.specs.declared.script.NamedFile.{NamedFile}
-use Rattle.live_run.specs.Ends.{Ends, GroupsEnd, Names, WroteNothing}
+use Rattle.live_run.specs.Ends.{Ends, GroupsEnd, Names}
+use Rattle.run_traffic.specs.Traffic.{Reading, Writing, WroteNothing}
 use Rattle.live_run.specs.Groups.{RefusesGroup, StopsAt, want_of}
 use Rattle.live_run.specs.Loads.{HoldsScript, IsShortScript, RefusesFitting, RefusesScript, most_bytes}
-use Rattle.live_run.specs.Traffic.{Reading, Writing}
 use Rattle.live_run.specs.declared.group.Contents.{Contents}
 use Rattle.live_run.specs.declared.status.LiveStatus.{LiveStatus}
 use Rattle.live_run.specs.declared.status.LiveStatus.TheVariants.{Done, Usage, Missing, ReadFault, Format, Mismatch, WriteFault, Memory, Script, Full}

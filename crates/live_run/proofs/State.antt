@@ -1,22 +1,22 @@
 -- What is known of a run behind some groups: what their files held, the dialogue that took them, and the text of them, which
 -- was written.
-use Rattle.std.proofs.Common.{◌≡◌, ℕ, suc, ◌+◌, ◌*◌, ◌<◌, ◌≤◌, ◌^◌, List, [], ◌∷◌, ◌++◌, All, length, map, take, drop, get_or, Option, None, Some, refl, sym, ap, ◌∙◌, subst, append_assoc, append-nil, length-append, inl, inr, arith}
+use Rattle.std.proofs.Common.{◌≡◌, ℕ, ◌+◌, ◌*◌, ◌<◌, ◌≤◌, ◌^◌, List, [], ◌∷◌, ◌++◌, All, length, take, drop, get_or, Option, None, Some, refl, sym, ap, ◌∙◌, subst, length-append, arith}
 use Rattle.std.specs.Prelude.{Result, Ok, Err, IsErrAnd}
-use Rattle.std.specs.List.{AllZip, flat_map}
 use Rattle.std.specs.Io.KnownBytes.{append_known}
 use Rattle.std.proofs.lemmas.List.{drop_more, length-map, take-append-drop, take_more, take_all}
-use Rattle.outside.specs.Count.{Rose, Rose-wider}
+use Rattle.outside.specs.Count.{Rose}
 use Rattle.outside.specs.Files.{Held}
 use Rattle.outside.specs.Sink.{AppendsPrefix}
 use Rattle.live_script.specs.Grammar.{asking_line, group_lines, script_lines}
 use Rattle.live_script.specs.declared.script.Group.{Group}
-use Rattle.live_run.specs.Ends.{GroupsEnd, StopsWriting, Taken, ended}
+use Rattle.live_run.specs.Ends.{GroupsEnd, Taken, ended}
 use Rattle.live_run.specs.Groups.{AllPass, HoldsAsking, HoldsGroup, StopsAt, want_of}
 use Rattle.live_run.specs.Loads.{FitsLength, most_bytes}
 use Rattle.live_run.specs.Replies.{CanAsk}
 use Rattle.live_run.specs.Dialogues.{HasTaken, IsTextOfGroup, Stands, Takes, length_of}
 use Rattle.live_run.specs.Texts.{IsScriptText, all_queries, queries_of}
-use Rattle.live_run.specs.Traffic.{Appended, Reading, Writing}
+use Rattle.run_traffic.specs.Traffic.{Reading, Writing}
+use Rattle.run_traffic.proofs.Appending.{append_known-append, append_known-nil}
 use Rattle.live_run.specs.declared.group.Contents.{Contents}
 use Rattle.live_run.specs.declared.dialogue.Dialogue.{Dialogue}
 use Rattle.live_run.specs.declared.status.LiveStatus.{LiveStatus}
@@ -33,17 +33,6 @@ pub record IsBehind (held : Option Held) (done : List Group) (dialogue : Option 
   pub told : IsScriptText contents text
   pub wrote : now ≡ append_known before text
   pub few : length (all_queries contents) ≤ 16777216 * length (script_lines done)
-
--- nothing appended changes nothing
-append_known-nil : (known : Option (List ℕ)) → known ≡ append_known known []
-append_known-nil None = refl
-append_known-nil (Some bytes) = ap (λ zs. Some zs) (sym (append-nil bytes))
-
--- appending twice appends both
-append_known-append : (known : Option (List ℕ)) (xs ys : List ℕ)
-    → append_known (append_known known xs) ys ≡ append_known known (xs ++ ys)
-append_known-append None xs ys = refl
-append_known-append (Some bytes) xs ys = ap (λ zs. Some zs) (append_assoc bytes xs ys)
 
 -- at first there are no groups
 pub behind_none : (held : Option Held) (before : Option (List ℕ)) → IsBehind held [] None before before

@@ -1,11 +1,9 @@
 -- What is known of a run behind some of its groups, and how it ends there.
-use Rattle.std.proofs.Common.{◌≡◌, ℕ, suc, ◌+◌, ◌*◌, ◌<◌, ◌≤◌, ◌⊎◌, inl, inr, ⊎_elim, List, [], ◌∷◌, ◌++◌, length, map, take, drop, get_or, Option, None, Some, refl, sym, ap, ◌∙◌, subst, append_assoc, append-nil, length-append, arith}
-use Rattle.std.specs.Prelude.{ℤ, IfSome}
+use Rattle.std.proofs.Common.{◌≡◌, ℕ, ◌+◌, ◌<◌, ◌≤◌, inl, inr, List, [], ◌∷◌, ◌++◌, length, map, take, drop, get_or, Option, None, Some, refl, sym, ap, ◌∙◌, subst, append_assoc, append-nil, length-append, arith}
+use Rattle.std.specs.Prelude.{ℤ}
 use Rattle.std.specs.List.{flat_map}
-use Rattle.std.proofs.lemmas.List.{drop_more, length-map, map-append, take-append-drop, take_more}
+use Rattle.std.proofs.lemmas.List.{length-map, map-append, take-append-drop, take_more}
 use Rattle.std.proofs.lemmas.List.Concat.{flat_map-append}
-use Rattle.std.specs.Io.KnownBytes.{append_known}
-use Rattle.outside.specs.Count.{Rose}
 use Rattle.outside.specs.Files.{Held}
 use Rattle.series_core.specs.Collection.{Collection}
 use Rattle.live_collection.specs.declared.batch.Batch.{Batch}
@@ -13,12 +11,12 @@ use Rattle.live_collection.specs.Histories.{series_of}
 use Rattle.live_script.specs.Grammar.{group_lines, script_lines}
 use Rattle.live_script.specs.declared.script.Group.{Group}
 use Rattle.live_script.specs.declared.script.NamedFile.{NamedFile}
-use Rattle.live_run.specs.Ends.{GroupsEnd, StopsWriting, Taken}
-use Rattle.live_run.specs.Groups.{AllPass, HasRoom, HoldsGroup, IsFull, Passes, RefusesGroup, StopsAt, want_of}
-use Rattle.live_run.specs.Loads.{Differs, FitsLength, RefusesFitting}
-use Rattle.live_run.specs.Dialogues.{AreBatchesOf, HasTaken, IsNew, IsDialogue, IsTextOfGroup, RefusesBatch, Stands, Takes, batches_of, length_of, scene_of}
+use Rattle.live_run.specs.Ends.{GroupsEnd, Taken}
+use Rattle.live_run.specs.Groups.{AllPass, HasRoom, HoldsGroup, Passes, RefusesGroup, StopsAt, want_of}
+use Rattle.live_run.specs.Loads.{FitsLength, RefusesFitting}
+use Rattle.live_run.specs.Dialogues.{AreBatchesOf, HasTaken, IsNew, IsTextOfGroup, RefusesBatch, Stands, Takes, batches_of, length_of, scene_of}
 use Rattle.live_run.specs.Texts.{IsQueriesText, IsScriptText, Scene, all_queries, all_series, queries_of, scene}
-use Rattle.live_run.specs.Traffic.{Appended, Reading, Writing}
+use Rattle.run_traffic.specs.Traffic.{Appended, Reading, Writing}
 use Rattle.live_run.specs.declared.group.Contents.{Contents}
 use Rattle.live_run.specs.declared.dialogue.Dialogue.{Dialogue}
 use Rattle.live_run.specs.declared.status.LiveStatus.{LiveStatus}

@@ -1,5 +1,5 @@
 -- What the append of a group, its asks and the telling behind them make of a dialogue.
-use Rattle.std.proofs.Common.{◌≡◌, ℕ, ◌+◌, ◌≤◌, ◌⊎◌, List, [], ◌∷◌, ◌++◌, length, refl, sym, ap, ◌∙◌, subst, append-nil, arith}
+use Rattle.std.proofs.Common.{◌≡◌, ℕ, ◌+◌, ◌≤◌, List, [], ◌∷◌, ◌++◌, length, sym, ap, ◌∙◌, subst, append-nil, arith}
 use Rattle.std.proofs.lemmas.List.Concat.{flat_map-append}
 use mathlib.Core.List.{IsPrefix}
 use Rattle.series_core.specs.Collection.{Collection}
@@ -13,10 +13,10 @@ use Rattle.live_collection.specs.declared.live.Writer.{Writer}
 use Rattle.live_collection.specs.declared.live.Reader.{Reader}
 use Rattle.live_collection.specs.declared.object.TheConstants.{MAX_BATCHES}
 use Rattle.series_core.specs.declared.rows.TheConstants.{MAX_COUNT}
-use Rattle.live_collection.specs.Histories.{Log, appended, appended_by, series_of}
+use Rattle.live_collection.specs.Histories.{appended, appended_by, series_of}
 use Rattle.live_collection.specs.PlainLive.{empty_live}
 use Rattle.live_collection.specs.Sides.{IsWriterOf, points_of, reader_saw, writer_made, writer_saw}
-use Rattle.live_collection.specs.Steps.{Appends, BatchRefused, BatchStands, CallsAppend, MakesCall, appends}
+use Rattle.live_collection.specs.Steps.{Appends, BatchRefused, BatchStands, CallsAppend, appends}
 use Rattle.live_collection.proofs.Takings.{appended_prefix, writer_appends}
 use Rattle.live_run.specs.Replies.{IsAskedText}
 use Rattle.live_run.specs.Dialogues.{RefusesBatch, batches_of, batches_seen}

@@ -1,10 +1,10 @@
 -- The text of one group more.
-use Rattle.std.proofs.Common.{◌≡◌, ℕ, suc, ◌+◌, ◌≤◌, ◌⊎◌, ⊎_elim, List, [], ◌∷◌, ◌++◌, length, map, take, refl, sym, ap, ◌∙◌, subst, append_assoc, append-nil, length-append, arith}
+use Rattle.std.proofs.Common.{◌≡◌, ℕ, ◌+◌, ◌≤◌, ◌⊎◌, ⊎_elim, List, [], ◌∷◌, ◌++◌, length, take, refl, sym, ap, ◌∙◌, subst, append_assoc, append-nil, length-append, arith}
 use Rattle.std.specs.Prelude.{ℤ}
 use Rattle.std.proofs.lemmas.List.{take-append-le}
 use Rattle.std.proofs.lemmas.List.Concat.{flat_map-append}
 use Rattle.series_core.specs.Answer.{answer}
-use Rattle.live_run.specs.Texts.{IsGroupsText, IsQueriesText, IsScriptText, Query, Scene, all_queries, all_series, first_text, queries_of, query_text, scene}
+use Rattle.live_run.specs.Texts.{IsGroupsText, IsQueriesText, IsScriptText, Query, Scene, all_queries, all_series, queries_of, query_text, scene}
 use Rattle.live_run.specs.declared.group.Contents.{Contents}
 
 -- the series and the queries of one group more

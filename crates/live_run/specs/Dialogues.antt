@@ -1,5 +1,5 @@
 -- A live collection with its one writer and its one reader, between two groups.
-use Rattle.std.specs.Prelude.{◌≡◌, ℕ, ◌+◌, ◌*◌, ◌<◌, ◌≤◌, ◌⊎◌, List, [], ◌∷◌, ◌++◌, length, map, vec_capacity, Option, None, Some}
+use Rattle.std.specs.Prelude.{◌≡◌, ℕ, ◌+◌, ◌<◌, ◌≤◌, ◌⊎◌, List, [], ◌∷◌, ◌++◌, length, map, vec_capacity, Option, None, Some}
 use mathlib.Core.List.{IsPrefix}
 use Rattle.series_core.specs.Collection.{Collection}
 use Rattle.series_core.specs.declared.rows.TheConstants.{MAX_COUNT}
@@ -7,10 +7,9 @@ use Rattle.live_collection.specs.declared.object.TheConstants.{MAX_BATCHES}
 use Rattle.live_collection.specs.declared.batch.Batch.{Batch}
 use Rattle.live_collection.specs.declared.live.Writer.{Writer}
 use Rattle.live_collection.specs.declared.live.Reader.{Reader}
-use Rattle.live_collection.specs.declared.live.LiveCollection.{LiveCollection}
 use Rattle.live_collection.specs.Histories.{appended, series_of}
 use Rattle.live_collection.specs.Sides.{IsReaderOf, IsWriterOf, points_of, reader_saw, writer_made}
-use Rattle.live_run.specs.Texts.{Scene, IsQueriesText, all_queries, all_series, queries_of}
+use Rattle.live_run.specs.Texts.{Scene, IsQueriesText, all_queries, queries_of}
 use Rattle.live_run.specs.declared.group.Contents.{Contents}
 use Rattle.live_run.specs.declared.dialogue.Dialogue.{Dialogue}
 use Rattle.live_run.specs.declared.status.LiveStatus.{LiveStatus}

@@ -1,12 +1,13 @@
 -- How a run of a script ends: for each status what shows it, and what was written.
-use Rattle.std.specs.Prelude.{◌≡◌, ◌≢◌, ℕ, ◌==◌, ◌≤◌, ◌⊎◌, List, [], ◌∷◌, ◌++◌, Bool, true, false, not, length, take, Option, Result, Ok, Err, IsSomeAnd, Some}
+use Rattle.std.specs.Prelude.{◌≡◌, ℕ, ◌==◌, ◌≤◌, ◌⊎◌, List, [], ◌∷◌, ◌++◌, Bool, true, false, not, length, take, Option, Result, Ok, Err, IsSomeAnd}
 use Rattle.outside.specs.Count.{Rose}
 use Rattle.outside.specs.Files.{Held}
 use Rattle.live_script.specs.declared.script.Group.{Group}
 use Rattle.live_run.specs.Groups.{AllPass, HasRoom, HoldsGroup, StopsAt, want_of}
-use Rattle.live_run.specs.Loads.{HoldsScript, IsHeldAs, IsShortScript, IsShown, RefusesScript}
+use Rattle.live_run.specs.Loads.{HoldsScript, IsShortScript, RefusesScript}
+use Rattle.run_traffic.specs.Named.{IsHeldAs, IsShown}
 use Rattle.live_run.specs.Texts.{IsScriptText}
-use Rattle.live_run.specs.Traffic.{Appended, Reading, Writing}
+use Rattle.run_traffic.specs.Traffic.{Appended, Reading, Writing, WroteNothing}
 use Rattle.live_run.specs.declared.group.Contents.{Contents}
 use Rattle.live_run.specs.declared.status.LiveStatus.{LiveStatus}
 use Rattle.live_run.specs.declared.status.LiveStatus.TheVariants.{Done, Usage, ReadFault, Format, WriteFault, Memory}
@@ -54,10 +55,6 @@ GroupsEnd reading writing groups WriteFault = (taken : Taken reading.held groups
     × StopsWriting reading.held taken.contents taken.rest taken.text text × Appended writing text × Rose writing.faults writing.later
 GroupsEnd reading writing groups status = (taken : Taken reading.held groups)
     × StopsAt reading taken.contents taken.rest status × Appended writing taken.text
-
--- nothing was written
-abbrev pub WroteNothing : Writing → Type 0
-WroteNothing writing = writing.now ≡ writing.before
 
 -- what shows each status of a run of the script of this name, and what was written
 abbrev pub ScriptEnds : Reading → Writing → List ℕ → LiveStatus → Type 0

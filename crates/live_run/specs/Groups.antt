@@ -9,7 +9,7 @@ use Rattle.live_script.specs.declared.script.Asking.{Asking}
 use Rattle.live_script.specs.declared.script.Group.{Group}
 use Rattle.live_run.specs.Loads.{FitsLength, HoldsFile, RefusesFitting}
 use Rattle.live_run.specs.Texts.{all_series}
-use Rattle.live_run.specs.Traffic.{Reading}
+use Rattle.run_traffic.specs.Traffic.{Reading}
 use Rattle.live_run.specs.declared.group.Contents.{Contents}
 use Rattle.live_run.specs.declared.group.QueryFile.{QueryFile}
 use Rattle.live_run.specs.declared.status.LiveStatus.{LiveStatus}

@@ -1,6 +1,5 @@
 -- A named file: what is known where it was read, and why it was refused.
-use Rattle.std.specs.Prelude.{◌≡◌, ◌≢◌, ℕ, ◌<◌, ◌≤◌, ◌⊎◌, ⊤, zero, suc, List, length, Option, None, Some, IfSome}
-use Rattle.outside.specs.Count.{Rose}
+use Rattle.std.specs.Prelude.{◌≡◌, ◌≢◌, ℕ, ◌<◌, ◌≤◌, ◌⊎◌, ⊤, zero, suc, List, length, Option, Some, IfSome}
 use Rattle.outside.specs.Files.{Held}
 use Rattle.series_core.specs.Collection.{Collection}
 use Rattle.series_file.specs.Format.{IsFile}
@@ -11,25 +10,16 @@ use Rattle.series_file.specs.declared.error.FileError.TheVariants.{ReadFault as 
 use Rattle.live_script.specs.declared.script.NamedFile.{NamedFile}
 use Rattle.live_script.specs.declared.script.Group.{Group}
 use Rattle.live_script.specs.Grammar.{IsFault, IsScript}
-use Rattle.live_run.specs.Traffic.{Reading}
+use Rattle.run_traffic.specs.Traffic.{Reading}
+use Rattle.run_traffic.specs.Named.{FailedReading, HoldsBytes, IsAbsent, IsShown}
 use Rattle.live_run.specs.declared.status.LiveStatus.{LiveStatus}
 use Rattle.live_run.specs.declared.status.LiveStatus.TheVariants.{Missing, ReadFault, Format, Mismatch, Memory, Script}
-
--- the name is held, and this is so of its bytes
-abbrev pub IsHeldAs : Held → List ℕ → (List ℕ → Type 0) → Type 0
-IsHeldAs h name IsSo = (bytes : List ℕ) × (h name ≡ Some bytes) × IsSo bytes
-
--- where known, the name is held, and this is so of its bytes
-abbrev pub HoldsBytes : Option Held → List ℕ → (List ℕ → Type 0) → Type 0
-HoldsBytes held name IsSo = IfSome held (λ h. IsHeldAs h name IsSo)
 
 -- why the file that this line names is refused: no file has the name, or opening or reading it failed, or memory ran out,
 -- or its bytes show such a cause
 abbrev pub RefusesNamed : ℕ → (LiveStatus → Type 0) → Reading → List ℕ → LiveStatus → Type 0
-RefusesNamed line Shows reading name (Missing l) =
-    (l ≡ line) × Rose reading.misses reading.more × IfSome reading.held (λ h. h name ≡ None)
-RefusesNamed line Shows reading name (ReadFault l) =
-    (l ≡ line) × Rose reading.faults reading.later × IfSome reading.blamed (λ b. b ≡ name)
+RefusesNamed line Shows reading name (Missing l) = (l ≡ line) × IsAbsent reading name
+RefusesNamed line Shows reading name (ReadFault l) = (l ≡ line) × FailedReading reading name
 RefusesNamed line Shows reading name Memory = ⊤
 RefusesNamed line Shows reading name status = Shows status
 
@@ -40,12 +30,6 @@ Spells rows bytes = (labels : Option (List ℕ)) × IsFile Headed bytes rows lab
 -- where known, the name is held as a series file of this collection
 abbrev pub HoldsFile : Option Held → List ℕ → Collection → Type 0
 HoldsFile held name rows = HoldsBytes held name (Spells rows)
-
--- bytes can show this error: no failed read, and no want of memory
-abbrev pub IsShown : FileError → Type 0
-IsShown FileReadFault = ⊥
-IsShown NoMemory = ⊥
-IsShown e = ⊤
 
 -- the bytes are no series file, and the status has the line and the first test that fails
 abbrev pub ShowsFault : ℕ → Option Held → List ℕ → LiveStatus → Type 0

@@ -3,6 +3,7 @@ use Rattle.std.specs.Prelude.{◌≡◌, ℕ, ◌+◌, ◌≤◌, ◌⊎◌, ℤ
 use Rattle.std.specs.List.{flat_map}
 use Rattle.series_core.specs.Answer.{answer}
 use Rattle.series_core.specs.declared.pair.Pair.{Pair}
+use Rattle.run_traffic.specs.Lines.{ranked}
 use Rattle.live_run.specs.declared.group.Contents.{Contents}
 use Rattle.live_run.specs.declared.group.QueryFile.{QueryFile}
 
@@ -16,8 +17,7 @@ answer_line r p = decimal r ++ 32 ∷ decimal p.number ++ 32 ∷ decimal p.dista
 
 -- the lines of these answers, the first of them of rank r
 abbrev pub answer_lines : ℕ → List Pair → List ℕ
-answer_lines r [] = []
-answer_lines r (p ∷ ps) = answer_line r p ++ answer_lines (r + 1) ps
+answer_lines r ps = ranked answer_line r ps
 
 -- the text of query i over `count` series, with these answers
 abbrev pub query_text : ℕ → ℕ → List Pair → List ℕ

@@ -4,7 +4,7 @@ ghost use Rattle.std.specs.Prelude.{◌≡◌, ◌≤◌, OnOk, IfOk, IfErr};
 ghost use Rattle.outside.specs.Files.{Opens};
 ghost use Rattle.series_core.specs.Collection.{IsCollection};
 ghost use Rattle.live_run.specs.Loads.{FitsLength, HoldsFile, RefusesFile, RefusesFitting, RefusesNamed, refusal_of};
-ghost use Rattle.live_run.specs.Traffic.{EndsReading, Reading, read_from};
+ghost use Rattle.run_traffic.specs.Traffic.{EndsReading, Reading, read_from};
 
 use crate::status::LiveStatus;
 use live_script::NamedFile;

@@ -6,7 +6,7 @@ ghost use Rattle.live_script.specs.Grammar.{IsAsking, IsGroup};
 ghost use Rattle.series_core.specs.Collection.{IsCollection};
 ghost use Rattle.live_run.specs.Groups.{HoldAskings, HoldsGroup, RefusesAskings, RefusesGroup};
 ghost use Rattle.live_run.specs.Replies.{CanAsk};
-ghost use Rattle.live_run.specs.Traffic.{EndsReading, Reading, read_from};
+ghost use Rattle.run_traffic.specs.Traffic.{EndsReading, Reading, read_from};
 
 use crate::file::load_fitting;
 use crate::status::LiveStatus;

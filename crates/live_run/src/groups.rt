@@ -5,7 +5,7 @@ ghost use Rattle.std.specs.List.{AllByRecursion};
 ghost use Rattle.live_script.specs.Grammar.{IsGroup, script_lines};
 ghost use Rattle.live_run.specs.Ends.{GroupsEnd, ended};
 ghost use Rattle.live_run.specs.Loads.{most_bytes};
-ghost use Rattle.live_run.specs.Traffic.{EndsReading, Reading, read_from, wrote_to};
+ghost use Rattle.run_traffic.specs.Traffic.{EndsReading, Reading, read_from, wrote_to};
 
 use crate::dialogue::{Dialogue, begun, length_of};
 use crate::group::load_group;
@@ -30,7 +30,7 @@ pub fn run_groups<H: Threads + Wait + Sync, F: Files, S: Sink, G: Gate + Sync>(
     requires few { length (script_lines groups.now) ≤ most_bytes }
     ensures ends { (whole : Reading)
         → EndsReading whole (read_from F.held F.faults F.misses F.blamed files.old files.new)
-        → GroupsEnd whole (wrote_to S.written S.faults out.old out.new) groups.now (ended result) }
+        → GroupsEnd whole (wrote_to S.written S.faults S.sure out.old out.new) groups.now (ended result) }
     ensures kept { F.held files.new ≡ F.held files.old }
 {
     let mut dialogue: Option<Dialogue> = None;

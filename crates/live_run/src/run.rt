@@ -3,7 +3,7 @@
 ghost use Rattle.std.specs.Prelude.{◌≡◌, map, string_bytes};
 ghost use Rattle.live_run.specs.Ends.{CanRun, Ends, IsAnswered, TellsCause, ended};
 ghost use Rattle.live_run.specs.Status.{fault_line};
-ghost use Rattle.live_run.specs.Traffic.{Tells, read_from, wrote_to};
+ghost use Rattle.run_traffic.specs.Traffic.{Tells, read_from, wrote_to};
 
 use crate::groups::run_groups;
 use crate::script_file::{load_script, script_name};
@@ -28,7 +28,7 @@ pub fn live_run<H: Threads + Wait + Sync, F: Files, S: Sink, E: Sink, G: Gate + 
 ) -> LiveStatus
     ensures ends { Ends (map string_bytes words.now)
         (read_from F.held F.faults F.misses F.blamed files.old files.new)
-        (wrote_to S.written S.faults out.old out.new) result }
+        (wrote_to S.written S.faults S.sure out.old out.new) result }
     ensures complete { CanRun (map string_bytes words.now) (F.held files.old)
         → IsAnswered (F.faults files.old) (F.faults files.new) (S.faults out.old) (S.faults out.new) result }
     ensures cause { TellsCause result }
@@ -51,7 +51,7 @@ fn run<H: Threads + Wait + Sync, F: Files, S: Sink, G: Gate + Sync>(
 ) -> Result<(), LiveStatus>
     ensures ends { Ends (map string_bytes words.now)
         (read_from F.held F.faults F.misses F.blamed files.old files.new)
-        (wrote_to S.written S.faults out.old out.new) (ended result) }
+        (wrote_to S.written S.faults S.sure out.old out.new) (ended result) }
     ensures kept { F.held files.new ≡ F.held files.old }
 {
     let name = script_name(words)?;

@@ -2,8 +2,9 @@
 
 ghost use Rattle.std.specs.Prelude.{◌≡◌, ℕ, ◌≤◌, List, IfOk, IfErr, length, map, string_bytes};
 ghost use Rattle.live_run.specs.Ends.{Names, can_name};
-ghost use Rattle.live_run.specs.Loads.{HoldsBytes, HoldsScript, RefusesScript, most_bytes};
-ghost use Rattle.live_run.specs.Traffic.{read_from};
+ghost use Rattle.live_run.specs.Loads.{HoldsScript, RefusesScript, most_bytes};
+ghost use Rattle.run_traffic.specs.Named.{HoldsBytes};
+ghost use Rattle.run_traffic.specs.Traffic.{read_from};
 ghost use Rattle.live_run.specs.declared.status.LiveStatus.TheVariants.{Usage};
 
 use crate::file::open;

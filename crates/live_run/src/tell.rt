@@ -2,7 +2,7 @@
 
 ghost use Rattle.std.specs.Prelude.{◌≡◌, ◌≤◌};
 ghost use Rattle.live_run.specs.Status.{fault_line};
-ghost use Rattle.live_run.specs.Traffic.{Tells};
+ghost use Rattle.run_traffic.specs.Traffic.{Tells};
 
 use crate::status::LiveStatus;
 use outside::{Sink, write_whole};

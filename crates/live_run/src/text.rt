@@ -1,11 +1,11 @@
 //! The text of one query, line by line. Fields are parted by one space, and each line ends with a line feed.
 
-ghost use Rattle.std.specs.Prelude.{◌≡◌, ◌+◌, ◌<◌, ◌++◌, ◌∷◌, length, OnOk, decimal};
-ghost use Rattle.live_run.specs.Texts.{query_line, query_text, answer_line, answer_lines};
+ghost use Rattle.std.specs.Prelude.{◌≡◌, ◌++◌, OnOk};
+ghost use Rattle.live_run.specs.Texts.{query_line, query_text, answer_lines};
 
-use itoa::Buffer;
 use live_collection::LiveReply;
 use outside::NoMemory;
+use run_traffic::{push_line, push_number};
 use series_core::Pair;
 
 /// Appends the text of query i: the line that tells how many series stood, and the lines of its answers.
@@ -23,9 +23,7 @@ fn push_head(text: &mut Vec<u8>, i: u64, count: u32) -> Result<(), NoMemory>
     text.extend_from_slice(b"query ")?;
     push_number(text, i)?;
     text.extend_from_slice(b" count ")?;
-    push_number(text, u64::from(count))?;
-    text.push(b'\n')?;
-    Ok(())
+    push_line(text, u64::from(count), &[])
 }
 
 // Appends the lines of answers, from rank 1 on.
@@ -34,30 +32,8 @@ fn push_answers(text: &mut Vec<u8>, pairs: &[Pair]) -> Result<(), NoMemory>
 {
     let mut rank = 1u64;
     for pair in pairs {
-        push_answer(text, rank, pair)?;
+        push_line(text, rank, &[u64::from(pair.number), pair.distance])?;
         rank += 1;
     }
-    Ok(())
-}
-
-// Appends the line of one answer.
-fn push_answer(text: &mut Vec<u8>, rank: u64, pair: &Pair) -> Result<(), NoMemory>
-    ensures { OnOk result (text.new.items ≡ text.old.items ++ answer_line rank pair.now) }
-{
-    push_number(text, rank)?;
-    text.push(b' ')?;
-    push_number(text, u64::from(pair.number))?;
-    text.push(b' ')?;
-    push_number(text, pair.distance)?;
-    text.push(b'\n')?;
-    Ok(())
-}
-
-// Appends a number in decimals.
-fn push_number(text: &mut Vec<u8>, n: u64) -> Result<(), NoMemory>
-    ensures { OnOk result (text.new.items ≡ text.old.items ++ decimal n) }
-{
-    let mut buffer = Buffer::new();
-    text.extend_from_slice(buffer.format(n).as_bytes())?;
     Ok(())
 }

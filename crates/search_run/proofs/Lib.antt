@@ -1,6 +1,4 @@
 pub mod StatusLines
-pub mod Lines
-pub mod DiscordLines
 pub mod Pieces
 pub mod Short
 pub mod Summing

@@ -1,10 +1,8 @@
 -- A file that was opened and refused by its bytes is held with that fault.
-use Rattle.std.proofs.Common.{◌≡◌, ℕ, ◌≤◌, List, length, Option, None, Some, IfSome, subst, sym, refl, arith, ◌∙◌}
-use Rattle.std.proofs.lemmas.Option.{none-some, same_Some}
-use Rattle.std.specs.Prelude.{IsSome}
-use Rattle.std.proofs.lemmas.Bool.{false≢true}
-use Rattle.outside.specs.Count.{Rose, Rose-wider}
-use Rattle.outside.specs.Files.{Held, Opens}
+use Rattle.std.proofs.Common.{◌≡◌, ℕ, ◌≤◌, List, length, Option, None, Some, IfSome, subst, sym, refl}
+use Rattle.std.proofs.lemmas.Option.{none-some}
+use Rattle.outside.specs.Count.{Rose}
+use Rattle.outside.specs.Files.{Opens}
 use Rattle.series_file.specs.Faults.{fault}
 use Rattle.series_file.specs.Stages.{Explains}
 use Rattle.series_file.specs.declared.error.Form.{Form}
@@ -21,33 +19,15 @@ use Rattle.saved_index.specs.declared.error.IndexFault.TheVariants as index
 use Rattle.series_core.specs.Collection.{Collection}
 use Rattle.search_run.specs.Certificates.{RefusesCertificate, ShowsInvalid}
 use Rattle.search_run.specs.Indexes.{IsFitIndex, RefusesIndex, ShowsIndexFault, index_refusal}
-use Rattle.search_run.specs.Loads.{HoldsBytes, RefusesFile, RefusesNamed, ShowsFault, refusal_of}
+use Rattle.search_run.specs.Loads.{RefusesFile, RefusesNamed, ShowsFault, refusal_of}
 use Rattle.search_run.specs.Pairs.{HasLabels}
-use Rattle.search_run.specs.Traffic.{Reading}
+use Rattle.run_traffic.specs.Traffic.{EndsReading, Reading}
+use Rattle.run_traffic.proofs.Named.{absent_wider, blamed_open, failed_wider, opened_holds}
 use Rattle.search_run.specs.declared.status.CertFault.{CertFault}
 use Rattle.search_run.specs.declared.status.Which.{Which}
 use Rattle.search_run.specs.declared.status.Which.TheVariants.{Certificate, Index as IndexFile}
 use Rattle.search_run.specs.declared.status.Status.{Status}
 use Rattle.search_run.specs.declared.status.Status.TheVariants.{Done, Usage, Missing, ReadFault, Format, Mismatch, Settings, WriteFault, Memory, Invalid, Index}
-
--- what is so of the bytes that are left of a file that was just opened is so of those that are held
-pub opened_holds : (held : Option Held) (name : List ℕ) (at left : Option (List ℕ)) (IsSo : List ℕ → Type 0)
-    → Opens held name at left → IfSome left IsSo → HoldsBytes held name IsSo
-opened_holds None name at left IsSo opened x = tt
-opened_holds (Some h) name at None IsSo opened x = absurd (is_told (h name) opened.1 opened.2)
-  where
-    is_told : (b : Option (List ℕ)) → IsSome b → None ≡ b → ⊥
-    is_told None i f = absurd (false≢true i)
-    is_told (Some b) i f = none-some b f
-opened_holds (Some h) name at (Some bytes) IsSo opened x = (bytes, sym opened.2, x)
-
--- a blamed file that was open is the one that was asked for
-pub blamed_open : (held : Option Held) (name : List ℕ) (at left blamed : Option (List ℕ)) → Opens held name at left
-    → IfSome blamed (λ b. at ≡ Some b) → IfSome blamed (λ b. b ≡ name)
-blamed_open held name at left None opened x = tt
-blamed_open None name None left (Some b) opened x = absurd (none-some b x)
-blamed_open None name (Some a) left (Some b) opened x = sym (same_Some a b x) ∙ opened
-blamed_open (Some h) name at left (Some b) opened x = same_Some b name (sym x ∙ opened.0)
 
 -- an error of a file that was opened is the cause of its status
 pub file_refused : (w : Which) (reading : Reading) (name : List ℕ) (at left : Option (List ℕ)) (form : Form)
@@ -55,7 +35,7 @@ pub file_refused : (w : Which) (reading : Reading) (name : List ℕ) (at left : 
     → (e ≡ FileReadFault → Rose reading.faults reading.later × IfSome reading.blamed (λ b. at ≡ Some b))
     → RefusesFile w reading name form (refusal_of w e)
 file_refused w reading name at left form FileReadFault opened x failed =
-    let f = failed refl in (refl, f.0, blamed_open reading.held name at left reading.blamed opened f.1)
+    let f = failed refl in (refl, (f.0, blamed_open reading.held name at left reading.blamed opened f.1))
 file_refused w reading name at left form NoMemory opened x failed = tt
 file_refused w reading name at left form e opened x failed = (
   refl,
@@ -69,7 +49,7 @@ pub index_refused : (c : Collection) (reading : Reading) (name : List ℕ) (at l
     → (e ≡ index.ReadFault → Rose reading.faults reading.later × IfSome reading.blamed (λ b. at ≡ Some b))
     → RefusesIndex c reading name (index_refusal e)
 index_refused c reading name at left index.ReadFault opened x failed =
-    let f = failed refl in (refl, f.0, blamed_open reading.held name at left reading.blamed opened f.1)
+    let f = failed refl in (refl, (f.0, blamed_open reading.held name at left reading.blamed opened f.1))
 index_refused c reading name at left index.NoMemory opened x failed = tt
 index_refused c reading name at left e opened x failed =
     (tt, opened_holds reading.held name at left (λ bytes. index_fault bytes c ≡ Some e) opened x)
@@ -87,17 +67,12 @@ pub named_wider : (w : Which) (whole part : Reading) (name : List ℕ) (P Q : St
     → ((s : Status) → P s → Q s) → RefusesNamed w P part name status → RefusesNamed w Q whole name status
 named_wider w whole part name P Q status kept less fewer later more blames shown = by_status status
   where
+    ends : EndsReading whole part
+    ends = record { held = kept; faults = less; misses = fewer; later = later; more = more; blamed = blames }
+
     by_status : (status : Status) → RefusesNamed w P part name status → RefusesNamed w Q whole name status
-    by_status (Missing v) x = (
-      x.0,
-      Rose-wider fewer x.1 (omega (arith, more)),
-      subst (λ held. IfSome held (λ h. h name ≡ None)) kept x.2,
-    )
-    by_status (ReadFault v) x = (
-      x.0,
-      Rose-wider less x.1 (omega (arith, later)),
-      subst (λ blamed. IfSome blamed (λ b. b ≡ name)) blames x.2,
-    )
+    by_status (Missing v) x = (x.0, absent_wider whole part name ends x.1)
+    by_status (ReadFault v) x = (x.0, failed_wider whole part name ends x.1)
     by_status Memory x = tt
     by_status Done x = shown Done x
     by_status Usage x = shown Usage x
@@ -163,12 +138,6 @@ lent_file_wider w whole part lent name made form status refused same formed kept
     subst (λ f. RefusesFile w whole name f status) formed
     (subst (λ n. RefusesFile w whole n made status) same
     (file_wider w whole part lent made status kept less fewer later more blames refused))
-
--- the first of two facts of what is left
-pub first_part : (left : Option (List ℕ)) (P Q : List ℕ → Type 0)
-    → IfSome left (λ rest. P rest × Q rest) → IfSome left P
-first_part None P Q both = tt
-first_part (Some rest) P Q both = both.0
 
 -- a collection that has a text has a label for each series, where it has labels
 pub labels_fit : (form : Form) (loaded : Loaded) → HasText form loaded.rows loaded.labels → HasLabels loaded

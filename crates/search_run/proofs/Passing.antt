@@ -29,8 +29,8 @@ IsRead reading _ = ⊥
 named_read : (w : Which) (Shows : Status → Type 0) (reading : Reading) (name : List ℕ) (status : Status)
     → (IfSome reading.held (λ h. h name ≡ None) → ⊥) → ((s : Status) → Shows s → IsRead reading s)
     → RefusesNamed w Shows reading name status → IsRead reading status
-named_read w Shows reading name (Missing v) there shown x = absurd (there x.2)
-named_read w Shows reading name (ReadFault v) there shown x = x.1
+named_read w Shows reading name (Missing v) there shown x = absurd (there x.1.1)
+named_read w Shows reading name (ReadFault v) there shown x = x.1.0
 named_read w Shows reading name Memory there shown x = tt
 named_read w Shows reading name Done there shown x = shown Done x
 named_read w Shows reading name Usage there shown x = shown Usage x

@@ -1,10 +1,11 @@
 -- Writing piece by piece: what was written are the pieces so far, and nothing else was done.
-use Rattle.std.proofs.Common.{◌≡◌, ℕ, ◌+◌, ◌≤◌, ◌<◌, ⊎_elim, Bool, true, false, subst, List, [], ◌++◌, length, take, Option, Some, None, ap, sym, ◌∙◌, refl, arith, append_assoc, append-nil, length-append}
+use Rattle.std.proofs.Common.{◌≡◌, ℕ, ◌+◌, ◌≤◌, ◌<◌, ⊎_elim, Bool, true, false, subst, List, [], ◌++◌, length, take, Option, ap, sym, ◌∙◌, arith, length-append}
 use Rattle.std.specs.Io.KnownBytes.{append_known}
 use Rattle.std.proofs.Math.Seq.{take-append-add}
 use Rattle.std.proofs.lemmas.List.{take_all, take-append-le}
 use Rattle.std.proofs.lemmas.Bool.{cases_lt}
 use Rattle.outside.specs.Sink.{AppendsPrefix}
+use Rattle.run_traffic.proofs.Appending.{append_known-append, append_known-nil}
 
 -- this was written since the first state, and no more was taken of what is sure than that
 pub record Going {S : Type 0} (written : S → Option (List ℕ)) (faults sure : S → ℕ)
@@ -12,17 +13,6 @@ pub record Going {S : Type 0} (written : S → Option (List ℕ)) (faults sure :
   pub appended : written now ≡ append_known (written first) done
   pub counts : faults first ≤ faults now
   pub spent : sure first ≤ sure now + length done
-
--- nothing appended changes nothing
-append_known-nil : (known : Option (List ℕ)) → known ≡ append_known known []
-append_known-nil None = refl
-append_known-nil (Some bytes) = ap (λ zs. Some zs) (sym (append-nil bytes))
-
--- appending twice appends both
-append_known-append : (known : Option (List ℕ)) (xs ys : List ℕ)
-    → append_known (append_known known xs) ys ≡ append_known known (xs ++ ys)
-append_known-append None xs ys = refl
-append_known-append (Some bytes) xs ys = ap (λ zs. Some zs) (append_assoc bytes xs ys)
 
 -- at first nothing was written
 pub Going-start : {S : Type 0} (written : S → Option (List ℕ)) (faults sure : S → ℕ) (first : S)

@@ -11,13 +11,10 @@ use Rattle.search_run.specs.Commands.{CanAnswer, plan_of}
 use Rattle.search_run.specs.Indexes.{CanBeIndexFault}
 use Rattle.search_run.specs.Loads.{IsShown}
 use Rattle.search_run.specs.Plans.{HasFault, Plan, Refuses, Writes}
-use Rattle.search_run.specs.Traffic.{Reading, Writing}
+use Rattle.run_traffic.specs.Traffic.{Reading, Writing}
+pub use Rattle.run_traffic.specs.Traffic.{WroteNothing}
 use Rattle.search_run.specs.declared.status.Status.{Status}
 use Rattle.search_run.specs.declared.status.Status.TheVariants.{Done, Usage, ReadFault, Format, WriteFault, Memory, Invalid, Index}
-
--- Nothing was written.
-abbrev pub WroteNothing : Writing → Type 0
-WroteNothing writing = writing.now ≡ writing.before
 
 -- What shows each status of work that such causes refuse, and what was written: all of a right text, a prefix of a
 -- beginning where writing failed, a prefix of one or nothing where memory ran out, and else nothing, for a cause.

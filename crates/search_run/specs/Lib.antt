@@ -3,7 +3,6 @@ pub mod Status
 pub mod Told
 pub mod Texts
 pub mod Trials
-pub mod Traffic
 pub mod Loads
 pub mod Conversions
 pub mod DiscordLines
@@ -34,3 +33,6 @@ pub use Rattle.certificate.specs.Printed
 pub use Rattle.certificate.specs.Certified
 pub use Rattle.saved_index.specs.Faults as IndexFaults
 pub use Rattle.saved_index.specs.IndexText
+pub use Rattle.run_traffic.specs.Traffic
+pub use Rattle.run_traffic.specs.Named
+pub use Rattle.run_traffic.specs.Lines

@@ -1,6 +1,5 @@
 -- A named file: what is known where it was read, and why it was refused; and a named series file.
-use Rattle.std.specs.Prelude.{◌≡◌, ℕ, ⊤, List, Option, None, Some, IfSome}
-use Rattle.outside.specs.Count.{Rose}
+use Rattle.std.specs.Prelude.{◌≡◌, ℕ, ⊤, List, Option, None, Some}
 use Rattle.outside.specs.Files.{Held}
 use Rattle.series_file.specs.Format.{HasText, IsFile}
 use Rattle.series_file.specs.Faults.{fault}
@@ -9,26 +8,18 @@ use Rattle.series_file.specs.declared.error.Form.TheVariants.{Headed, Raw}
 use Rattle.series_file.specs.declared.error.FileError.{FileError}
 use Rattle.series_file.specs.declared.error.Loaded.{Loaded}
 use Rattle.series_file.specs.declared.error.FileError.TheVariants.{ReadFault as FileReadFault, NoMemory}
-use Rattle.search_run.specs.Traffic.{Reading}
+use Rattle.run_traffic.specs.Named.{FailedReading, IsAbsent}
+use Rattle.run_traffic.specs.Traffic.{Reading}
+pub use Rattle.run_traffic.specs.Named.{HoldsBytes, IsHeldAs, IsShown}
 use Rattle.search_run.specs.declared.status.Which.{Which}
 use Rattle.search_run.specs.declared.status.Status.{Status}
 use Rattle.search_run.specs.declared.status.Status.TheVariants.{Missing, ReadFault, Format, Memory}
 
--- the name is held, and this is so of its bytes
-abbrev pub IsHeldAs : Held → List ℕ → (List ℕ → Type 0) → Type 0
-IsHeldAs h name IsSo = (bytes : List ℕ) × (h name ≡ Some bytes) × IsSo bytes
-
--- where known, the name is held, and this is so of its bytes
-abbrev pub HoldsBytes : Option Held → List ℕ → (List ℕ → Type 0) → Type 0
-HoldsBytes held name IsSo = IfSome held (λ h. IsHeldAs h name IsSo)
-
 -- why the file of this name is refused that has this role: no file has the name, or opening or reading it failed,
 -- or memory ran out, or its bytes show such a cause
 abbrev pub RefusesNamed : Which → (Status → Type 0) → Reading → List ℕ → Status → Type 0
-RefusesNamed w Shows reading name (Missing v) =
-    (v ≡ w) × Rose reading.misses reading.more × IfSome reading.held (λ h. h name ≡ None)
-RefusesNamed w Shows reading name (ReadFault v) =
-    (v ≡ w) × Rose reading.faults reading.later × IfSome reading.blamed (λ b. b ≡ name)
+RefusesNamed w Shows reading name (Missing v) = (v ≡ w) × IsAbsent reading name
+RefusesNamed w Shows reading name (ReadFault v) = (v ≡ w) × FailedReading reading name
 RefusesNamed w Shows reading name Memory = ⊤
 RefusesNamed w Shows reading name status = Shows status
 
@@ -46,12 +37,6 @@ Spells form loaded bytes = IsFile form bytes loaded.rows loaded.labels
 pub record HoldsFile (held : Option Held) (name : List ℕ) (form : Form) (loaded : Loaded) : Type 0 where
   pub formed : HasText form loaded.rows loaded.labels
   pub told : HoldsBytes held name (Spells form loaded)
-
--- bytes can show this error: no failed read, and no want of memory
-abbrev pub IsShown : FileError → Type 0
-IsShown FileReadFault = ⊥
-IsShown NoMemory = ⊥
-IsShown e = ⊤
 
 -- the file of this role and name is no series file of this form, and the status has the first test that fails
 abbrev pub ShowsFault : Which → Option Held → List ℕ → Form → Status → Type 0

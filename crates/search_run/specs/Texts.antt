@@ -5,6 +5,7 @@ use Rattle.std.specs.Global.{Vec}
 use Rattle.std.specs.Io.KnownBytes.{append_known}
 use Rattle.outside.specs.declared.faults.NoMemory.{NoMemory}
 use Rattle.series_core.specs.declared.pair.Pair.{Pair}
+use Rattle.run_traffic.specs.Lines.{ranked}
 
 -- the line of query i
 abbrev pub query_line : ℕ → List ℕ
@@ -22,8 +23,7 @@ answer_line labels r p =
 
 -- the lines of these answers, the first of them of rank r
 abbrev pub answer_lines : Option (List ℕ) → ℕ → List Pair → List ℕ
-answer_lines labels r [] = []
-answer_lines labels r (p ∷ ps) = answer_line labels r p ++ answer_lines labels (r + 1) ps
+answer_lines labels r ps = ranked (answer_line labels) r ps
 
 -- the text of query i, with these answers
 abbrev pub query_text : Option (List ℕ) → ℕ → List Pair → List ℕ

@@ -1,11 +1,11 @@
 //! The text of discords, line by line, in the form of the lines of answers.
 
-ghost use Rattle.std.specs.Prelude.{◌≡◌, ◌+◌, ◌++◌, OnOk, IfOk};
-ghost use Rattle.search_run.specs.DiscordLines.{discord_line, discord_lines};
+ghost use Rattle.std.specs.Prelude.{◌≡◌, ◌+◌, IfOk};
+ghost use Rattle.search_run.specs.DiscordLines.{discord_lines};
 
-use crate::output::text::push_number;
-use discord_query::{Discord, DiscordList};
+use discord_query::DiscordList;
 use outside::NoMemory;
+use run_traffic::push_line;
 use std::alloc::Global;
 
 /// The lines of discords, from rank 1 on.
@@ -13,33 +13,12 @@ pub fn discord_text(alloc: Global, discords: &DiscordList) -> Result<Vec<u8>, No
     ensures { IfOk result (λ text. text.items ≡ discord_lines 1 discords.now) }
 {
     let mut text = Vec::new(alloc);
-    push_discords(&mut text, &discords.items)?;
-    Ok(text)
-}
-
-// Appends the lines of discords, from rank 1 on.
-fn push_discords(text: &mut Vec<u8>, discords: &[Discord]) -> Result<(), NoMemory>
-    ensures { OnOk result (text.new.items ≡ text.old.items ++ discord_lines 1 discords.now) }
-{
     let mut rank = 1u64;
-    for discord in discords {
-        push_discord(text, rank, discord)?;
+    for discord in &discords.items {
+        let number = u64::from(discord.number);
+        let neighbour = u64::from(discord.neighbour);
+        push_line(&mut text, rank, &[number, discord.distance, neighbour])?;
         rank += 1;
     }
-    Ok(())
-}
-
-// Appends the line of one discord.
-fn push_discord(text: &mut Vec<u8>, rank: u64, discord: &Discord) -> Result<(), NoMemory>
-    ensures { OnOk result (text.new.items ≡ text.old.items ++ discord_line rank discord.now) }
-{
-    push_number(text, rank)?;
-    text.push(b' ')?;
-    push_number(text, u64::from(discord.number))?;
-    text.push(b' ')?;
-    push_number(text, discord.distance)?;
-    text.push(b' ')?;
-    push_number(text, u64::from(discord.neighbour))?;
-    text.push(b'\n')?;
-    Ok(())
+    Ok(text)
 }

@@ -2,10 +2,10 @@
 
 ghost use Rattle.std.specs.Prelude.{◌≡◌, ◌+◌, ◌<◌, ◌++◌, ◌∷◌, length, OnOk, IfOk, IfSome, decimal};
 ghost use Rattle.std.specs.List.{All as Each};
-ghost use Rattle.search_run.specs.Texts.{query_line, query_text, answer_line, answer_lines, label_part};
+ghost use Rattle.search_run.specs.Texts.{query_line, query_text, answer_line, answer_lines};
 
-use itoa::Buffer;
 use outside::NoMemory;
+use run_traffic::push_line;
 use series_core::{LabelList, Pair, PairList};
 use std::alloc::Global;
 
@@ -29,9 +29,7 @@ fn push_query(text: &mut Vec<u8>, i: u32) -> Result<(), NoMemory>
     ensures { OnOk result (text.new.items ≡ text.old.items ++ query_line i) }
 {
     text.extend_from_slice(b"query ")?;
-    push_number(text, u64::from(i))?;
-    text.push(b'\n')?;
-    Ok(())
+    push_line(text, u64::from(i), &[])
 }
 
 // Appends the lines of answers, from rank 1 on.
@@ -59,33 +57,13 @@ fn push_answer(
 ) -> Result<(), NoMemory>
     ensures { OnOk result (text.new.items ≡ text.old.items ++ answer_line labels.now rank pair.now) }
 {
-    push_number(text, rank)?;
-    text.push(b' ')?;
-    push_number(text, u64::from(pair.number))?;
-    text.push(b' ')?;
-    push_number(text, pair.distance)?;
-    push_label(text, labels, pair.number)?;
-    text.push(b'\n')?;
-    Ok(())
-}
-
-// Appends a space and the label of a series, where there are labels.
-fn push_label(text: &mut Vec<u8>, labels: &Option<LabelList>, number: u32) -> Result<(), NoMemory>
-    ensures { OnOk result (text.new.items ≡ text.old.items ++ label_part labels.now number) }
-{
-    if let Some(labels) = labels {
-        text.push(b' ')?;
-        let label = labels.items.get(number as usize).copied().unwrap_or(0);
-        push_number(text, label)?;
+    let number = u64::from(pair.number);
+    match labels {
+        Some(labels) => {
+            let label = labels.items.get(pair.number as usize);
+            let label = label.copied().unwrap_or(0);
+            push_line(text, rank, &[number, pair.distance, label])
+        }
+        None => push_line(text, rank, &[number, pair.distance]),
     }
-    Ok(())
-}
-
-/// Appends a number in decimals.
-pub fn push_number(text: &mut Vec<u8>, n: u64) -> Result<(), NoMemory>
-    ensures { OnOk result (text.new.items ≡ text.old.items ++ decimal n) }
-{
-    let mut buffer = Buffer::new();
-    text.extend_from_slice(buffer.format(n).as_bytes())?;
-    Ok(())
 }

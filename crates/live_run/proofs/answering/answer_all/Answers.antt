@@ -1,4 +1,4 @@
-use Rattle.std.proofs.Common.{rules, ◌≡◌, ◌+◌, ◌^◌, ◌++◌, ap, sym, ◌∙◌, subst, length, take, get_or, length-append, arith, List, ℕ}
+use Rattle.std.proofs.Common.{rules, ◌≡◌, ◌+◌, ◌^◌, ap, sym, ◌∙◌, subst, length, take, get_or, length-append, arith}
 use Rattle.std.specs.List.{flat_map}
 use Rattle.live_collection.specs.Sides.{points_of}
 use Rattle.live_run.specs.Replies.{IsAskedText}

@@ -5,7 +5,7 @@ use Rattle.series_file.specs.declared.error.Loaded.{Loaded}
 use Rattle.outside.specs.Count.{Rose-wider}
 use Rattle.outside.specs.Files.{Opens}
 use Rattle.live_run.specs.Loads.{RefusesFile, refusal_of}
-use Rattle.live_run.specs.Traffic.{read_from}
+use Rattle.run_traffic.specs.Traffic.{read_from}
 use Rattle.live_run.proofs.Loading.{file_refused}
 use Rattle.live_run.proofs.file.load.Goals as goal
 

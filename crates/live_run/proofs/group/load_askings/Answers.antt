@@ -1,10 +1,10 @@
-use Rattle.std.proofs.Common.{rules, ◌≡◌, ◌≤◌, inl, refl, arith, get_or, subst, sym, ap, ◌∙◌}
+use Rattle.std.proofs.Common.{rules, ◌≡◌, inl, refl, arith, get_or, subst, ap, ◌∙◌}
 use Rattle.std.proofs.lemmas.Result.{err_from_is_err_and}
 use Rattle.live_script.specs.declared.script.Asking.{Asking}
 use Rattle.live_run.specs.Groups.{HoldsAsking}
 use Rattle.live_run.specs.Loads.{HoldsFile, RefusesFitting}
 use Rattle.std.specs.Prelude.{Some}
-use Rattle.live_run.specs.Traffic.{read_from}
+use Rattle.run_traffic.specs.Traffic.{read_from}
 use Rattle.live_run.specs.declared.status.LiveStatus.TheVariants.{Memory}
 use Rattle.live_run.proofs.Askings.{asking_at, askings_more, askings_refused, can_more}
 use Rattle.live_run.proofs.Loading.{ends_later}

@@ -1,6 +1,7 @@
 use Rattle.std.proofs.Common.{◌≡◌, ◌≤◌, length, sym, subst}
 use Rattle.live_script.specs.Answers.{IsRightError}
-use Rattle.live_run.specs.Loads.{HoldsBytes, most_bytes}
+use Rattle.live_run.specs.Loads.{most_bytes}
+use Rattle.run_traffic.specs.Named.{HoldsBytes}
 use Rattle.live_run.proofs.Loading.{line_fault}
 use Rattle.live_run.proofs.script_file.load_script.Goals as goal
 

@@ -3,7 +3,7 @@ use Rattle.std.specs.Prelude.{Result, Err}
 use Rattle.std.specs.Global.{Vec}
 use Rattle.outside.specs.declared.faults.AllError.{AllError}
 use Rattle.live_run.specs.Loads.{IsScriptFault}
-use Rattle.live_run.proofs.Loading.{first_part, opened_holds}
+use Rattle.run_traffic.proofs.Named.{first_part, opened_holds}
 use Rattle.live_run.proofs.script_file.read_bytes.Goals as goal
 
 pub returns-in-Err-Longer-clause-refused : goal.returns-in-Err-Longer-clause-refused

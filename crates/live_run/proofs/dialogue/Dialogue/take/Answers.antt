@@ -1,4 +1,4 @@
-use Rattle.std.proofs.Common.{◌≡◌, ◌+◌, ◌++◌, ◌∷◌, [], ◌≤◌, refl, sym, ap, ◌∙◌, subst, length, Ok, Err, arith}
+use Rattle.std.proofs.Common.{◌≡◌, ◌+◌, refl, ap, ◌∙◌, subst, length}
 use Rattle.std.specs.Prelude.{IfOk}
 use Rattle.std.specs.List.{flat_map}
 use Rattle.std.proofs.Crossing.{crosses}
@@ -8,12 +8,11 @@ use denote.Param.Send.{IsSync, arg_send, param_send, sendable}
 use Rattle.live_collection.specs.Histories.{appended}
 use Rattle.live_collection.specs.Sides.{points_of}
 use Rattle.live_collection.specs.Steps.{Appends}
-use Rattle.live_collection.proofs.Sends.{collection_shares, reader_sends, writer_sends}
+use Rattle.live_collection.proofs.Sends.{writer_sends}
 use Rattle.live_run.specs.Replies.{IsAskedText}
-use Rattle.live_run.specs.Dialogues.{batches_of, batches_seen, RefusesBatch}
+use Rattle.live_run.specs.Dialogues.{batches_seen}
 use Rattle.live_run.specs.Texts.{file_queries}
 use Rattle.live_run.specs.declared.answering.Answers.{Answers}
-use Rattle.std.proofs.alloc.Global.TheSendSync as global
 use Rattle.live_run.proofs.Sends.{side_sends}
 use Rattle.live_run.proofs.Taking.{all_seen, group_told, refuses_append, stands_limits, stands_more}
 use Rattle.live_run.proofs.dialogue.Dialogue.take.Goals as goal

@@ -4,7 +4,7 @@ use Rattle.std.specs.Global.{Vec}
 use Rattle.outside.specs.declared.faults.AllError.{AllError}
 use Rattle.search_run.specs.Certificates.{IsLong}
 use Rattle.search_run.specs.declared.status.CertFault.TheVariants.{TooLong}
-use Rattle.search_run.proofs.Loading.{first_part, opened_holds}
+use Rattle.run_traffic.proofs.Named.{first_part, opened_holds}
 use Rattle.search_run.proofs.input.certificate_file.read_bytes.Goals as goal
 
 pub returns-in-Err-Longer-clause-refused : goal.returns-in-Err-Longer-clause-refused

@@ -5,7 +5,8 @@ use Rattle.saved_index.specs.declared.error.IndexFault.{IndexFault}
 use Rattle.saved_index.specs.declared.loading.LoadedIndex.{LoadedIndex}
 use Rattle.search_run.specs.Indexes.{IsFitIndex}
 use Rattle.search_run.specs.Traffic.{read_from}
-use Rattle.search_run.proofs.Loading.{fit_told, index_refused, opened_holds}
+use Rattle.run_traffic.proofs.Named.{opened_holds}
+use Rattle.search_run.proofs.Loading.{fit_told, index_refused}
 use Rattle.search_run.proofs.input.index_file.load_index.Goals as goal
 
 pub returns-in-Ok-clause-held : goal.returns-in-Ok-clause-held

@@ -1,6 +1,9 @@
 -- What a run was handed to read from and to write to, and what reading and writing did.
-use Rattle.std.specs.Prelude.{ℕ, List, Option}
+use Rattle.std.specs.Prelude.{◌≡◌, ℕ, ◌≤◌, ◌⊎◌, List, Option}
+use Rattle.std.specs.Io.KnownBytes.{append_known}
+use Rattle.outside.specs.Count.{Rose}
 use Rattle.outside.specs.Files.{Held}
+use Rattle.outside.specs.Sink.{AppendsPrefix}
 
 -- What was handed in to read from, and what reading did: the files, the counts of faults and of absent names
 -- before and after, and the name of the file that failed. Files and name are there where they are known.
@@ -41,3 +44,25 @@ wrote_to written faults sure old new = record {
   later = faults new;
   sure = sure old;
 }
+
+-- a part of a reading that goes on to its end
+pub record EndsReading (whole part : Reading) : Type 0 where
+  pub held : part.held ≡ whole.held
+  pub faults : whole.faults ≤ part.faults
+  pub misses : whole.misses ≤ part.misses
+  pub later : part.later ≡ whole.later
+  pub more : part.more ≡ whole.more
+  pub blamed : part.blamed ≡ whole.blamed
+
+-- this was appended, and nothing else
+abbrev pub Appended : Writing → List ℕ → Type 0
+Appended writing text = writing.now ≡ append_known writing.before text
+
+-- nothing was written
+abbrev pub WroteNothing : Writing → Type 0
+WroteNothing writing = writing.now ≡ writing.before
+
+-- the text was appended, or a prefix of it and the count of faults rose
+abbrev pub Tells : List ℕ → Option (List ℕ) → Option (List ℕ) → ℕ → ℕ → Type 0
+Tells text before now faults later =
+    (now ≡ append_known before text) ⊎ (AppendsPrefix before text now × Rose faults later)

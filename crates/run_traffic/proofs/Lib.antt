@@ -1,0 +1,4 @@
+pub mod Appending
+pub mod Named
+pub mod Ranked
+mod Pushing

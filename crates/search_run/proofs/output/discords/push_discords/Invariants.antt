@@ -1,9 +1,0 @@
-use Rattle.std.proofs.Common.{◌≡◌, ◌+◌, ◌++◌, take}
-use Rattle.search_run.specs.DiscordLines.{discord_lines}
-use Rattle.search_run.proofs.output.discords.push_discords.Given as goal
-
-abbrev pub invariant-loop-discord : goal.invariant-loop-discord
-invariant-loop-discord l = record {
-  rank : l.rank ≡ l.discord-index + 1;
-  text : l.text.items ≡ l.fn.text.items ++ discord_lines 1 (take l.discord-index l.discords);
-}
