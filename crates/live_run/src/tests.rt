@@ -4,91 +4,76 @@
 mod fixture;
 
 use crate::LiveStatus;
-use fixture::{Meeting, Outside, SOUND, run_line};
+use fixture::run_line;
 use outside::NoGate;
+use run_fixture::{Meeting, Outside, SOUND};
 use series_file::FileError;
 use std::test::*;
 
-// A script, its status, its text and its line.
-type Row = (&'static str, LiveStatus, &'static str, &'static str);
+// A script, its status, its text, and the number that its line tells, or 0 where there is no line.
+type Row = (&'static str, LiveStatus, &'static str, u8);
 
 const ROWS: [Row; 13] = [
-    ("", LiveStatus::Done, "", ""),
-    ("append A\n", LiveStatus::Done, "", ""),
+    ("", LiveStatus::Done, "", 0),
+    ("append A\n", LiveStatus::Done, "", 0),
     (
         "append A\nappend E\nask Q 1\n",
         LiveStatus::Done,
         "query 0 count 4\n1 0 4\n",
-        "",
+        0,
     ),
     (
         "append A\nappend A\nappend E\nask Q 2\n",
         LiveStatus::Done,
         "query 0 count 8\n1 0 4\n2 4 4\n",
-        "",
+        0,
     ),
     (
         "append A\nappend E\nask Q 1\nappend E\nask Q 1\nask Q 2\n",
         LiveStatus::Done,
         "query 0 count 4\n1 0 4\nquery 1 count 4\n1 0 4\nquery 2 count 4\n1 0 4\n2 3 164\n",
-        "",
+        0,
     ),
     (
         "append E\nask Q 3\n",
         LiveStatus::Done,
         "query 0 count 0\n",
-        "",
+        0,
     ),
-    (
-        "ask Q 1\n",
-        LiveStatus::Script(1),
-        "",
-        "isearch_live: status 12\n",
-    ),
-    (
-        "append none\nask Q 1",
-        LiveStatus::Script(2),
-        "",
-        "isearch_live: status 12\n",
-    ),
-    (
-        "append A\nask Q 0\n",
-        LiveStatus::Script(2),
-        "",
-        "isearch_live: status 12\n",
-    ),
+    ("ask Q 1\n", LiveStatus::Script(1), "", 12),
+    ("append none\nask Q 1", LiveStatus::Script(2), "", 12),
+    ("append A\nask Q 0\n", LiveStatus::Script(2), "", 12),
     (
         "append A\nappend E\nask Q 1\nappend E\nask none 1\n",
         LiveStatus::Missing(5),
         "query 0 count 4\n1 0 4\n",
-        "isearch_live: status 3\n",
+        3,
     ),
     (
         "append A\nappend E\nask Q 1\nask T 1\n",
         LiveStatus::Mismatch(4, 3, 4),
         "",
-        "isearch_live: status 6\n",
+        6,
     ),
-    (
-        "append T\nappend A\n",
-        LiveStatus::Mismatch(2, 4, 3),
-        "",
-        "isearch_live: status 6\n",
-    ),
+    ("append T\nappend A\n", LiveStatus::Mismatch(2, 4, 3), "", 6),
     (
         "append A\nappend cut\nask none 1\n",
         LiveStatus::Format(2, FileError::Truncated { at: 47, want: 48 }),
         "",
-        "isearch_live: status 5\n",
+        5,
     ),
 ];
 
 #[test]
 fn scripts_end_as_they_should(rt: HostRuntime) -> Result<(), Fail> {
-    for (script, status, text, told) in ROWS {
+    for (script, status, text, code) in ROWS {
         let ended = run_line(&rt, rt.alloc(), "S", script.as_bytes(), SOUND, &NoGate)?;
         assert_eq!(rt; ended.status, status, "{script}");
         assert_eq!(rt; ended.out.written(), text.as_bytes(), "{script}");
+        let told = match code {
+            0 => String::new(rt.alloc()),
+            _ => format!(in rt.alloc(); "isearch_live: status {code}\n")?,
+        };
         assert_eq!(rt; ended.err.written(), told.as_bytes(), "{script}");
     }
     Ok(())

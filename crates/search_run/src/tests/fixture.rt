@@ -1,23 +1,21 @@
-//! What all tables share: the files that they name, runs over them, and two workers that meet at a gate.
+//! What all tables share: the files that they name, and runs over them.
 
 use crate::{Status, run};
-use outside::{Gate, MemFiles, MemSink, NoGate, NoMemory};
+use outside::{Gate, MemFiles, NoGate, NoMemory};
 use random_walks::{generator, walks};
+use run_fixture::{Ended, VALUES, spelled};
+pub use run_fixture::{Meeting, Outside, words_of};
 use series_file::write_numbered;
 use std::alloc::Global;
 use std::process::Abort;
 use std::sync::Wait;
-use std::sync::atomic::{AtomicU64, Ordering};
 use std::test::Fail;
 use std::thread::Threads;
 
 /// The line of a run whose words are no command.
 pub const NO_COMMAND: &str = "isearch: the words are not a command\n";
 
-// Four series of four values each.
-const VALUES: [i16; 16] = [0, 0, 0, 0, 10, 10, 10, 10, -10, -10, -10, -10, 0, 0, 10, 10];
-
-/// The file `A2`: the same in version 2, with the labels 100, 7, 7 and the greatest of 64 bits.
+/// The file `A2`: `A` in version 2, with the labels 100, 7, 7 and the greatest of 64 bits.
 pub const LABELLED: &[u8] = b"ISER\x02\0\0\0\x04\0\0\0\x04\0\0\0\
     \x64\0\0\0\0\0\0\0\x07\0\0\0\0\0\0\0\x07\0\0\0\0\0\0\0\xff\xff\xff\xff\xff\xff\xff\xff\
     \0\0\0\0\0\0\0\0\x0a\0\x0a\0\x0a\0\x0a\0\xf6\xff\xf6\xff\xf6\xff\xf6\xff\0\0\0\0\x0a\0\x0a\0";
@@ -26,18 +24,6 @@ pub const LABELLED: &[u8] = b"ISER\x02\0\0\0\x04\0\0\0\x04\0\0\0\
 pub const INDEX: &[u8; 58] = b"ISEX\x01\0\x02\0\x04\0\0\0\x04\0\0\0\xe8\x03\0\0\x02\0\0\0\
     \0\0\0\0\0\x01\0\0\0\x02\0\0\0\
     \x03\0\0\0\0\x03\0\0\0\0\0\0\0\x01\0\0\0\x03\0\0\0";
-
-/// A file of version 1 with these values.
-fn spelled(alloc: Global, length: u16, count: u32, values: &[i16]) -> Result<Vec<u8>, NoMemory> {
-    let mut bytes = b"ISER\x01\0".to_vec(alloc)?;
-    bytes.extend_from_slice(&length.to_le_bytes())?;
-    bytes.extend_from_slice(&count.to_le_bytes())?;
-    bytes.extend_from_slice(&[0u8; 4])?;
-    for value in values {
-        bytes.extend_from_slice(&value.to_le_bytes())?;
-    }
-    Ok(bytes)
-}
 
 /// Holds the files of the tables: `A`, its query `Q` and its index `I`, `A2` with labels, other collections, and broken files.
 fn hold_files(alloc: Global, files: &mut MemFiles) -> Result<(), NoMemory> {
@@ -138,52 +124,6 @@ fn hold_changed(alloc: Global, files: &mut MemFiles) -> Result<(), NoMemory> {
     files.hold("A2reserved", &labelled)
 }
 
-/// The words of a line; an empty line has none.
-pub fn words_of(alloc: Global, line: &str) -> Result<Vec<String>, NoMemory> {
-    let mut words = Vec::new(alloc);
-    if line.is_empty() {
-        return Ok(words);
-    }
-    for word in line.split(' ') {
-        words.push(String::from_str(alloc, word)?)?;
-    }
-    Ok(words)
-}
-
-/// The outside of a run: how many bytes a read and a write move at most, how many are taken in all, and which open, read,
-/// write and write of the line fails (0: none).
-#[derive(Clone, Copy, Debug)]
-pub struct Outside {
-    pub piece: usize,
-    pub room: usize,
-    pub open: u64,
-    pub read: u64,
-    pub write: u64,
-    pub tell: u64,
-}
-
-impl Outside {
-    /// An outside that never fails, with pieces of `piece` bytes, at least 1.
-    pub fn sound(piece: usize) -> Outside {
-        Outside {
-            piece,
-            room: 2000,
-            open: 0,
-            read: 0,
-            write: 0,
-            tell: 0,
-        }
-    }
-}
-
-/// How a run ended, with what it wrote and the line that it told.
-#[derive(Drop)]
-pub struct Ended {
-    pub status: Status,
-    pub out: MemSink,
-    pub err: MemSink,
-}
-
 /// The files of the tables and a certificate `C`, as this outside gives them. The long series and the drawn ones
 /// are held where the line names one.
 pub fn files_of(
@@ -192,12 +132,7 @@ pub fn files_of(
     certificate: &[u8],
     outside: Outside,
 ) -> Result<MemFiles, NoMemory> {
-    let mut files = MemFiles::new(
-        alloc,
-        outside.piece.max(1),
-        [outside.open].to_vec(alloc)?,
-        [outside.read].to_vec(alloc)?,
-    );
+    let mut files = outside.files(alloc)?;
     hold_files(alloc, &mut files)?;
     files.hold("C", certificate)?;
     if line.contains("low") {
@@ -217,12 +152,10 @@ pub fn run_line<T: Threads + Wait + Sync, G: Gate + Sync>(
     certificate: &[u8],
     outside: Outside,
     gate: &G,
-) -> Result<Ended, Fail> {
-    let piece = outside.piece.max(1);
+) -> Result<Ended<Status>, Fail> {
     let mut files = files_of(alloc, line, certificate, outside)?;
     let words = words_of(alloc, line)?;
-    let mut out = MemSink::new(alloc, outside.room, piece, [outside.write].to_vec(alloc)?)?;
-    let mut err = MemSink::new(alloc, 2000, piece, [outside.tell].to_vec(alloc)?)?;
+    let (mut out, mut err) = outside.sinks(alloc)?;
     let status = run(rt, alloc, &words, &mut files, &mut out, &mut err, gate);
     Ok(Ended { status, out, err })
 }
@@ -235,7 +168,7 @@ pub fn ends_with<H: Threads + Wait + Abort + Sync>(
     file: &[u8],
     outside: Outside,
     wanted: (Status, &[u8]),
-) -> Result<Ended, Fail> {
+) -> Result<Ended<Status>, Fail> {
     let (status, text) = wanted;
     let ended = run_line(rt, alloc, line, file, outside, &NoGate)?;
     assert_eq!(rt; ended.status, status, "{line}, {outside:?}");
@@ -261,52 +194,4 @@ pub fn tells<H: Threads + Wait + Abort + Sync>(
         "{line}, pieces of {piece}"
     );
     Ok(())
-}
-
-/// How often each of two workers came to its first turn, and how often one waited there in vain for the other.
-#[derive(Drop)]
-pub struct Meeting {
-    came: [AtomicU64; 2],
-    alone: AtomicU64,
-}
-
-impl Meeting {
-    /// A meeting to which nobody came yet.
-    pub fn new() -> Meeting {
-        Meeting {
-            came: [AtomicU64::new(0), AtomicU64::new(0)],
-            alone: AtomicU64::new(0),
-        }
-    }
-
-    /// How often the first and the second worker came, and how often one waited in vain.
-    pub fn counts(&self) -> (u64, u64, u64) {
-        let [first, second] = &self.came;
-        (
-            first.load(Ordering::SeqCst),
-            second.load(Ordering::SeqCst),
-            self.alone.load(Ordering::SeqCst),
-        )
-    }
-}
-
-impl Gate for Meeting {
-    fn pass(&self, worker: u32, turn: u64) {
-        if turn != 0 {
-            return;
-        }
-        let [first, second] = &self.came;
-        let (mine, other) = if worker == 0 {
-            (first, second)
-        } else {
-            (second, first)
-        };
-        let count = mine.fetch_add(1, Ordering::SeqCst).wrapping_add(1);
-        for _ in 0..1_000_000_000u32 {
-            if other.load(Ordering::SeqCst) >= count {
-                return;
-            }
-        }
-        self.alone.fetch_add(1, Ordering::SeqCst);
-    }
 }
