@@ -1,6 +1,6 @@
 //! How far the values of a row lie from the means of their segments: the squared differences, added up, and their root. What means leave
 //! of two rows is as far apart at least as it is long in the one and short in the other.
-ghost use Rattle.std.specs.Prelude.{◌≡◌, ◌*◌, ◌/◌, ◌<◌, ◌≤◌, length};
+ghost use Rattle.std.specs.Prelude.{◌≡◌, ◌*◌, ◌/◌, ◌<◌, ◌≤◌, ◌∷◌, [], length};
 ghost use Rattle.mean_bound.specs.Spread.{raised, root, row_spread, spread_times};
 
 use segment_sums::Cuts;
@@ -15,12 +15,30 @@ pub(crate) fn spread_of(cuts: &Cuts, row: &[i16]) -> u64
     ensures small { result ≤ 70368744177664 }
 {
     match cuts.length() {
-        32 => spread_of_equal::<2>(cuts, row),
+        32 => spread_of_pairs(cuts, row),
         64 => spread_of_equal::<4>(cuts, row),
         128 => spread_of_equal::<8>(cuts, row),
         256 => spread_of_equal::<16>(cuts, row),
         _ => spread_of_any(cuts, row),
     }
+}
+
+/// The same over segments of two values each.
+fn spread_of_pairs(cuts: &Cuts, row: &[i16]) -> u64
+    requires length { length row.now ≡ cuts.now.row_length }
+    requires sixteen { cuts.now.segments ≡ 16 }
+    requires pairs { cuts.now.row_length ≡ 32 }
+    ensures value { result ≡ row_spread cuts.now row.now }
+    ensures small { result ≤ 70368744177664 }
+{
+    // for the facts that the cuts divide, and that the values fit
+    let _segments = cuts.segments();
+    values_fit(row);
+    let mut spread = 0;
+    for j in 0..16 {
+        spread += spread_of_pair(row[2 * j], row[2 * j + 1]);
+    }
+    spread
 }
 
 /// The same over segments of L values each, which the compiler knows, so that it divides without a division.
@@ -57,6 +75,16 @@ fn spread_of_any(cuts: &Cuts, row: &[i16]) -> u64
         spread += spread_of_segment(&row[from as usize..to as usize]);
     }
     spread
+}
+
+/// The squared differences of two values from their mean, rounded down: half the square of how far they lie apart.
+#[inline(always)]
+fn spread_of_pair(a: i16, b: i16) -> u64
+    ensures value { result ≡ spread_times (a ∷ b ∷ []) / 2 }
+    ensures small { result ≤ 17595944013825 }
+{
+    let gap = i64::from(a) - i64::from(b);
+    (gap * gap).unsigned_abs() / 2
 }
 
 /// The squared differences of a segment's values from their mean, rounded down.
