@@ -17,3 +17,4 @@ pub mod Fronts
 pub mod Parts
 pub mod PartsTold
 pub mod PartBounds
+pub mod Pairs

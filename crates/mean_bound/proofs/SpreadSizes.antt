@@ -1,12 +1,11 @@
 -- How great spreads are (`segment_spread_small`, `row_spread_small`), how they add up value by value (`total_more`) and number by number
--- (`sum_more`), how those of the segments of a row do (`one_spread_more`, `all_spreads`), how long a segment is (`segment_short`), and what
--- the spread of two values is (`pair_spread`, `pair_small`, `pair_of`).
-use Rattle.std.proofs.Common.{of_z, to_z, ◌≡◌, ℕ, ◌+◌, ◌-◌, ◌*◌, ◌/◌, ◌<◌, ◌≤◌, zero, suc, refl, arith, sym, ap, subst, ◌∙◌, ℤ, ◌-ℤ◌, ◌*ℤ◌, unsigned_abs, List, [], ◌∷◌, length, map, take, drop, get_or, add-one}
+-- (`sum_more`), how those of the segments of a row do (`one_spread_more`, `all_spreads`), and how long a segment is (`segment_short`).
+use Rattle.std.proofs.Common.{◌≡◌, ℕ, ◌+◌, ◌-◌, ◌*◌, ◌/◌, ◌<◌, ◌≤◌, zero, suc, arith, sym, ap, subst, ◌∙◌, ℤ, List, [], ◌∷◌, length, map, take, get_or, add-one}
 use Rattle.std.specs.Prelude.{FitsSigned, slice_range}
-use Rattle.std.specs.Int.{w16, w64}
+use Rattle.std.specs.Int.{w16}
 use Rattle.std.specs.List.{All, range_with_len}
 use Rattle.std.specs.Simd.Lanes.{sum_l}
-use Rattle.std.proofs.lemmas.Int.{fits_signed_mul, ints, to_z-of_z, unsigned_abs-mul}
+use Rattle.std.proofs.lemmas.Int.{ints}
 use Rattle.std.proofs.lemmas.Nat.{mul-le}
 use Rattle.std.proofs.lemmas.List.Elements.{All-head, All-tail}
 use Rattle.std.proofs.Math.Nat.{div-mul-le_self}
@@ -162,56 +161,3 @@ all_spreads d row spread is whole fit sixteen all =
     let value : spread ≡ row_spread d row
     = all.added ∙ ap (λ k. sum_l (map (segment_spread d row) (range_with_len 0 k))) (sym sixteen) in
     (value, omega (arith, value, row_spread_small d row is whole fit, is.short_row))
-
--- the spread of two values is the square of how far they lie apart
-pub pair_spread : (x y : ℤ) → FitsSigned w16 x → FitsSigned w16 y
-    → unsigned_abs ((x -ℤ y) *ℤ (x -ℤ y)) ≡ spread_times (x ∷ y ∷ [])
-pair_spread x y x_fits y_fits =
-    let far : apart (raised x) (raised y) ≡ unsigned_abs (x -ℤ y) = omega (arith, ints, x_fits, y_fits) in
-    unsigned_abs-mul (x -ℤ y) (x -ℤ y)
-    ∙ ap square (sym far)
-    ∙ by_parts (raised x) (raised y) (apart (raised x) (raised y)) (apart_square (raised x) (raised y))
-  where
-    by_parts : (u v g : ℕ) → square g + 2 * (u * v) ≡ u * u + v * v
-        → square g ≡ 2 * (square u + (square v + 0)) - square (u + (v + 0))
-    by_parts u v g told = omega (arith, told)
-
--- which is found in 64 bits
-pub gap_kept : (a b : ℤ) → FitsSigned w16 a → FitsSigned w16 b
-    → to_z w64 (of_z w64 (to_z w64 (of_z w64 a) -ℤ to_z w64 (of_z w64 b))) ≡ a -ℤ b
-gap_kept a b a_fits b_fits =
-    let wide_a : FitsSigned w64 a = omega (arith, ints, a_fits) in
-    let wide_b : FitsSigned w64 b = omega (arith, ints, b_fits) in
-    let wide_gap : FitsSigned w64 (a -ℤ b) = omega (arith, ints, a_fits, b_fits) in
-    ap (λ z. to_z w64 (of_z w64 (z -ℤ to_z w64 (of_z w64 b)))) (to_z-of_z w64 a wide_a)
-    ∙ ap (λ z. to_z w64 (of_z w64 (a -ℤ z))) (to_z-of_z w64 b wide_b)
-    ∙ to_z-of_z w64 (a -ℤ b) wide_gap
-
-pub square_kept : (a b : ℤ) → FitsSigned w16 a → FitsSigned w16 b
-    → to_z w64 (of_z w64 ((a -ℤ b) *ℤ (a -ℤ b))) ≡ (a -ℤ b) *ℤ (a -ℤ b)
-square_kept a b a_fits b_fits =
-    let few : unsigned_abs (a -ℤ b) ≤ 65535 = omega (arith, ints, a_fits, b_fits) in
-    to_z-of_z w64 ((a -ℤ b) *ℤ (a -ℤ b)) (fits_signed_mul w64 (a -ℤ b) (a -ℤ b) 65535 65535 few few (omega arith))
-
--- and small
-pub pair_small : (x y : ℤ) → FitsSigned w16 x → FitsSigned w16 y → spread_times (x ∷ y ∷ []) ≤ 4294836225
-pair_small x y x_fits y_fits =
-    let few : unsigned_abs (x -ℤ y) ≤ 65535 = omega (arith, ints, x_fits, y_fits) in
-    let own = sym (pair_spread x y x_fits y_fits) ∙ unsigned_abs-mul (x -ℤ y) (x -ℤ y) in
-    omega (arith, own, mul-le (unsigned_abs (x -ℤ y)) (unsigned_abs (x -ℤ y)) 65535 65535 few few)
-
--- two values of a row are its part from the first up to behind the second
-pub pair_of : (row : List ℤ) (i : ℕ) (d : ℤ) → i + 1 < length row
-    → slice_range row i (i + 2) ≡ get_or row i d ∷ get_or row (i + 1) d ∷ []
-pair_of row i d inside =
-    let two : i + 2 - i ≡ 2 = omega arith in
-    ap (λ n. take n (drop i row)) two ∙ both row i inside
-  where
-    both : (row : List ℤ) (i : ℕ) → i + 1 < length row → take 2 (drop i row) ≡ get_or row i d ∷ get_or row (i + 1) d ∷ []
-    both [] i inside = absurd (omega (arith, inside))
-    both (x ∷ []) i inside = absurd (omega (arith, inside))
-    both (x ∷ y ∷ row) zero inside = refl
-    both (x ∷ y ∷ row) (suc i) inside =
-        let same : suc (i + 1) ≡ suc i + 1 = omega arith in
-        both (y ∷ row) i (omega (arith, inside))
-        ∙ ap (λ n. get_or (y ∷ row) i d ∷ get_or (x ∷ y ∷ row) n d ∷ []) same

@@ -7,7 +7,7 @@ use series_core::Rows;
 use summary_phase::Member;
 
 /// How many values a block has: so many stay near at hand.
-pub(crate) const FETCHED: usize = 4096;
+pub(crate) const FETCHED: usize = 16384;
 
 /// Copies the rows of members, one behind another.
 pub(crate) fn fetch<R: Rows>(rows: &R, members: &[Member], into: &mut [i16])

@@ -3,7 +3,7 @@ use Rattle.std.proofs.Common.{◌≡◌, ◌∙◌, ◌/◌, ◌-ℤ◌, ◌*ℤ
 use Rattle.std.specs.Prelude.{unsigned_abs}
 use Rattle.std.proofs.lemmas.Int.{to_z-of_z}
 use Rattle.mean_bound.specs.Spread.{spread_times}
-use Rattle.mean_bound.proofs.SpreadSizes.{gap_kept, pair_small, pair_spread, square_kept}
+use Rattle.mean_bound.proofs.Pairs.{gap_kept, pair_small, pair_spread, square_kept}
 use Rattle.mean_bound.proofs.spread.spread_of_pair.Goals as goal
 use Rattle.mean_bound.proofs.spread.spread_of_pair.Goals.{After-unsigned_abs}
 

@@ -4,7 +4,8 @@ use Rattle.std.specs.Prelude.{slice_range}
 use Rattle.std.proofs.lemmas.Int.{to_z-of_z}
 use Rattle.segment_sums.proofs.Places.{equal_places}
 use Rattle.mean_bound.specs.Spread.{spread_times}
-use Rattle.mean_bound.proofs.SpreadSizes.{AreSpreads, all_spreads, one_spread_more, pair_of}
+use Rattle.mean_bound.proofs.Pairs.{pair_of}
+use Rattle.mean_bound.proofs.SpreadSizes.{AreSpreads, all_spreads, one_spread_more}
 use Rattle.mean_bound.proofs.spread.spread_of_pairs.Goals as goal
 
 pub loop-j-preserved : goal.loop-j-preserved
