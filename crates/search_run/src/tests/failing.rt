@@ -1,9 +1,10 @@
 //! Runs whose outside fails at one place: each open, each read and each write in turn, until none is left. What was written
 //! before is a beginning of the right text.
 
-use super::fixture::{Ended, Outside, ends_with, run_line};
+use super::fixture::{Outside, ends_with, run_line};
 use crate::{Status, Which};
 use outside::NoGate;
+use run_fixture::Ended;
 use saved_index::IndexFault;
 use std::alloc::Global;
 use std::process::Abort;
@@ -74,7 +75,7 @@ fn ends_over<H: Threads + Wait + Abort + Sync>(
     line: &str,
     outside: Outside,
     wanted: (Status, &[u8]),
-) -> Result<Ended, Fail> {
+) -> Result<Ended<Status>, Fail> {
     ends_with(rt, alloc, line, CERTIFICATE.as_bytes(), outside, wanted)
 }
 
@@ -86,7 +87,7 @@ fn ends_as<H: Threads + Wait + Abort + Sync>(
     outside: Outside,
     status: Status,
     text: &str,
-) -> Result<Ended, Fail> {
+) -> Result<Ended<Status>, Fail> {
     ends_over(rt, alloc, line, outside, (status, text_at(status, text)))
 }
 
