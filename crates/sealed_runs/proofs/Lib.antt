@@ -8,5 +8,6 @@ pub mod Lines
 pub mod Tallying
 pub mod Columns
 pub mod Passing
+pub mod Alike
 pub mod Closing
 pub mod Ordering

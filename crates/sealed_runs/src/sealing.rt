@@ -44,13 +44,10 @@ impl Row {
 fn empty_rows(alloc: Global, queues: u32) -> Result<Vec<Row>, NoMemory>
     ensures { IfOk result (λ rows. rows.items ≡ replicate queues []) }
 {
-    let mut rows = Vec::with_capacity(alloc, queues as usize)?;
-    for made in 0..queues {
-        rows.push_reserved(Row {
-            entries: Vec::new(alloc),
-        });
-    }
-    Ok(rows)
+    let empty = |_| Row {
+        entries: Vec::new(alloc),
+    };
+    Ok((0..queues).map(empty).collect(alloc)?)
 }
 
 /// The queue of an entry's leaf.
@@ -79,13 +76,10 @@ pub(crate) fn divide(alloc: Global, entries: &[Entry], queues: u32) -> Result<Ve
 fn idle_passes(alloc: Global, callers: u32) -> Result<Vec<RunPass>, NoMemory>
     ensures { IfOk result (λ passes. passes.items ≡ replicate callers []) }
 {
-    let mut passes = Vec::with_capacity(alloc, callers as usize)?;
-    for made in 0..callers {
-        passes.push_reserved(RunPass {
-            visits: Vec::new(alloc),
-        });
-    }
-    Ok(passes)
+    let idle = |_| RunPass {
+        visits: Vec::new(alloc),
+    };
+    Ok((0..callers).map(idle).collect(alloc)?)
 }
 
 impl RunPass {
