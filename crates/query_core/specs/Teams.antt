@@ -24,6 +24,11 @@ pub record TeamParts : Type 0 where
   pub hand : Held
   pub workers : List Working
 
+-- the team of these parts
+abbrev pub team_of : Question → IndexParts → ℕ → Option Start → Held → List Working → TeamParts
+team_of a ix m start hand workers =
+    record { question = a; index = ix; queues = m; start = start; hand = hand; workers = workers }
+
 -- what a team searches
 abbrev pub searched : TeamParts → Ground
 searched t = search_over t.question t.index (length t.workers) t.queues

@@ -35,6 +35,11 @@ pub record Working : Type 0 where
   pub list : List Pair
   pub marks : List Bool
 
+-- the worker of these parts
+abbrev pub working : Question → IndexParts → ℕ → ℕ → Phase → List ℕ → List Pair → List Bool → Working
+working a ix i m phase rest list marks =
+    record { question = a; index = ix; number = i; queues = m; phase = phase; rest = rest; list = list; marks = marks }
+
 -- whether leaf l has a mark
 abbrev pub is_marked : List Bool → ℕ → Bool
 is_marked marks l = slice_index_or marks l false

@@ -32,29 +32,15 @@ pub(crate) struct Team<'a, R: Rows> {
 impl<'a, R: Rows> Model for Team<'a, R> {
     ghost use Rattle.std.specs.Coded.{codes};
     ghost use Rattle.subtree_build.specs.contracts.node.Node as node;
-    ghost use Rattle.query_core.specs.Teams.{TeamParts, IsTeam};
+    ghost use Rattle.query_core.specs.Teams.{TeamParts, IsTeam, team_of};
 
     ghost Value = { TeamParts };
 
     ghost coded = { Prim.hlevel (codes, node.the_row.coded) };
 
-    ghost view = { λ t. record {
-      question = t.task.now;
-      index = t.index.now;
-      queues = t.queues;
-      start = t.start;
-      hand = t.hand;
-      workers = t.workers.items;
-    } };
+    ghost view = { λ t. team_of t.task.now t.index.now t.queues t.start t.hand t.workers.items };
 
-    ghost invariant = { λ t. IsTeam (record {
-      question = t.task.now;
-      index = t.index.now;
-      queues = t.queues;
-      start = t.start;
-      hand = t.hand;
-      workers = t.workers.items;
-    }) };
+    ghost invariant = { λ t. IsTeam (team_of t.task.now t.index.now t.queues t.start t.hand t.workers.items) };
 }
 
 impl<'a, R: Rows> Team<'a, R> {

@@ -37,33 +37,17 @@ impl<'a, R: Rows> Model for Worker<'a, R> {
     ghost use Rattle.std.specs.Coded.{codes};
     ghost use Rattle.subtree_build.specs.contracts.node.Node as node;
     ghost use Rattle.search_machine.specs.Workers.{without};
-    ghost use Rattle.query_core.specs.Working.{Working, IsWorking, phase_of};
+    ghost use Rattle.query_core.specs.Working.{Working, IsWorking, phase_of, working};
 
     ghost Value = { Working };
 
     ghost coded = { Prim.hlevel (codes, node.the_row.coded) };
 
-    ghost view = { λ w. record {
-      question = w.task.now;
-      index = w.index.now;
-      number = w.number;
-      queues = w.queues;
-      phase = phase_of w.stage;
-      rest = without w.start w.walk.leaves;
-      list = w.list.pairs;
-      marks = w.marks.items;
-    } };
+    ghost view = { λ w. working w.task.now w.index.now w.number w.queues (phase_of w.stage)
+        (without w.start w.walk.leaves) w.list.pairs w.marks.items };
 
-    ghost invariant = { λ w. IsWorking w.start w.walk w.list w.stage (record {
-      question = w.task.now;
-      index = w.index.now;
-      number = w.number;
-      queues = w.queues;
-      phase = phase_of w.stage;
-      rest = without w.start w.walk.leaves;
-      list = w.list.pairs;
-      marks = w.marks.items;
-    }) };
+    ghost invariant = { λ w. IsWorking w.start w.walk w.list w.stage (working w.task.now w.index.now w.number w.queues (phase_of w.stage)
+        (without w.start w.walk.leaves) w.list.pairs w.marks.items) };
 }
 
 impl<'a, R: Rows> Worker<'a, R> {
