@@ -60,7 +60,8 @@ impl<'a, R: Rows> Task<'a, R> {
         self.scan_leaf(index, entry.leaf, limit, list);
     }
 
-    /// The leaves that may have a member within the limit, each once. A group of leaves whose box is too far is passed over.
+    /// The leaves that may have a member within the limit, each once. A group of leaves whose box is too far is passed over, and so
+    /// are all groups of a wide one.
     pub(crate) fn near_leaves(
         &self,
         alloc: Global,
@@ -73,36 +74,18 @@ impl<'a, R: Rows> Task<'a, R> {
     {
         search_law(self, index);
         let mut entries = Vec::new(alloc);
+        let groups = index.leaf_count().div_ceil(GROUP);
         for wide in 0..index.leaf_count().div_ceil(WIDE_GROUP) {
-            self.add_wide_group(index, wide, limit, &mut entries)?;
+            if self.means().bound_box(index.wide_group_box(wide)) > limit {
+                continue;
+            }
+            let first = wide * (WIDE_GROUP / GROUP);
+            let end = first + (WIDE_GROUP / GROUP).min(groups - first);
+            for group in first..end {
+                self.add_group(index, group, limit, &mut entries)?;
+            }
         }
         Ok(entries)
-    }
-
-    // Looks at the leaves of a wide group, where all before it were looked at.
-    fn add_wide_group(
-        &self,
-        index: &Index,
-        wide: u32,
-        limit: u64,
-        entries: &mut Vec<Entry>,
-    ) -> Result<(), NoMemory>
-        requires fits { IndexFits self.now.collection self.now.layout index.now }
-        requires group { wide * 256 < length index.now.leaves }
-        ensures { let g = search_over self.now index.now 1 1 in AreNearBelow g limit (wide * 256) entries.old.items
-            → IfOk result (λ _. AreNearBelow g limit (wide * 256 + 256) entries.new.items) }
-    {
-        search_law(self, index);
-        if self.means().bound_box(index.wide_group_box(wide)) > limit {
-            return Ok(());
-        }
-        let groups = index.leaf_count().div_ceil(GROUP);
-        let first = wide * (WIDE_GROUP / GROUP);
-        let end = first + (WIDE_GROUP / GROUP).min(groups - first);
-        for group in first..end {
-            self.add_group(index, group, limit, entries)?;
-        }
-        Ok(())
     }
 
     // Looks at the leaves of a group, where all before it were looked at.
@@ -125,30 +108,12 @@ impl<'a, R: Rows> Task<'a, R> {
         let first = group * GROUP;
         let end = first + GROUP.min(index.leaf_count() - first);
         for leaf in first..end {
-            self.add_leaf(index, leaf, limit, entries)?;
+            let bound = self.leaf_bound(index, leaf);
+            if bound > limit {
+                continue;
+            }
+            entries.push(Entry { bound, leaf })?;
         }
-        Ok(())
-    }
-
-    // Looks at a leaf, where all before it were looked at.
-    fn add_leaf(
-        &self,
-        index: &Index,
-        leaf: u32,
-        limit: u64,
-        entries: &mut Vec<Entry>,
-    ) -> Result<(), NoMemory>
-        requires fits { IndexFits self.now.collection self.now.layout index.now }
-        requires leaf { leaf < length index.now.leaves }
-        ensures { let g = search_over self.now index.now 1 1 in AreNearBelow g limit leaf entries.old.items
-            → IfOk result (λ _. AreNearBelow g limit (leaf + 1) entries.new.items) }
-    {
-        search_law(self, index);
-        let bound = self.leaf_bound(index, leaf);
-        if bound > limit {
-            return Ok(());
-        }
-        entries.push(Entry { bound, leaf })?;
         Ok(())
     }
 
