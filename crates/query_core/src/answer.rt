@@ -61,7 +61,10 @@ impl<'a, R: Rows> Task<'a, R> {
         let close = self.first_limit(alloc, index, CLOSE)?;
         match self.what_tells(index, close - close / 4) {
             Telling::Means => self.nearest_by_leaves(alloc, index, close),
-            Telling::FinerMeans => self.answer_by_finer_means(alloc, index, close),
+            Telling::FinerMeans => {
+                let empty = KBest::new(alloc, self.k())?;
+                Ok(self.answer_by_finer_means(index, close, empty))
+            }
             Telling::Nothing => self.answer_by_rows(alloc, close),
         }
     }

@@ -61,7 +61,10 @@ impl<'a, R: Rows> Task<'a, R> {
         let limit = self.scan_closest(alloc, index, closest, first, &mut list)?;
         match self.what_tells(index, limit) {
             Telling::Means => {}
-            Telling::FinerMeans => return self.answer_by_finer_means(alloc, index, limit),
+            Telling::FinerMeans => {
+                let empty = KBest::new(alloc, self.k())?;
+                return Ok(self.answer_by_finer_means(index, limit, empty));
+            }
             Telling::Nothing => return self.answer_by_rows(alloc, limit),
         }
         if others.len() > MANY {

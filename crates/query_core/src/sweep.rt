@@ -1,6 +1,6 @@
 //! The sweep: the answer by the finer means of all members, one after another as they lie in memory. No box and no means of a leaf are
 //! looked at.
-ghost use Rattle.std.specs.Prelude.{◌≡◌, ◌≤◌, All, IfOk};
+ghost use Rattle.std.specs.Prelude.{◌≡◌, ◌≤◌, [], All};
 ghost use Rattle.series_core.specs.Answer.{answer};
 ghost use Rattle.subtree_build.specs.Fits.{Fits as IndexFits};
 ghost use Rattle.subtree_build.specs.Means.{all_finer};
@@ -14,27 +14,20 @@ use crate::scan::most_to_add;
 use crate::task::Task;
 use isax_word::Member;
 use mean_bound::MeanCells;
-use outside::NoMemory;
 use series_core::{KBest, Rows};
-use std::alloc::Global;
 use subtree_build::Index;
 
 impl<'a, R: Rows> Task<'a, R> {
-    /// The list of the answer, by the finer means of all members.
-    pub(crate) fn answer_by_finer_means(
-        &self,
-        alloc: Global,
-        index: &Index,
-        limit: u64,
-    ) -> Result<KBest, NoMemory>
+    /// The list of the answer, by the finer means of all members, in an empty list's room.
+    pub(crate) fn answer_by_finer_means(&self, index: &Index, limit: u64, mut list: KBest) -> KBest
         requires fits { IndexFits self.now.collection self.now.layout index.now }
         requires limit { last_of self.now ≤ limit }
-        ensures { IfOk result (λ best. best.pairs ≡ answer self.now.collection self.now.query self.now.k) }
+        requires empty { list ≡ record { k = self.now.k; pairs = [] } }
+        ensures { result.pairs ≡ answer self.now.collection self.now.query self.now.k }
     {
         search_law(self, index);
-        let mut list = KBest::new(alloc, self.k())?;
         self.sweep(index.members(), index.finer(), limit, &mut list);
-        Ok(list)
+        list
     }
 
     // Scans members with this limit into a list: one is passed over by its finer means, or else measured.

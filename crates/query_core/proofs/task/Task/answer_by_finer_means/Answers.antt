@@ -36,7 +36,7 @@ returns g c =
     let all : List Member = flat_map (λ (x : TreeLeaf). x.members) ix.leaves in
     c.sweep.ensures.pairs ix 1 1
     ∙ ap (λ (ps : List Pair). scan ground c.args.limit (numbers_of c.members.result.now) ps)
-    (ap (λ (best : Best). best.pairs) c.in_ok-list.ensures)
+    (ap (λ (best : Best). best.pairs) c.requires.empty)
     ∙ ap (λ (ms : List Member). scan ground c.args.limit (numbers_of ms) []) c.members.ensures
     ∙ answer_scanned ground fits c.args.limit (numbers_of all) enough (each_met a.collection a.layout ix c.requires.fits)
     ∙ c.search_law.ensures.answer 1 1
