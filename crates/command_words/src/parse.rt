@@ -1,10 +1,10 @@
 //! The settings of words, read command by command, and of a whole command line.
-ghost use Rattle.std.specs.Prelude.{◌≡◌, ℕ, List, IfOk, Some, map, option_and_then, slice_get, string_bytes, codes};
+ghost use Rattle.std.specs.Prelude.{◌≡◌, ℕ, List, IfOk, Some, map, option_and_then, slice_get, string_bytes};
 ghost use Rattle.command_words.specs.Absence.{HoldsAbsence, IndexStandsAlone};
 ghost use Rattle.command_words.specs.CommandName.{named_by};
-ghost use Rattle.command_words.specs.Limits.{KeepsLimits};
+ghost use Rattle.command_words.specs.Limits.{KeepsLimits, OptionsKeepLimits};
 ghost use Rattle.command_words.specs.Options.{HasOptions, rows};
-ghost use Rattle.command_words.specs.Settings.{FitsAs, FitsNone, HasSettings, HasText, has_stray_option, name_of, options_of};
+ghost use Rattle.command_words.specs.Settings.{FitsAs, FitsNone, HasSettings, has_stray_option, name_of, options_of};
 ghost use Rattle.command_words.specs.declared.command.Command.{Command};
 
 use crate::command::Command;
@@ -13,7 +13,6 @@ use crate::given::{given, is_flag_set, long_number_at, number_at, text_at};
 use crate::matching::matches_of;
 use crate::name::CommandName;
 use crate::options::{Options, options_of};
-use crate::text::Text;
 use clap::ArgMatches;
 use std::alloc::Global;
 
@@ -28,71 +27,9 @@ fn has_stray_option(matches: &ArgMatches<'_>) -> bool
             || is_flag_set(matches, "certificate"))
 }
 
-/// The file that stands alone before the options of a command, and the options.
-fn data_and_options(alloc: Global, matches: &ArgMatches<'_>) -> Result<(Text, Options), WordsError>
-    ensures ok { IfOk result (λ r. HasText (codes "DATA") (rows matches.now) r.0 × HasOptions (rows matches.now) r.1) }
-    ensures usage { result ≡ Err WordsError.Usage → (t : List ℕ) (o : Options)
-        → HasText (codes "DATA") (rows matches.now) t → HasOptions (rows matches.now) o → ⊥ }
-{
-    let data = text_at(alloc, matches, "DATA")?;
-    let options = options_of(alloc, matches)?;
-    Ok((data, options))
-}
-
-/// What the matches of `nearest DATA QUERIES` ask for.
-fn nearest(alloc: Global, matches: &ArgMatches<'_>) -> Result<Command, WordsError>
-    ensures ok { IfOk result (FitsAs CommandName.Nearest (rows matches.now)) }
-    ensures usage { result ≡ Err WordsError.Usage → FitsNone CommandName.Nearest (rows matches.now) }
-{
-    let series = text_at(alloc, matches, "DATA")?;
-    let queries = text_at(alloc, matches, "QUERIES")?;
-    if has_stray_option(matches) {
-        return Err(WordsError::Usage);
-    }
-    let options = options_of(alloc, matches)?;
-    Ok(Command::Nearest {
-        series,
-        queries,
-        options,
-    })
-}
-
-/// What the matches of `range DATA QUERIES RADIUS` ask for.
-fn range(alloc: Global, matches: &ArgMatches<'_>) -> Result<Command, WordsError>
-    ensures ok { IfOk result (FitsAs CommandName.Range (rows matches.now)) }
-    ensures usage { result ≡ Err WordsError.Usage → FitsNone CommandName.Range (rows matches.now) }
-{
-    let series = text_at(alloc, matches, "DATA")?;
-    let queries = text_at(alloc, matches, "QUERIES")?;
-    let radius = long_number_at(matches, "RADIUS", 0, 281474976710656).ok_or(WordsError::Usage)?;
-    let options = options_of(alloc, matches)?;
-    Ok(Command::Range {
-        series,
-        queries,
-        radius,
-        options,
-    })
-}
-
-/// What the matches of `verify DATA QUERIES CERTIFICATE` ask for.
-fn verify(alloc: Global, matches: &ArgMatches<'_>) -> Result<Command, WordsError>
-    ensures ok { IfOk result (FitsAs CommandName.Verify (rows matches.now)) }
-    ensures usage { result ≡ Err WordsError.Usage → FitsNone CommandName.Verify (rows matches.now) }
-{
-    let series = text_at(alloc, matches, "DATA")?;
-    let queries = text_at(alloc, matches, "QUERIES")?;
-    let certificate = text_at(alloc, matches, "CERTIFICATE")?;
-    let options = options_of(alloc, matches)?;
-    Ok(Command::Verify {
-        series,
-        queries,
-        certificate,
-        options,
-    })
-}
-
-/// What the matches of `trial SEED COUNT LENGTH QUERIES` ask for.
-fn trial(alloc: Global, matches: &ArgMatches<'_>) -> Result<Command, WordsError>
+/// What the matches of `trial SEED COUNT LENGTH QUERIES` with these options ask for.
+fn trial(matches: &ArgMatches<'_>, options: Options) -> Result<Command, WordsError>
+    requires { HasOptions (rows matches.now) options }
     ensures ok { IfOk result (FitsAs CommandName.Trial (rows matches.now)) }
     ensures usage { result ≡ Err WordsError.Usage → FitsNone CommandName.Trial (rows matches.now) }
 {
@@ -103,7 +40,6 @@ fn trial(alloc: Global, matches: &ArgMatches<'_>) -> Result<Command, WordsError>
     if u64::from(count) * u64::from(length) > 134217728 {
         return Err(WordsError::Usage);
     }
-    let options = options_of(alloc, matches)?;
     Ok(Command::Trial {
         seed,
         count,
@@ -113,22 +49,20 @@ fn trial(alloc: Global, matches: &ArgMatches<'_>) -> Result<Command, WordsError>
     })
 }
 
-/// What the matches of `windows SERIES QUERIES STEP` ask for.
-fn windows(alloc: Global, matches: &ArgMatches<'_>) -> Result<Command, WordsError>
+/// What the matches of `windows SERIES QUERIES STEP` with these options ask for.
+fn windows(alloc: Global, matches: &ArgMatches<'_>, options: Options) -> Result<Command, WordsError>
+    requires has { HasOptions (rows matches.now) options }
+    requires limits { OptionsKeepLimits options }
     ensures ok { IfOk result (FitsAs CommandName.Windows (rows matches.now)) }
     ensures usage { result ≡ Err WordsError.Usage → FitsNone CommandName.Windows (rows matches.now) }
 {
-    let series = text_at(alloc, matches, "SERIES")?;
-    let queries = text_at(alloc, matches, "QUERIES")?;
-    let step = number_at(matches, "STEP", 1, 16777216).ok_or(WordsError::Usage)?;
-    let options = options_of(alloc, matches)?;
     if options.windows_needed() > 1024 {
         return Err(WordsError::Usage);
     }
     Ok(Command::Windows {
-        series,
-        queries,
-        step,
+        series: text_at(alloc, matches, "SERIES")?,
+        queries: text_at(alloc, matches, "QUERIES")?,
+        step: number_at(matches, "STEP", 1, 16777216).ok_or(WordsError::Usage)?,
         options,
     })
 }
@@ -142,24 +76,40 @@ fn command_given(
     ensures ok { IfOk result (FitsAs name (rows matches.now)) }
     ensures usage { result ≡ Err WordsError.Usage → FitsNone name (rows matches.now) }
 {
+    let options = options_of(alloc, matches)?;
     match name {
-        CommandName::Nearest => nearest(alloc, matches),
-        CommandName::Range => range(alloc, matches),
-        CommandName::Verify => verify(alloc, matches),
-        CommandName::Trial => trial(alloc, matches),
-        CommandName::Convert => {
-            let (series, options) = data_and_options(alloc, matches)?;
-            Ok(Command::Convert { series, options })
-        }
-        CommandName::Save => {
-            let (series, options) = data_and_options(alloc, matches)?;
-            Ok(Command::Save { series, options })
-        }
-        CommandName::Windows => windows(alloc, matches),
-        CommandName::Discord => {
-            let (series, options) = data_and_options(alloc, matches)?;
-            Ok(Command::Discord { series, options })
-        }
+        CommandName::Nearest if has_stray_option(matches) => Err(WordsError::Usage),
+        CommandName::Nearest => Ok(Command::Nearest {
+            series: text_at(alloc, matches, "DATA")?,
+            queries: text_at(alloc, matches, "QUERIES")?,
+            options,
+        }),
+        CommandName::Range => Ok(Command::Range {
+            series: text_at(alloc, matches, "DATA")?,
+            queries: text_at(alloc, matches, "QUERIES")?,
+            radius: long_number_at(matches, "RADIUS", 0, 281474976710656).ok_or(WordsError::Usage)?,
+            options,
+        }),
+        CommandName::Verify => Ok(Command::Verify {
+            series: text_at(alloc, matches, "DATA")?,
+            queries: text_at(alloc, matches, "QUERIES")?,
+            certificate: text_at(alloc, matches, "CERTIFICATE")?,
+            options,
+        }),
+        CommandName::Trial => trial(matches, options),
+        CommandName::Convert => Ok(Command::Convert {
+            series: text_at(alloc, matches, "DATA")?,
+            options,
+        }),
+        CommandName::Save => Ok(Command::Save {
+            series: text_at(alloc, matches, "DATA")?,
+            options,
+        }),
+        CommandName::Windows => windows(alloc, matches, options),
+        CommandName::Discord => Ok(Command::Discord {
+            series: text_at(alloc, matches, "DATA")?,
+            options,
+        }),
     }
 }
 
