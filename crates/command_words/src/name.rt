@@ -30,6 +30,20 @@ const DATA: Argument = Argument::Positional("DATA");
 
 const QUERIES: Argument = Argument::Positional("QUERIES");
 
+const SERIES: Argument = Argument::Positional("SERIES");
+
+const RADIUS: Argument = Argument::Positional("RADIUS");
+
+const STEP: Argument = Argument::Positional("STEP");
+
+const SEED: Argument = Argument::Positional("SEED");
+
+const COUNT: Argument = Argument::Positional("COUNT");
+
+const LENGTH: Argument = Argument::Positional("LENGTH");
+
+const CERTIFICATE: Argument = Argument::Positional("CERTIFICATE");
+
 const K: Argument = Argument::Valued("k");
 
 const SEGMENTS: Argument = Argument::Valued("segments");
@@ -44,56 +58,24 @@ const BREAKS: Argument = Argument::Valued("breaks");
 
 const RAW: Argument = Argument::Valued("raw");
 
+const INDEX: Argument = Argument::Valued("index");
+
+const APART: Argument = Argument::Valued("apart");
+
+const CERTIFIED: Argument = Argument::Flag("certificate");
+
 const SEALED: Argument = Argument::Flag("sealed");
 
 static NEAREST: [Argument; 12] = [
-    DATA,
-    QUERIES,
-    K,
-    SEGMENTS,
-    LEAF,
-    WORKERS,
-    QUEUES,
-    BREAKS,
-    RAW,
-    Argument::Valued("index"),
-    Argument::Flag("certificate"),
-    SEALED,
+    DATA, QUERIES, K, SEGMENTS, LEAF, WORKERS, QUEUES, BREAKS, RAW, INDEX, CERTIFIED, SEALED,
 ];
 
-static RANGE: [Argument; 8] = [
-    DATA,
-    QUERIES,
-    Argument::Positional("RADIUS"),
-    SEGMENTS,
-    LEAF,
-    WORKERS,
-    BREAKS,
-    RAW,
-];
+static RANGE: [Argument; 8] = [DATA, QUERIES, RADIUS, SEGMENTS, LEAF, WORKERS, BREAKS, RAW];
 
-static VERIFY: [Argument; 7] = [
-    DATA,
-    QUERIES,
-    Argument::Positional("CERTIFICATE"),
-    K,
-    SEGMENTS,
-    BREAKS,
-    RAW,
-];
+static VERIFY: [Argument; 7] = [DATA, QUERIES, CERTIFICATE, K, SEGMENTS, BREAKS, RAW];
 
 static TRIAL: [Argument; 11] = [
-    Argument::Positional("SEED"),
-    Argument::Positional("COUNT"),
-    Argument::Positional("LENGTH"),
-    QUERIES,
-    K,
-    SEGMENTS,
-    LEAF,
-    WORKERS,
-    QUEUES,
-    BREAKS,
-    SEALED,
+    SEED, COUNT, LENGTH, QUERIES, K, SEGMENTS, LEAF, WORKERS, QUEUES, BREAKS, SEALED,
 ];
 
 static CONVERT: [Argument; 2] = [DATA, RAW];
@@ -101,18 +83,7 @@ static CONVERT: [Argument; 2] = [DATA, RAW];
 static SAVE: [Argument; 6] = [DATA, SEGMENTS, LEAF, WORKERS, BREAKS, RAW];
 
 static WINDOWS: [Argument; 12] = [
-    Argument::Positional("SERIES"),
-    QUERIES,
-    Argument::Positional("STEP"),
-    K,
-    SEGMENTS,
-    LEAF,
-    WORKERS,
-    QUEUES,
-    BREAKS,
-    SEALED,
-    RAW,
-    Argument::Valued("apart"),
+    SERIES, QUERIES, STEP, K, SEGMENTS, LEAF, WORKERS, QUEUES, BREAKS, SEALED, RAW, APART,
 ];
 
 static DISCORD: [Argument; 7] = [DATA, K, SEGMENTS, LEAF, WORKERS, BREAKS, RAW];
