@@ -38,12 +38,13 @@ impl Means {
         ensures { result ≡ row_means cuts.now row.now }
     {
         match (cuts.segments(), cuts.length()) {
+            (8, 8) => Means::of_equal::<8, 1>(cuts, row),
             (16, 32) => Means::of_pairs(cuts, row),
-            (16, 64) => Means::of_equal::<4>(cuts, row),
-            (16, 128) => Means::of_equal::<8>(cuts, row),
-            (16, 256) => Means::of_equal::<16>(cuts, row),
-            (16, 512) => Means::of_equal::<32>(cuts, row),
-            (16, 1024) => Means::of_equal::<64>(cuts, row),
+            (16, 64) => Means::of_equal::<16, 4>(cuts, row),
+            (16, 128) => Means::of_equal::<16, 8>(cuts, row),
+            (16, 256) => Means::of_equal::<16, 16>(cuts, row),
+            (16, 512) => Means::of_equal::<16, 32>(cuts, row),
+            (16, 1024) => Means::of_equal::<16, 64>(cuts, row),
             _ => Means::of_any(cuts, row),
         }
     }
@@ -73,16 +74,18 @@ impl Means {
         Means { raised }
     }
 
-    // The means of sixteen segments of L values each. The compiler knows L, so that it divides without a division.
-    fn of_equal<const L: usize>(cuts: &Cuts, row: &[i16]) -> Means
+    // The means of W segments of L values each. The compiler knows both numbers, so that it divides without a division.
+    fn of_equal<const W: usize, const L: usize>(cuts: &Cuts, row: &[i16]) -> Means
         requires length { length row.now ≡ cuts.now.row_length }
-        requires sixteen { cuts.now.segments ≡ 16 }
-        requires equal { cuts.now.row_length ≡ 16 * L }
+        requires segments { cuts.now.segments ≡ W }
+        requires equal { cuts.now.row_length ≡ W * L }
         ensures { result ≡ row_means cuts.now row.now }
     {
-        let sums = equal_raised_sums::<L>(cuts, row);
+        // for the fact that the cuts divide
+        let _segments = cuts.segments();
+        let sums = equal_raised_sums::<W, L>(cuts, row);
         let mut raised = [0; 16];
-        for j in 0..16 {
+        for j in 0..W {
             raised[j] = mean_of(sums[j], L as u32);
         }
         Means { raised }
@@ -136,12 +139,15 @@ pub(crate) fn raised_sums(cuts: &Cuts, row: &[i16]) -> [u32; 16]
     raised
 }
 
-/// The same over sixteen segments of L values each, which the compiler knows.
+/// The same over W segments of L values each, both of which the compiler knows.
 #[inline(always)]
-pub(crate) fn equal_raised_sums<const L: usize>(cuts: &Cuts, row: &[i16]) -> [u32; 16]
+pub(crate) fn equal_raised_sums<const W: usize, const L: usize>(
+    cuts: &Cuts,
+    row: &[i16],
+) -> [u32; 16]
     requires length { length row.now ≡ cuts.now.row_length }
-    requires sixteen { cuts.now.segments ≡ 16 }
-    requires equal { cuts.now.row_length ≡ 16 * L }
+    requires segments { cuts.now.segments ≡ W }
+    requires equal { cuts.now.row_length ≡ W * L }
     ensures sums { result ≡ of_segments cuts.now (raised_sum cuts.now row.now) }
     ensures limit { NoRaisedSumAbove cuts.now row.now cuts.now.segments }
     ensures known { (1 ≤ L) × (L ≤ 65536) }
@@ -151,7 +157,7 @@ pub(crate) fn equal_raised_sums<const L: usize>(cuts: &Cuts, row: &[i16]) -> [u3
     let mut sums = [0; 16];
     cuts.sums(row, &mut sums);
     let mut raised = [0; 16];
-    for j in 0..16 {
+    for j in 0..W {
         raised[j] = raised_by(L as u32, sums[j]);
     }
     raised

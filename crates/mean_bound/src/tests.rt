@@ -264,14 +264,23 @@ fn a_box_bounds_what_lies_in_it(rt: HostRuntime) -> Result<(), Fail> {
 
 #[test]
 fn bounds_of_the_usual_lengths_are_those_of_the_sums(rt: HostRuntime) -> Result<(), Fail> {
-    for n in [32usize, 64, 128, 256, 512, 1024] {
+    let divisions: [(usize, u32); 7] = [
+        (8, 8),
+        (32, 16),
+        (64, 16),
+        (128, 16),
+        (256, 16),
+        (512, 16),
+        (1024, 16),
+    ];
+    for (n, w) in divisions {
         for seed in 1..=12u64 {
             let series = scattered(seed, 2 + (seed % 15) as u32);
             let query = scattered(seed + 100, 16);
             assert_eq!(rt;
-                bound(&rt, &series[..n], &query[..n], 16),
-                plain_bound(&series[..n], &query[..n], 16),
-                "16 segments of {n} values from {seed}"
+                bound(&rt, &series[..n], &query[..n], w),
+                plain_bound(&series[..n], &query[..n], w as usize),
+                "{w} segments of {n} values from {seed}"
             );
         }
     }

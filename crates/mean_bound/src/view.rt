@@ -56,7 +56,7 @@ impl MeanView {
         requires equal { cuts.now.row_length ≡ 16 * L }
         ensures { result ≡ mean_view_of cuts.now query.now }
     {
-        let sums = equal_raised_sums::<L>(cuts, query);
+        let sums = equal_raised_sums::<16, L>(cuts, query);
         let mut lows = [0; 16];
         let mut highs = [0; 16];
         for j in 0..16 {

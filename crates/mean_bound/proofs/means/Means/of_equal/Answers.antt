@@ -9,20 +9,23 @@ use Rattle.mean_bound.proofs.means.Means.of_equal.Goals as goal
 pub mean_of-requires-clause-limit : goal.mean_of-requires-clause-limit
 mean_of-requires-clause-limit g c =
     sum_fits c.args.cuts.now c.args.row.now c.equal_raised_sums-sums.result c.loop-j.j g.row.L c.equal_raised_sums-sums.ensures.sums
-    c.equal_raised_sums-sums.ensures.limit (omega (arith, c.requires.sixteen))
-    (equal_lengths c.args.cuts.now 16 g.row.L c.loop-j.j (omega arith) c.requires.sixteen c.requires.equal)
+    c.equal_raised_sums-sums.ensures.limit (omega (arith, c.requires.segments))
+    (equal_lengths c.args.cuts.now g.row.W g.row.L c.loop-j.j (omega (arith, c.requires.segments, c.segments-segments.ensures.divides.some_segments))
+    c.requires.segments c.requires.equal)
 
 pub loop-j-preserved : goal.loop-j-preserved
 loop-j-preserved g c =
     let cuts = c.args.cuts.now in
     let j = c.loop-j.j in
-    let used : j < cuts.segments = omega (arith, c.requires.sixteen) in
-    let long = equal_lengths cuts 16 g.row.L j (omega arith) c.requires.sixteen c.requires.equal in
-    fill_next (segment_mean cuts c.args.row.now) 0 16 j c.loop-j.raised _ (omega (arith, used, c.requires.sixteen)) c.loop-j.invariant
+    let is = c.segments-segments.ensures.divides in
+    let used : j < cuts.segments = omega (arith, c.requires.segments) in
+    let long = equal_lengths cuts g.row.W g.row.L j (omega (arith, c.requires.segments, is.some_segments)) c.requires.segments
+    c.requires.equal in
+    fill_next (segment_mean cuts c.args.row.now) 0 16 j c.loop-j.raised _ (omega (arith, used, is.few_segments)) c.loop-j.invariant
     (mean_is cuts c.args.row.now _ j g.row.L _ c.equal_raised_sums-sums.ensures.sums used long c.mean_of.ensures)
 
 pub returns : goal.returns
 returns g c =
     let cuts = c.args.cuts.now in
-    let end : c.loop-j.j ≡ cuts.segments = omega (arith, c.requires.sixteen) in
+    let end : c.loop-j.j ≡ cuts.segments = omega (arith, c.requires.segments) in
     c.loop-j.invariant ∙ ap (filled (segment_mean cuts c.args.row.now) 0 16) end
