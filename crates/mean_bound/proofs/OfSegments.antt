@@ -1,5 +1,5 @@
 -- Numbers of segments with zeros behind them hold at each segment its number (`at_segment`), and what follows for the sum of a segment
--- that is raised (`sum_between`, `raised_is`, `sum_fits`), and for its means (`mean_is`, `low_is`, `high_is`).
+-- that is raised (`sum_between`, `raised_is`, `sum_fits`), and for its means (`mean_is`, `mean_told`, `low_is`, `high_is`).
 use Rattle.std.proofs.Common.{◌≡◌, ℕ, ◌+◌, ◌-◌, ◌*◌, ◌/◌, ◌<◌, ◌≤◌, ℤ, pos, List, ap, sym, ◌∙◌, arith, get_or, map, replicate, length}
 use Rattle.std.specs.Prelude.{neg_ℤ, ◌+ℤ◌, ◌≤ℤ◌, unsigned_abs}
 use Rattle.std.specs.List.{range_with_len}
@@ -8,7 +8,7 @@ use Rattle.std.proofs.lemmas.List.{get_or_append_left}
 use Rattle.std.proofs.lemmas.List.FromFn.{length-map-range_with_len, get_or-map-range_with_len}
 use Rattle.segment_sums.specs.Division.{Division, cut_place, segment_length}
 use Rattle.segment_sums.specs.Sum.{segment_sum, NoSumBelow, NoSumAbove}
-use Rattle.mean_bound.specs.Means.{of_segments, raised_sum, segment_mean, NoRaisedSumAbove}
+use Rattle.mean_bound.specs.Means.{of_segments, raised_sum, segment_mean, AreMeans, NoRaisedSumAbove}
 use Rattle.mean_bound.specs.MeanBound.{low_mean, high_mean}
 
 -- the number of a segment
@@ -57,6 +57,14 @@ pub mean_is : (d : Division) (row : List ℤ) (sums : List ℕ) (j l got : ℕ) 
     → segment_length d j ≡ l → got ≡ get_or sums j 0 / l → got ≡ segment_mean d row j
 mean_is d row sums j l got are used long value =
     value ∙ ap (λ s. s / l) (at_segment d (raised_sum d row) sums j are used) ∙ ap (λ n. raised_sum d row j / n) (sym long)
+
+-- the mean that stands at a segment is the sum there, divided by the length
+pub mean_told : (d : Division) (row : List ℤ) (sums means : List ℕ) (j l : ℕ) → AreMeans d row sums means → j < d.segments
+    → segment_length d j ≡ l → get_or means j 0 ≡ get_or sums j 0 / l
+mean_told d row sums means j l are used long =
+    at_segment d (segment_mean d row) means j are.divided used
+    ∙ ap (λ n. raised_sum d row j / n) long
+    ∙ ap (λ s. s / l) (sym (at_segment d (raised_sum d row) sums j are.summed used))
 
 -- the least mean without a gap
 pub low_is : (d : Division) (row : List ℤ) (sums : List ℕ) (j l got : ℕ) → sums ≡ of_segments d (raised_sum d row) → j < d.segments

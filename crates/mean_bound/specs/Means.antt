@@ -1,5 +1,5 @@
 -- The means of the segments of a row. Values are raised by 32768, so that no sum and no mean is below 0.
-use Rattle.std.specs.Prelude.{ℕ, ℤ, pos, ◌+ℤ◌, ◌-◌, ◌*◌, ◌/◌, ◌<◌, ◌≤◌, List, ◌++◌, map, replicate, unsigned_abs}
+use Rattle.std.specs.Prelude.{◌≡◌, ℕ, ℤ, pos, ◌+ℤ◌, ◌-◌, ◌*◌, ◌/◌, ◌<◌, ◌≤◌, List, ◌++◌, map, replicate, unsigned_abs}
 use Rattle.std.specs.List.{range_with_len}
 use Rattle.segment_sums.specs.Division.{Division, segment_length}
 use Rattle.segment_sums.specs.Sum.{segment_sum}
@@ -23,3 +23,9 @@ row_means d row = of_segments d (segment_mean d row)
 -- the raised sum of each of the first k segments is at most 65535 times its length
 abbrev pub NoRaisedSumAbove : Division → List ℤ → ℕ → Type 0
 NoRaisedSumAbove d row k = (j : ℕ) → j < k → raised_sum d row j ≤ 65535 * segment_length d j
+
+-- the raised sums of the segments of a row, none of which is too high, and their means
+pub record AreMeans (d : Division) (row : List ℤ) (sums means : List ℕ) : Type 0 where
+  pub summed : sums ≡ of_segments d (raised_sum d row)
+  pub divided : means ≡ row_means d row
+  pub limit : NoRaisedSumAbove d row d.segments

@@ -1,7 +1,7 @@
 //! The means of a series' segments, as they are stored. Values are raised by 32768, so that no mean is below 0; a mean is
 //! rounded down, and never up, so that a series' sum is at least its mean times the length.
 ghost use Rattle.std.specs.Prelude.{◌≡◌, ◌*◌, ◌/◌, ◌≤◌, pos, neg_ℤ, ◌+ℤ◌, ◌≤ℤ◌, length, replicate, unsigned_abs};
-ghost use Rattle.mean_bound.specs.Means.{of_segments, raised_sum, row_means, NoRaisedSumAbove};
+ghost use Rattle.mean_bound.specs.Means.{of_segments, raised_sum, row_means, AreMeans, NoRaisedSumAbove};
 
 use segment_sums::Cuts;
 use series_core::values_fit;
@@ -38,14 +38,11 @@ impl Means {
         ensures { result ≡ row_means cuts.now row.now }
     {
         match (cuts.segments(), cuts.length()) {
-            (8, 8) => Means::of_equal::<8, 1>(cuts, row),
             (16, 32) => Means::of_pairs(cuts, row),
-            (16, 64) => Means::of_equal::<16, 4>(cuts, row),
-            (16, 128) => Means::of_equal::<16, 8>(cuts, row),
-            (16, 256) => Means::of_equal::<16, 16>(cuts, row),
-            (16, 512) => Means::of_equal::<16, 32>(cuts, row),
-            (16, 1024) => Means::of_equal::<16, 64>(cuts, row),
-            _ => Means::of_any(cuts, row),
+            _ => {
+                let (_sums, raised) = sums_and_means(cuts, row);
+                Means { raised }
+            }
         }
     }
 
@@ -73,37 +70,56 @@ impl Means {
         }
         Means { raised }
     }
+}
 
-    // The means of W segments of L values each. The compiler knows both numbers, so that it divides without a division.
-    fn of_equal<const W: usize, const L: usize>(cuts: &Cuts, row: &[i16]) -> Means
-        requires length { length row.now ≡ cuts.now.row_length }
-        requires segments { cuts.now.segments ≡ W }
-        requires equal { cuts.now.row_length ≡ W * L }
-        ensures { result ≡ row_means cuts.now row.now }
-    {
-        // for the fact that the cuts divide
-        let _segments = cuts.segments();
-        let sums = equal_raised_sums::<W, L>(cuts, row);
-        let mut raised = [0; 16];
-        for j in 0..W {
-            raised[j] = mean_of(sums[j], L as u32);
-        }
-        Means { raised }
+/// The sums of a row's values, each raised by 32768, over each segment, and the means of these; the entries from the number of
+/// segments on are 0.
+#[inline(always)]
+pub(crate) fn sums_and_means(cuts: &Cuts, row: &[i16]) -> ([u32; 16], [u16; 16])
+    requires { length row.now ≡ cuts.now.row_length }
+    ensures { AreMeans cuts.now row.now result.0 result.1 }
+{
+    match (cuts.segments(), cuts.length()) {
+        (8, 8) => of_equal::<8, 1>(cuts, row),
+        (16, 32) => of_equal::<16, 2>(cuts, row),
+        (16, 64) => of_equal::<16, 4>(cuts, row),
+        (16, 128) => of_equal::<16, 8>(cuts, row),
+        (16, 256) => of_equal::<16, 16>(cuts, row),
+        (16, 512) => of_equal::<16, 32>(cuts, row),
+        (16, 1024) => of_equal::<16, 64>(cuts, row),
+        _ => of_any(cuts, row),
     }
+}
 
-    // The means of segments of any lengths.
-    fn of_any(cuts: &Cuts, row: &[i16]) -> Means
-        requires { length row.now ≡ cuts.now.row_length }
-        ensures { result ≡ row_means cuts.now row.now }
-    {
-        let sums = raised_sums(cuts, row);
-        let mut raised = [0; 16];
-        for j in 0..cuts.segments() {
-            let (from, to) = cuts.cut(j);
-            raised[j as usize] = mean_of(sums[j as usize], to - from);
-        }
-        Means { raised }
+/// The same of W segments of L values each. The compiler knows both numbers, so that it divides without a division.
+fn of_equal<const W: usize, const L: usize>(cuts: &Cuts, row: &[i16]) -> ([u32; 16], [u16; 16])
+    requires length { length row.now ≡ cuts.now.row_length }
+    requires segments { cuts.now.segments ≡ W }
+    requires equal { cuts.now.row_length ≡ W * L }
+    ensures { AreMeans cuts.now row.now result.0 result.1 }
+{
+    // for the fact that the cuts divide
+    let _segments = cuts.segments();
+    let sums = equal_raised_sums::<W, L>(cuts, row);
+    let mut means = [0; 16];
+    for j in 0..W {
+        means[j] = mean_of(sums[j], L as u32);
     }
+    (sums, means)
+}
+
+/// The same of segments of any lengths.
+fn of_any(cuts: &Cuts, row: &[i16]) -> ([u32; 16], [u16; 16])
+    requires { length row.now ≡ cuts.now.row_length }
+    ensures { AreMeans cuts.now row.now result.0 result.1 }
+{
+    let sums = raised_sums(cuts, row);
+    let mut means = [0; 16];
+    for j in 0..cuts.segments() {
+        let (from, to) = cuts.cut(j);
+        means[j as usize] = mean_of(sums[j as usize], to - from);
+    }
+    (sums, means)
 }
 
 /// The mean of `length` values whose raised sum is `sum`, rounded down.
@@ -124,7 +140,7 @@ fn mean_of_pair(a: i16, b: i16) -> u16
 }
 
 /// The sums of a row's values, each raised by 32768, over each segment; the entries from the number of segments on are 0.
-pub(crate) fn raised_sums(cuts: &Cuts, row: &[i16]) -> [u32; 16]
+fn raised_sums(cuts: &Cuts, row: &[i16]) -> [u32; 16]
     requires { length row.now ≡ cuts.now.row_length }
     ensures sums { result ≡ of_segments cuts.now (raised_sum cuts.now row.now) }
     ensures limit { NoRaisedSumAbove cuts.now row.now cuts.now.segments }
@@ -141,10 +157,7 @@ pub(crate) fn raised_sums(cuts: &Cuts, row: &[i16]) -> [u32; 16]
 
 /// The same over W segments of L values each, both of which the compiler knows.
 #[inline(always)]
-pub(crate) fn equal_raised_sums<const W: usize, const L: usize>(
-    cuts: &Cuts,
-    row: &[i16],
-) -> [u32; 16]
+fn equal_raised_sums<const W: usize, const L: usize>(cuts: &Cuts, row: &[i16]) -> [u32; 16]
     requires length { length row.now ≡ cuts.now.row_length }
     requires segments { cuts.now.segments ≡ W }
     requires equal { cuts.now.row_length ≡ W * L }

@@ -6,7 +6,7 @@ ghost use Rattle.mean_bound.specs.MeanBound.{mean_view_of, mean_bound};
 
 use crate::gaps::squared_gaps;
 use crate::mean_box::MeanBox;
-use crate::means::{Means, equal_raised_sums, raised_sums};
+use crate::means::{Means, sums_and_means};
 use segment_sums::Cuts;
 use std::marker::Model;
 use std::simd::prelude::*;
@@ -38,51 +38,14 @@ impl MeanView {
         requires { length query.now ≡ cuts.now.row_length }
         ensures { result ≡ mean_view_of cuts.now query.now }
     {
-        match (cuts.segments(), cuts.length()) {
-            (16, 32) => MeanView::of_equal::<2>(cuts, query),
-            (16, 64) => MeanView::of_equal::<4>(cuts, query),
-            (16, 128) => MeanView::of_equal::<8>(cuts, query),
-            (16, 256) => MeanView::of_equal::<16>(cuts, query),
-            (16, 512) => MeanView::of_equal::<32>(cuts, query),
-            (16, 1024) => MeanView::of_equal::<64>(cuts, query),
-            _ => MeanView::of_any(cuts, query),
-        }
-    }
-
-    // The view by sixteen segments of L values each. The compiler knows L, so that it divides without a division.
-    fn of_equal<const L: usize>(cuts: &Cuts, query: &[i16]) -> MeanView
-        requires length { length query.now ≡ cuts.now.row_length }
-        requires sixteen { cuts.now.segments ≡ 16 }
-        requires equal { cuts.now.row_length ≡ 16 * L }
-        ensures { result ≡ mean_view_of cuts.now query.now }
-    {
-        let sums = equal_raised_sums::<16, L>(cuts, query);
-        let mut lows = [0; 16];
-        let mut highs = [0; 16];
-        for j in 0..16 {
-            lows[j] = low_mean(sums[j], L as u32);
-            highs[j] = high_mean(sums[j], L as u32);
-        }
-        MeanView {
-            least_length: L as u32,
-            lows,
-            highs,
-        }
-    }
-
-    // The view by segments of any lengths.
-    fn of_any(cuts: &Cuts, query: &[i16]) -> MeanView
-        requires { length query.now ≡ cuts.now.row_length }
-        ensures { result ≡ mean_view_of cuts.now query.now }
-    {
-        let sums = raised_sums(cuts, query);
+        let (sums, means) = sums_and_means(cuts, query);
         let mut lows = [0; 16];
         let mut highs = [0; 16];
         for j in 0..cuts.segments() {
             let (from, to) = cuts.cut(j);
-            let (sum, length) = (sums[j as usize], to - from);
-            lows[j as usize] = low_mean(sum, length);
-            highs[j as usize] = high_mean(sum, length);
+            let (sum, mean) = (sums[j as usize], means[j as usize]);
+            lows[j as usize] = low_mean(sum, to - from, mean);
+            highs[j as usize] = high_mean(sum, to - from, mean);
         }
         MeanView {
             least_length: cuts.length() / cuts.segments(),
@@ -96,10 +59,7 @@ impl MeanView {
         ensures value { result ≡ mean_bound self.now means.now }
         ensures small { result < 2 ^ 48 }
     {
-        let lows = u16x16::from_array(self.lows);
-        let highs = u16x16::from_array(self.highs);
-        let means = u16x16::from_array(means.raised);
-        u64::from(self.least_length) * u64::from(squared_gaps(lows, highs, means, means))
+        self.bound_between(means.lanes(), means.lanes())
     }
 
     /// The lower bound of all series whose means lie in a box.
@@ -107,28 +67,47 @@ impl MeanView {
         ensures value { result ≡ box_bound self.now around.now }
         ensures small { result < 2 ^ 48 }
     {
-        let lows = u16x16::from_array(self.lows);
-        let highs = u16x16::from_array(self.highs);
         let leasts = u16x16::from_array(around.lows);
         let greatests = u16x16::from_array(around.highs);
+        self.bound_between(leasts, greatests)
+    }
+
+    // The lower bound of all series whose means reach from the least to the greatest.
+    #[inline(always)]
+    fn bound_between(&self, leasts: u16x16, greatests: u16x16) -> u64
+        requires leasts { length leasts ≡ 16 }
+        requires greatests { length greatests ≡ 16 }
+        ensures value { result ≡ box_bound self.now (record { lows = leasts; highs = greatests }) }
+        ensures small { result < 2 ^ 48 }
+    {
+        let lows = u16x16::from_array(self.lows);
+        let highs = u16x16::from_array(self.highs);
         u64::from(self.least_length) * u64::from(squared_gaps(lows, highs, leasts, greatests))
     }
 }
 
-/// The least mean without a gap for `length` values whose raised sum is `sum`.
-fn low_mean(sum: u32, length: u32) -> u16
+/// The least mean without a gap for `length` values whose raised sum is `sum`, and whose mean is known. The sum is one short of the
+/// next mean's, or it is not.
+fn low_mean(sum: u32, length: u32, mean: u16) -> u16
     requires some { 1 ≤ length }
-    requires limit { sum ≤ 65535 * length }
+    requires mean { mean ≡ sum / length }
     ensures { result ≡ (sum + 1) / length - 1 }
 {
-    ((u64::from(sum) + 1) / u64::from(length)).saturating_sub(1) as u16
+    let rest = sum - length * u32::from(mean);
+    if length - rest > 1 {
+        mean.saturating_sub(1)
+    } else {
+        mean
+    }
 }
 
-/// The greatest mean without a gap for `length` values whose raised sum is `sum`.
-fn high_mean(sum: u32, length: u32) -> u16
+/// The greatest such mean. The sum is the mean's, or lies above it.
+fn high_mean(sum: u32, length: u32, mean: u16) -> u16
     requires some { 1 ≤ length }
     requires limit { sum ≤ 65535 * length }
+    requires mean { mean ≡ sum / length }
     ensures { result ≡ (sum + (length - 1)) / length }
 {
-    ((u64::from(sum) + u64::from(length - 1)) / u64::from(length)) as u16
+    let rest = sum - length * u32::from(mean);
+    if rest > 0 { mean + 1 } else { mean }
 }

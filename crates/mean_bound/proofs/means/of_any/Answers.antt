@@ -3,7 +3,7 @@ use Rattle.std.proofs.Common.{◌<◌, arith}
 use Rattle.segment_sums.proofs.Filled.{fill_next}
 use Rattle.mean_bound.specs.Means.{segment_mean}
 use Rattle.mean_bound.proofs.OfSegments.{length_between, mean_is, sum_fits}
-use Rattle.mean_bound.proofs.means.Means.of_any.Goals as goal
+use Rattle.mean_bound.proofs.means.of_any.Goals as goal
 
 pub mean_of-requires-clause-limit : goal.mean_of-requires-clause-limit
 mean_of-requires-clause-limit c =
@@ -17,6 +17,6 @@ loop-j-preserved c =
     let j = c.loop-j.j in
     let used : j < cuts.segments = omega (arith, c.segments-j-end.ensures.value) in
     let long = length_between cuts j _ _ c.cut-from.ensures.from c.cut-from.ensures.to in
-    fill_next (segment_mean cuts c.args.row.now) 0 16 j c.loop-j.raised _
+    fill_next (segment_mean cuts c.args.row.now) 0 16 j c.loop-j.means _
     (omega (arith, used, c.segments-j-end.ensures.divides.few_segments)) c.loop-j.invariant
     (mean_is cuts c.args.row.now _ j _ _ c.raised_sums-sums.ensures.sums used long c.mean_of.ensures)

@@ -2,7 +2,7 @@
 use Rattle.std.proofs.Common.{◌≡◌}
 use Rattle.segment_sums.proofs.Filled.{filled}
 use Rattle.mean_bound.specs.Means.{segment_mean}
-use Rattle.mean_bound.proofs.means.Means.of_equal.Given as goal
+use Rattle.mean_bound.proofs.means.of_equal.Given as goal
 
 abbrev pub invariant-loop-j : goal.invariant-loop-j
-invariant-loop-j g l = l.raised ≡ filled (segment_mean l.cuts l.row) 0 16 l.j
+invariant-loop-j g l = l.means ≡ filled (segment_mean l.cuts l.row) 0 16 l.j

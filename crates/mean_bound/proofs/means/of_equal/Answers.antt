@@ -4,7 +4,7 @@ use Rattle.segment_sums.proofs.Filled.{fill_next, filled}
 use Rattle.segment_sums.proofs.Places.{equal_lengths}
 use Rattle.mean_bound.specs.Means.{segment_mean}
 use Rattle.mean_bound.proofs.OfSegments.{mean_is, sum_fits}
-use Rattle.mean_bound.proofs.means.Means.of_equal.Goals as goal
+use Rattle.mean_bound.proofs.means.of_equal.Goals as goal
 
 pub mean_of-requires-clause-limit : goal.mean_of-requires-clause-limit
 mean_of-requires-clause-limit g c =
@@ -21,11 +21,15 @@ loop-j-preserved g c =
     let used : j < cuts.segments = omega (arith, c.requires.segments) in
     let long = equal_lengths cuts g.row.W g.row.L j (omega (arith, c.requires.segments, is.some_segments)) c.requires.segments
     c.requires.equal in
-    fill_next (segment_mean cuts c.args.row.now) 0 16 j c.loop-j.raised _ (omega (arith, used, is.few_segments)) c.loop-j.invariant
+    fill_next (segment_mean cuts c.args.row.now) 0 16 j c.loop-j.means _ (omega (arith, used, is.few_segments)) c.loop-j.invariant
     (mean_is cuts c.args.row.now _ j g.row.L _ c.equal_raised_sums-sums.ensures.sums used long c.mean_of.ensures)
 
 pub returns : goal.returns
 returns g c =
     let cuts = c.args.cuts.now in
     let end : c.loop-j.j ≡ cuts.segments = omega (arith, c.requires.segments) in
-    c.loop-j.invariant ∙ ap (filled (segment_mean cuts c.args.row.now) 0 16) end
+    record {
+      summed = c.equal_raised_sums-sums.ensures.sums;
+      divided = c.loop-j.invariant ∙ ap (filled (segment_mean cuts c.args.row.now) 0 16) end;
+      limit = c.equal_raised_sums-sums.ensures.limit;
+    }
