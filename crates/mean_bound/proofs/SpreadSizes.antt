@@ -15,7 +15,7 @@ use Rattle.segment_sums.specs.Sum.{segment_values}
 use Rattle.segment_sums.proofs.Places.{cut_place_last, cut_place_rises}
 use Rattle.segment_sums.proofs.Sums.{length-segment_values}
 use Rattle.mean_bound.specs.MeanBound.{square}
-use Rattle.mean_bound.specs.Spread.{raised, raised_squares, raised_total, row_spread, segment_spread, spread_times}
+use Rattle.mean_bound.specs.Spread.{raised, raised_squares, raised_total, row_spread, segment_spread, spread_times, IsInSixteen, IsRowSpread}
 use Rattle.mean_bound.proofs.BelowDistances.{cancel}
 use Rattle.mean_bound.proofs.Spreads.{apart_square, segment_fits, spread_of_segment}
 
@@ -136,18 +136,19 @@ pub record AreSpreads (d : Division) (row : List ℤ) (j spread : ℕ) : Type 0 
   pub added : spread ≡ sum_l (map (segment_spread d row) (range_with_len 0 j))
 
 -- that of one segment more, whose values lie from one cut point up to the next, adds up
-pub one_spread_more : (d : Division) (row : List ℤ) (j spread from to here : ℕ) → IsDivision d → length row ≡ d.row_length
-    → All (FitsSigned w16) row → j < d.segments → from ≡ cut_place d j → to ≡ cut_place d (j + 1)
+pub one_spread_more : (d : Division) (row : List ℤ) (j spread from to here : ℕ) → IsInSixteen d row → j < 16
+    → from ≡ cut_place d j → to ≡ cut_place d (j + 1)
     → here ≡ spread_times (slice_range row from to) / length (slice_range row from to) → here ≤ 17595944013825
     → AreSpreads d row j spread → AreSpreads d row (j + 1) (spread + here)
-one_spread_more d row j spread from to here is whole fit used first last value small so_far =
+one_spread_more d row j spread from to here is below first last value small so_far =
+    let used : j < d.segments = omega (arith, is.sixteen, below) in
     let values : slice_range row from to ≡ segment_values d row j
     = ap (λ n. slice_range row n to) first ∙ ap (λ n. slice_range row (cut_place d j) n) last in
     let own : here ≡ segment_spread d row j
     = value
     ∙ ap (λ (vs : List ℤ). spread_times vs / length vs) values
-    ∙ ap (λ n. spread_times (segment_values d row j) / n) (length-segment_values d row j is whole used)
-    ∙ sym (spread_of_segment d row j is whole fit used) in
+    ∙ ap (λ n. spread_times (segment_values d row j) / n) (length-segment_values d row j is.divides is.whole used)
+    ∙ sym (spread_of_segment d row j is.divides is.whole is.fit used) in
     let zeroth : 0 + j ≡ j = omega arith in
     record {
       small = omega (arith, so_far.small, small);
@@ -155,9 +156,9 @@ one_spread_more d row j spread from to here is whole fit used first last value s
     }
 
 -- those of sixteen segments are the spread of the row
-pub all_spreads : (d : Division) (row : List ℤ) (spread : ℕ) → IsDivision d → length row ≡ d.row_length → All (FitsSigned w16) row
-    → d.segments ≡ 16 → AreSpreads d row 16 spread → (spread ≡ row_spread d row) × (spread ≤ 70368744177664)
-all_spreads d row spread is whole fit sixteen all =
+pub all_spreads : (d : Division) (row : List ℤ) (j spread : ℕ) → IsInSixteen d row → j ≡ 16 → AreSpreads d row j spread
+    → IsRowSpread d row spread
+all_spreads d row j spread is end all =
     let value : spread ≡ row_spread d row
-    = all.added ∙ ap (λ k. sum_l (map (segment_spread d row) (range_with_len 0 k))) (sym sixteen) in
-    (value, omega (arith, value, row_spread_small d row is whole fit, is.short_row))
+    = all.added ∙ ap (λ k. sum_l (map (segment_spread d row) (range_with_len 0 k))) (end ∙ sym is.sixteen) in
+    record { value = value; small = omega (arith, value, row_spread_small d row is.divides is.whole is.fit, is.divides.short_row) }

@@ -1,9 +1,10 @@
 -- How far values lie from the means of their segments: the squared differences from a mean, added up, and the root of what they are on
 -- the average of a row's values.
-use Rattle.std.specs.Prelude.{ℕ, zero, suc, ℤ, pos, ◌+ℤ◌, ◌+◌, ◌-◌, ◌*◌, ◌/◌, List, [], ◌∷◌, length, map, cond, leb, unsigned_abs}
-use Rattle.std.specs.List.{range_with_len}
+use Rattle.std.specs.Prelude.{◌≡◌, ℕ, zero, suc, ℤ, pos, ◌+ℤ◌, ◌+◌, ◌-◌, ◌*◌, ◌/◌, ◌≤◌, List, [], ◌∷◌, length, map, cond, leb, unsigned_abs, FitsSigned}
+use Rattle.std.specs.Int.{w16}
+use Rattle.std.specs.List.{All, range_with_len}
 use Rattle.std.specs.Simd.Lanes.{sum_l}
-use Rattle.segment_sums.specs.Division.{Division, segment_length}
+use Rattle.segment_sums.specs.Division.{Division, IsDivision, segment_length}
 use Rattle.segment_sums.specs.Sum.{segment_values}
 use Rattle.mean_bound.specs.Means.{raised_sum}
 use Rattle.mean_bound.specs.MeanBound.{square}
@@ -44,3 +45,15 @@ roots n (suc k) = roots n k + cond (leb (square (suc k)) n) 1 0
 -- the root of a number below 65536 squared, rounded down
 unfoldable pub root : ℕ → ℕ
 root n = roots n 65535
+
+-- a row that is cut into sixteen segments, of values of 16 bits
+pub record IsInSixteen (d : Division) (row : List ℤ) : Type 0 where
+  pub divides : IsDivision d
+  pub sixteen : d.segments ≡ 16
+  pub whole : length row ≡ d.row_length
+  pub fit : All (FitsSigned w16) row
+
+-- the spread of a row's sixteen segments, and how great it can be
+pub record IsRowSpread (d : Division) (row : List ℤ) (spread : ℕ) : Type 0 where
+  pub value : spread ≡ row_spread d row
+  pub small : spread ≤ 70368744177664

@@ -4,7 +4,7 @@
 ghost use Rattle.std.specs.Prelude.{◌≡◌, ◌*◌, ◌<◌, ◌≤◌, leb, length};
 ghost use Rattle.mean_bound.specs.Finer.{finer_bound, finer_view, finest_length, part_cells, part_count, part_means, part_view};
 ghost use Rattle.mean_bound.specs.Finer.{quarter_means, quarter_values, spread_root, within_quarter};
-ghost use Rattle.mean_bound.specs.Spread.{row_spread};
+ghost use Rattle.mean_bound.specs.Spread.{IsRowSpread};
 
 use crate::cells::MeanCells;
 use crate::means::Means;
@@ -129,8 +129,7 @@ impl FinerCuts {
     fn quarter_spread(&self, row: &[i16], k: u32) -> u64
         requires length { length row.now ≡ self.now }
         requires quarter { k < 4 * part_count self.now }
-        ensures value { result ≡ row_spread (within_quarter self.now k) (quarter_values self.now row.now k) }
-        ensures small { result ≤ 70368744177664 }
+        ensures { IsRowSpread (within_quarter self.now k) (quarter_values self.now row.now k) result }
     {
         spread_of(self.cuts(k), self.quarter(row, k))
     }

@@ -1,7 +1,7 @@
 //! How far the values of a row lie from the means of their segments: the squared differences, added up, and their root. What means leave
 //! of two rows is as far apart at least as it is long in the one and short in the other.
 ghost use Rattle.std.specs.Prelude.{◌≡◌, ◌*◌, ◌/◌, ◌<◌, ◌≤◌, ◌∷◌, [], length};
-ghost use Rattle.mean_bound.specs.Spread.{raised, root, row_spread, spread_times};
+ghost use Rattle.mean_bound.specs.Spread.{raised, root, spread_times, IsInSixteen, IsRowSpread};
 
 use segment_sums::Cuts;
 use series_core::values_fit;
@@ -11,9 +11,10 @@ use std::num::saturating_f64_to_u16;
 pub(crate) fn spread_of(cuts: &Cuts, row: &[i16]) -> u64
     requires length { length row.now ≡ cuts.now.row_length }
     requires sixteen { cuts.now.segments ≡ 16 }
-    ensures value { result ≡ row_spread cuts.now row.now }
-    ensures small { result ≤ 70368744177664 }
+    ensures { IsRowSpread cuts.now row.now result }
 {
+    // for the fact that the values fit
+    values_fit(row);
     match cuts.length() {
         32 => spread_of_pairs(cuts, row),
         64 => spread_of_equal::<4>(cuts, row),
@@ -25,15 +26,10 @@ pub(crate) fn spread_of(cuts: &Cuts, row: &[i16]) -> u64
 
 /// The same over segments of two values each.
 fn spread_of_pairs(cuts: &Cuts, row: &[i16]) -> u64
-    requires length { length row.now ≡ cuts.now.row_length }
-    requires sixteen { cuts.now.segments ≡ 16 }
+    requires row { IsInSixteen cuts.now row.now }
     requires pairs { cuts.now.row_length ≡ 32 }
-    ensures value { result ≡ row_spread cuts.now row.now }
-    ensures small { result ≤ 70368744177664 }
+    ensures { IsRowSpread cuts.now row.now result }
 {
-    // for the facts that the cuts divide, and that the values fit
-    let _segments = cuts.segments();
-    values_fit(row);
     let mut spread = 0;
     for j in 0..16 {
         spread += spread_of_pair(row[2 * j], row[2 * j + 1]);
@@ -43,15 +39,10 @@ fn spread_of_pairs(cuts: &Cuts, row: &[i16]) -> u64
 
 /// The same over segments of L values each, which the compiler knows, so that it divides without a division.
 fn spread_of_equal<const L: usize>(cuts: &Cuts, row: &[i16]) -> u64
-    requires length { length row.now ≡ cuts.now.row_length }
-    requires sixteen { cuts.now.segments ≡ 16 }
+    requires row { IsInSixteen cuts.now row.now }
     requires equal { cuts.now.row_length ≡ 16 * L }
-    ensures value { result ≡ row_spread cuts.now row.now }
-    ensures small { result ≤ 70368744177664 }
+    ensures { IsRowSpread cuts.now row.now result }
 {
-    // for the facts that the cuts divide, and that the values fit
-    let _segments = cuts.segments();
-    values_fit(row);
     let mut spread = 0;
     for j in 0..16 {
         spread += spread_of_segment(&row[j * L..j * L + L]);
@@ -61,14 +52,9 @@ fn spread_of_equal<const L: usize>(cuts: &Cuts, row: &[i16]) -> u64
 
 /// The same over segments of any lengths.
 fn spread_of_any(cuts: &Cuts, row: &[i16]) -> u64
-    requires length { length row.now ≡ cuts.now.row_length }
-    requires sixteen { cuts.now.segments ≡ 16 }
-    ensures value { result ≡ row_spread cuts.now row.now }
-    ensures small { result ≤ 70368744177664 }
+    requires { IsInSixteen cuts.now row.now }
+    ensures { IsRowSpread cuts.now row.now result }
 {
-    // for the facts that the cuts divide, and that the values fit
-    let _segments = cuts.segments();
-    values_fit(row);
     let mut spread = 0;
     for j in 0..16 {
         let (from, to) = cuts.cut(j);
