@@ -104,31 +104,31 @@ all_reached f j zero far some near = omega (arith, some)
 all_reached f j (suc k) far some near =
     omega (arith, near j (omega arith), all_reached f (j + 1) k far some (λ i low. near i (omega (arith, low))))
 
+-- what lies within so far at one number, or from the next on, does so at each from the first on
+here_or_later : (f : ℕ → ℕ) (a i far : ℕ) → a ≤ i → f a < far → (a + 1 ≤ i → f i < far) → f i < far
+here_or_later f a i far low here behind = by_cases (cases_lt a i)
+  where
+    by_cases : (a < i) ⊎ (i ≤ a) → f i < far
+    by_cases (inl later) = behind (omega (arith, later))
+    by_cases (inr most) =
+        let same : a ≡ i = omega (arith, low, most) in
+        subst (λ j. f j < far) same here
+
 -- a number is within what it and others with zeros behind are within
 in_front : (f : ℕ → ℕ) (n a k i far : ℕ) → a ≤ i → i < a + k → reach (map f (range_with_len a k) ++ replicate n 0) < far
     → from_middle (f i) < far
 in_front f n a zero i far low high within = absurd (omega (arith, low, high))
 in_front f n a (suc k) i far low high within =
-    by_cases (λ later. in_front f n (a + 1) k i far later (omega (arith, high)) (omega (arith, within))) (cases_lt a i)
-  where
-    by_cases : (a + 1 ≤ i → from_middle (f i) < far) → (a < i) ⊎ (i ≤ a) → from_middle (f i) < far
-    by_cases behind (inl later) = behind (omega (arith, later))
-    by_cases behind (inr here) =
-        let same : a ≡ i = omega (arith, low, here) in
-        subst (λ j. from_middle (f j) < far) same (omega (arith, within))
+    here_or_later (λ j. from_middle (f j)) a i far low (omega (arith, within))
+    (λ later. in_front f n (a + 1) k i far later (omega (arith, high)) (omega (arith, within)))
 
 -- one of some quarters lies as near as all do
 pub one_reached : (f : ℕ → List ℕ) (j k i far : ℕ) → j ≤ i → i < j + k → reach_of_all (map f (range_with_len j k)) < far
     → reach (f i) < far
 one_reached f j zero i far low high near = absurd (omega (arith, low, high))
 one_reached f j (suc k) i far low high near =
-    by_cases (λ later. one_reached f (j + 1) k i far later (omega (arith, high)) (omega (arith, near))) (cases_lt j i)
-  where
-    by_cases : (j + 1 ≤ i → reach (f i) < far) → (j < i) ⊎ (i ≤ j) → reach (f i) < far
-    by_cases behind (inl less) = behind (omega (arith, less))
-    by_cases behind (inr most) =
-        let same : j ≡ i = omega (arith, low, most) in
-        subst (λ m. reach (f m) < far) same (omega (arith, near))
+    here_or_later (λ m. reach (f m)) j i far low (omega (arith, near))
+    (λ later. one_reached f (j + 1) k i far later (omega (arith, high)) (omega (arith, near)))
 
 -- a segment's mean is within what all means of the row are within
 pub mean_reached : (d : Division) (x : List ℤ) (j far : ℕ) → j < d.segments → reach (row_means d x) < far

@@ -27,19 +27,13 @@ lesser_is x y false is = grind arith
 pub greater_are : (xs ys : List ℕ) → sel_l (masks xs ys) ys xs ≡ zip2 max xs ys
 greater_are [] ys = refl
 greater_are (x ∷ xs) [] = refl
-greater_are (x ∷ xs) (y ∷ ys) =
-    let first = greater_is x y (ltb x y) refl in
-    let rest = greater_are xs ys in
-    λ i. first i ∷ rest i
+greater_are (x ∷ xs) (y ∷ ys) = λ i. greater_is x y (ltb x y) refl i ∷ greater_are xs ys i
 
 -- the lesser of each two numbers
 pub lesser_are : (xs ys : List ℕ) → sel_l (masks xs ys) xs ys ≡ zip2 min xs ys
 lesser_are [] ys = refl
 lesser_are (x ∷ xs) [] = refl
-lesser_are (x ∷ xs) (y ∷ ys) =
-    let first = lesser_is x y (ltb x y) refl in
-    let rest = lesser_are xs ys in
-    λ i. first i ∷ rest i
+lesser_are (x ∷ xs) (y ∷ ys) = λ i. lesser_is x y (ltb x y) refl i ∷ lesser_are xs ys i
 
 -- one lane of the excess
 excess_is : (x y : ℕ) (less : Bool) → less ≡ ltb x y → x < 65536 → y < 65536

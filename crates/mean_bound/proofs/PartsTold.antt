@@ -121,22 +121,16 @@ pub part_told : (n p w s b k : ℕ) (x q : List ℤ) → 1 ≤ n → n ≤ 65536
     → PartTold n x q p w s b k (part_spread n x p) (part_spread n q p)
     × PartTold n x q p w s b k (part_spread n q p) (part_spread n x p)
 part_told n p w s b k x q some short used whole_x whole_q fit_x fit_q near = (
-  quarters_below n w s ((b + k) * b) (b * k) ((b + k) * k) x q (in_quarter n x) (in_quarter n q) (4 * p) 4 some short whole_x whole_q
-      (within_parts p (part_count n) used)
-      (λ i low high. quarter_below n i w s ((b + k) * b) (b * k) ((b + k) * k) x q (in_segments n x) (in_segments n q) some short
-      (in_part i high) whole_x whole_q
-      (series_farther (within_quarter n i) (quarter_values n x i) (quarter_values n q i) s b k
+  by_spreads x q
+      (λ i low high. series_farther (within_quarter n i) (quarter_values n x i) (quarter_values n q i) s b k
       (quarter_divides n i some short (in_part i high)) (quarter_whole n i x some short (in_part i high) whole_x)
       (quarter_whole n i q some short (in_part i high) whole_q) (quarter_fits n i x fit_x) (quarter_fits n i q fit_q)
-      (reached i low high))),
-  quarters_below n w s ((b + k) * b) (b * k) ((b + k) * k) x q (in_quarter n q) (in_quarter n x) (4 * p) 4 some short whole_x whole_q
-      (within_parts p (part_count n) used)
-      (λ i low high. quarter_below n i w s ((b + k) * b) (b * k) ((b + k) * k) x q (in_segments n q) (in_segments n x) some short
-      (in_part i high) whole_x whole_q
-      (query_farther (within_quarter n i) (quarter_values n x i) (quarter_values n q i) s b k
+      (reached i low high)),
+  by_spreads q x
+      (λ i low high. query_farther (within_quarter n i) (quarter_values n x i) (quarter_values n q i) s b k
       (quarter_divides n i some short (in_part i high)) (quarter_whole n i x some short (in_part i high) whole_x)
       (quarter_whole n i q some short (in_part i high) whole_q) (quarter_fits n i x fit_x) (quarter_fits n i q fit_q)
-      (reached i low high))),
+      (reached i low high)),
 )
   where
     in_part : (i : ℕ) → i < 4 * p + 4 → i < 4 * part_count n
@@ -147,3 +141,15 @@ part_told n p w s b k x q some short used whole_x whole_q fit_x fit_q near = (
     reached i low high j inside =
         mean_reached (within_quarter n i) (quarter_values n x i) j (128 * 2 ^ s) inside
         (one_reached (quarter_means n x) (4 * p) 4 i (128 * 2 ^ s) low high near)
+
+    -- what is told of each segment by the spreads of one row and of another tells so much of the part
+    by_spreads : (far near : List ℤ)
+        → ((i : ℕ) → 4 * p ≤ i → i < 4 * p + 4 → (j : ℕ) → j < 16
+        → SegmentTold (within_quarter n i) (quarter_values n x i) (quarter_values n q i) s ((b + k) * b) (b * k) ((b + k) * k)
+        (in_segments n far i) (in_segments n near i) j)
+        → PartTold n x q p w s b k (part_spread n far p) (part_spread n near p)
+    by_spreads far near told =
+        quarters_below n w s ((b + k) * b) (b * k) ((b + k) * k) x q (in_quarter n far) (in_quarter n near) (4 * p) 4 some short
+        whole_x whole_q (within_parts p (part_count n) used)
+        (λ i low high. quarter_below n i w s ((b + k) * b) (b * k) ((b + k) * k) x q (in_segments n far) (in_segments n near) some
+        short (in_part i high) whole_x whole_q (told i low high))
