@@ -8,7 +8,7 @@ ghost use Rattle.mean_bound.specs.MeanBound.{square};
 
 use crate::cells::{MeanCells, first_of, reach_of_all, shift_for};
 use crate::means::Means;
-use crate::places::{highs_of, lows_of, power, squares_of_quarter, sum_of_pairs, sums_added};
+use crate::places::{highs_of, lows_of, power, squares_of_quarter, sums_added};
 use std::marker::Model;
 use std::simd::prelude::*;
 
@@ -178,7 +178,7 @@ impl PartView {
             let squares = squares_of_quarter(lows, highs, cells.quarters[i], near.step, near.first);
             sums = sums_added(sums, squares);
         }
-        sum_of_pairs(sums)
+        sums.strict_reduce_sum()
     }
 }
 

@@ -81,14 +81,6 @@ pub(crate) fn sums_added(a: u32x8, b: u32x8) -> u32x8
     a.strict_add(b)
 }
 
-/// The sum of the lanes.
-pub(crate) fn sum_of_pairs(lanes: u32x8) -> u32
-    requires { sum_l lanes < 2 ^ 32 }
-    ensures { result ≡ sum_l lanes }
-{
-    lanes.strict_reduce_sum()
-}
-
 /// The least places of cells of width `2 ^ shift` that are near sixteen means.
 pub(crate) fn lows_of(means: &Means, wide: u8, shift: u8) -> [u16; 16]
     requires few { wide ≤ 8 }

@@ -1,7 +1,9 @@
 -- One quarter more.
-use Rattle.std.proofs.Common.{◌≡◌, ◌∙◌, ◌+◌, ◌*◌, ◌-◌, ◌<◌, ap, sym, subst, arith, drop}
+use Rattle.std.proofs.Common.{◌≡◌, ◌∙◌, ◌+◌, ◌*◌, ◌-◌, ◌<◌, w32, ap, sym, subst, arith, drop, List, ℕ}
 use Rattle.std.specs.Prelude.{max}
 use Rattle.std.specs.Simd.Lanes.{sum_l}
+use Rattle.std.proofs.lemmas.List.{drop_all}
+use Rattle.std.proofs.lemmas.Simd.{fold-sum, sum_fits}
 use Rattle.mean_bound.specs.Cells.{Cells}
 use Rattle.mean_bound.specs.Finer.{all_squares}
 use Rattle.mean_bound.specs.Kept.{NearPlaces, near_of}
@@ -31,3 +33,18 @@ loop-i-preserved c =
       whole = omega (arith, c.sums_added-sums.ensures, c.loop-i.invariant.whole, all);
       small = omega (arith, c.sums_added-sums.ensures, c.loop-i.invariant.small, c.squares_of_quarter-squares.ensures.small);
     }
+
+pub overflow_add-result : goal.overflow_add-result
+overflow_add-result c = sum_fits w32 0 c.loop-i.sums (omega (arith, c.loop-i.invariant.small, c.loop-i.auto.i-end))
+
+pub returns-clause-value : goal.returns-clause-value
+returns-clause-value c =
+    let v = c.args.self.now in
+    let squares : List (List ℕ) → ℕ = λ means.
+    all_squares (max v.shift c.args.cells.now.shift) c.args.cells.now.shift means (drop c.loop-i.i c.args.cells.now.quarters) in
+    let none = ap squares (drop_all c.loop-i.i v.means (omega (arith, c.near-near.ensures.four, c.loop-i-test.false))) in
+    fold-sum 0 c.loop-i.sums ∙ omega (arith, none, c.loop-i.invariant.whole)
+
+pub returns-clause-small : goal.returns-clause-small
+returns-clause-small c =
+    omega (arith, fold-sum 0 c.loop-i.sums, c.loop-i.invariant.small, c.loop-i.auto.i-end)
