@@ -408,10 +408,36 @@ fn finer_bounds_are_those_of_the_parts(rt: HostRuntime) -> Result<(), Fail> {
     Ok(())
 }
 
+/// 256 values of one size; where they swing, each second one is its negative.
+fn values_of(size: i16, swing: bool) -> [i16; 256] {
+    let mut values = [size; 256];
+    if swing {
+        for i in 0..128 {
+            values[2 * i] = 0i16.wrapping_sub(size);
+        }
+    }
+    values
+}
+
+/// Compares the bounds of 256 values of one size for as many of another: rows of the size of a series, that of a query, and the bound.
+fn compare_sizes(
+    rt: &impl Abort,
+    alloc: Global,
+    rows: &[(i16, i16, u64)],
+    swing: bool,
+) -> Result<(), Fail> {
+    for (own, asked, bound) in rows {
+        let what = (i64::from(*own), i64::from(*asked));
+        let (series, query) = (values_of(*own, swing), values_of(*asked, swing));
+        compare_finer(rt, alloc, &series, &query, *bound, what)?;
+    }
+    Ok(())
+}
+
 #[test]
 fn worked_bounds_by_spreads(rt: HostRuntime) -> Result<(), Fail> {
-    // a series swings by one height from value to value, a query by another, so that each two have the same mean; and the bound of 256
-    let rows: [(i16, i16, u64); 6] = [
+    // a series swings by one height from value to value, a query by another, so that each two have the same mean
+    let rows = [
         (0, 0, 0),
         (100, 100, 0),
         (0, 1, 0),
@@ -419,22 +445,12 @@ fn worked_bounds_by_spreads(rt: HostRuntime) -> Result<(), Fail> {
         (100, 0, 2_473_088),
         (1000, 3000, 1_022_243_328),
     ];
-    for (own, asked, bound) in rows {
-        let (mut series, mut query) = ([own; 256], [asked; 256]);
-        for i in 0..128 {
-            series[2 * i] = 0i16.wrapping_sub(own);
-            query[2 * i] = 0i16.wrapping_sub(asked);
-        }
-        let what = (i64::from(own), i64::from(asked));
-        compare_finer(&rt, rt.alloc(), &series, &query, bound, what)?;
-    }
-    Ok(())
+    compare_sizes(&rt, rt.alloc(), &rows, true)
 }
 
 #[test]
 fn worked_finer_bounds(rt: HostRuntime) -> Result<(), Fail> {
-    // all values of a series, all of a query, and the bound of 256 of them
-    let rows: [(i16, i16, u64); 8] = [
+    let rows = [
         (5, 9, 2304),
         (9, 5, 2304),
         (5, 6, 0),
@@ -444,10 +460,5 @@ fn worked_finer_bounds(rt: HostRuntime) -> Result<(), Fail> {
         (100, 20000, 101_256_331_264),
         (20000, 100, 100_930_748_416),
     ];
-    for (own, asked, bound) in rows {
-        let (series, query) = ([own; 256], [asked; 256]);
-        let what = (i64::from(own), i64::from(asked));
-        compare_finer(&rt, rt.alloc(), &series, &query, bound, what)?;
-    }
-    Ok(())
+    compare_sizes(&rt, rt.alloc(), &rows, false)
 }
