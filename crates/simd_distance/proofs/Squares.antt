@@ -1,9 +1,9 @@
 -- Lanes of squares: they do not wrap (`squares_are`, `low_squares_are`), those of differences add up to the distance
 -- (`squares_sum`, `near_squares_sum`), and sums of four lanes each add up to the sum of all (`sums_of_sixteen`).
-use Rattle.std.proofs.Common.{◌≡◌, ℕ, ◌+◌, ◌*◌, ◌%◌, ◌<◌, ◌≤◌, refl, ap, ◌∙◌, arith, List, [], ◌∷◌, map, length, replicate, ◌++◌, drop, get_or, add-one, drop-cons}
+use Rattle.std.proofs.Common.{◌≡◌, ℕ, ◌+◌, ◌*◌, ◌%◌, ◌<◌, ◌≤◌, refl, ap, ◌∙◌, arith, List, [], ◌∷◌, map, length, replicate, ◌++◌, get_or, sym}
 use Rattle.std.specs.Prelude.{ℤ, bit_and}
 use Rattle.std.proofs.lemmas.Nat.{and_mask}
-use Rattle.std.proofs.lemmas.List.{drop_all}
+use Rattle.std.proofs.lemmas.List.FromFn.{fill_by_all}
 use Rattle.std.proofs.lemmas.Simd.{sum_bound, zip2_splat, zip2-map}
 use Rattle.std.proofs.Math.ListN.{get_or-append}
 use Rattle.std.proofs.Math.Nat.{mul-le-mul}
@@ -90,33 +90,12 @@ pub near_squares_sum : (xs ys : List ℤ) → IsNear xs ys
 near_squares_sum xs ys near =
     ap sum_l (low_are_all (zip2 difference xs ys) near) ∙ squares_sum xs ys
 
--- the sum of what is left at a place is the number there and the sum of what is left after it
-sum_from : (xs : List ℕ) (i : ℕ) → i < length xs
-    → sum_l (drop i xs) ≡ get_or (xs ++ xs) i 0 + sum_l (drop (i + 1) xs)
-sum_from xs i inside =
-    rw (add-one, get_or-append xs xs 0 i inside, drop-cons xs i 0)
-
 -- the sums of four lanes each, as they are picked, add up to the sum of all
 pub sums_of_sixteen : (xs : List ℕ) → length xs ≡ 16
     → let at : ℕ → ℕ = λ i. get_or (xs ++ xs) i 0 in
     at 0 + at 1 + (at 8 + at 9) + (at 2 + at 3 + (at 10 + at 11)
     + (at 4 + at 5 + (at 12 + at 13) + (at 6 + at 7 + (at 14 + at 15) + 0))) ≡ sum_l xs
 sums_of_sixteen xs long =
-    let a0 = sum_from xs 0 (omega arith) in
-    let a1 = sum_from xs 1 (omega arith) in
-    let a2 = sum_from xs 2 (omega arith) in
-    let a3 = sum_from xs 3 (omega arith) in
-    let a4 = sum_from xs 4 (omega arith) in
-    let a5 = sum_from xs 5 (omega arith) in
-    let a6 = sum_from xs 6 (omega arith) in
-    let a7 = sum_from xs 7 (omega arith) in
-    let a8 = sum_from xs 8 (omega arith) in
-    let a9 = sum_from xs 9 (omega arith) in
-    let a10 = sum_from xs 10 (omega arith) in
-    let a11 = sum_from xs 11 (omega arith) in
-    let a12 = sum_from xs 12 (omega arith) in
-    let a13 = sum_from xs 13 (omega arith) in
-    let a14 = sum_from xs 14 (omega arith) in
-    let a15 = sum_from xs 15 (omega arith) in
-    let end : sum_l (drop 16 xs) ≡ 0 = ap sum_l (drop_all 16 xs (omega arith)) in
-    omega arith
+    let at : ℕ → ℕ = λ i. get_or (xs ++ xs) i 0 in
+    let all = fill_by_all at xs 16 0 long (λ i inside. sym (get_or-append xs xs 0 i (omega (arith, long, inside)))) in
+    omega (arith, ap sum_l all)
