@@ -1,10 +1,14 @@
 -- Each half has its own places, and fewer members.
-use Rattle.std.proofs.Common.{◌≡◌, ◌∙◌, ℕ, ◌+◌, ◌*◌, ◌/◌, ◌<◌, [], arith, sym, ap, length, subst}
+use Rattle.std.proofs.Common.{◌≡◌, ◌∙◌, ℕ, ◌+◌, ◌*◌, ◌/◌, ◌<◌, ◌≤◌, List, [], arith, sym, ap, length, subst, All}
 use Rattle.std.proofs.lemmas.List.Elements.{All-drop, All-take}
 use Rattle.std.proofs.lemmas.Option.{get_or_from_slice_get}
+use Rattle.series_core.specs.Collection.{Collection}
+use Rattle.isax_word.specs.declared.layout.Layout.{Layout}
 use Rattle.isax_word.specs.declared.member.Member.{Member}
+use Rattle.mean_bound.specs.Cells.{Cells}
 use Rattle.mean_bound.specs.Finer.{part_count}
-use Rattle.subtree_build.proofs.SideBySide.{AreSeries, one_row}
+use Rattle.subtree_build.specs.Means.{HavePlaces}
+use Rattle.subtree_build.proofs.SideBySide.{one_row}
 use Rattle.subtree_build.proofs.means.+fill_in_turn.Goals as goal
 
 pub fill_from-requires-clause-values : goal.fill_from-requires-clause-values
@@ -14,24 +18,31 @@ fill_from-requires-clause-values g t c =
     (omega (arith, c.in-len1.len_at_least, c.in-len1.len_below)) c.member-item.is
     (sym (get_or_from_slice_get all.series _ c.row.result.now [] c.row.ensures))
 
+-- some of the members, with as many places, have places of their own
+some_of : (all : Collection) (layout : Layout) (cuts : ℕ) (members own : List Member) (means own_means : List (List ℕ))
+    (finer own_finer : List Cells) → HavePlaces all layout cuts members means finer → ((P : Member → Type 0) → All P members → All P own)
+    → length own ≤ length members → length own_means ≡ length own → length own_finer ≡ length own * part_count cuts
+    → HavePlaces all layout cuts own own_means own_finer
+some_of all layout cuts members own means own_means finer own_finer have of_some few means_places finer_places = record {
+  row_length = have.row_length;
+  cut_length = have.cut_length;
+  series = of_some (λ m. m.number < length all.series) have.series;
+  few = omega (arith, few, have.few);
+  means_places = means_places;
+  finer_places = finer_places;
+}
+
 pub fill_in_turn-requires : goal.fill_in_turn-requires
 fill_in_turn-requires g t c κs within =
-    let all = g.R.Rows.collection c.args.source.now.rows.now in
-    let mid = length c.args.members.now / 2 in (
-      omega (arith, c.decreases, c.split_at.ensures.front_len, c.in_default.len_at_least),
+    let split = c.split_at.ensures in (
+      omega (arith, c.decreases, split.front_len, c.in_default.len_at_least),
       (
         within,
-        record {
-          row_length = c.requires.row_length;
-          cut_length = c.requires.cut_length;
-          series = subst (AreSeries all) (sym c.split_at.ensures.front)
-              (All-take (λ (m : Member). m.number < length all.series) mid c.args.members.now c.requires.series);
-          few = omega (arith, c.split_at.ensures.front_len, c.requires.few);
-          means_places = omega (arith, c.split_at.ensures.front_len, c.split_at_mut-low_means.ensures.front_len);
-          finer_places = c.split_at_mut-low_finer.ensures.front_len
-              ∙ ap (λ k. mid * k) c.parts.ensures.count
-              ∙ ap (λ k. k * part_count c.args.source.now.cuts.now) (sym c.split_at.ensures.front_len);
-        },
+        some_of _ _ _ _ _ _ _ _ _ c.requires (λ P are. subst (All P) (sym split.front) (All-take P _ c.args.members.now are))
+            (omega (arith, split.front_len)) (omega (arith, split.front_len, c.split_at_mut-low_means.ensures.front_len))
+            (c.split_at_mut-low_finer.ensures.front_len
+            ∙ ap (λ k. length c.args.members.now / 2 * k) c.parts.ensures.count
+            ∙ ap (λ k. k * part_count c.args.source.now.cuts.now) (sym split.front_len)),
       ),
     )
 
@@ -43,21 +54,14 @@ rest_of mid back parts members places used whole all front behind =
 
 pub fill_in_turn-requires-in_default : goal.fill_in_turn-requires-in_default
 fill_in_turn-requires-in_default g t c κs within =
-    let all = g.R.Rows.collection c.args.source.now.rows.now in
+    let split = c.split_at.ensures in
     let mid = length c.args.members.now / 2 in (
-      omega (arith, c.decreases, c.split_at.ensures.back_len, c.in_default.len_at_least),
+      omega (arith, c.decreases, split.back_len, c.in_default.len_at_least),
       (
         within,
-        record {
-          row_length = c.requires.row_length;
-          cut_length = c.requires.cut_length;
-          series = subst (AreSeries all) (sym c.split_at.ensures.back)
-              (All-drop (λ (m : Member). m.number < length all.series) mid c.args.members.now c.requires.series);
-          few = omega (arith, c.split_at.ensures.back_len, c.requires.few);
-          means_places = omega (arith, c.split_at.ensures.back_len, c.split_at_mut-low_means.ensures.back_len, c.requires.means_places);
-          finer_places = rest_of mid (length c.split_at.result.1.now) (part_count c.args.source.now.cuts.now) _ _ _
-              (omega (arith, c.split_at.ensures.back_len))
-              c.requires.finer_places (ap (λ k. mid * k) c.parts.ensures.count) c.split_at_mut-low_finer.ensures.back_len;
-        },
+        some_of _ _ _ _ _ _ _ _ _ c.requires (λ P are. subst (All P) (sym split.back) (All-drop P _ c.args.members.now are))
+            (omega (arith, split.back_len)) (omega (arith, split.back_len, c.split_at_mut-low_means.ensures.back_len, c.requires.means_places))
+            (rest_of mid (length c.split_at.result.1.now) (part_count c.args.source.now.cuts.now) _ _ _ (omega (arith, split.back_len))
+            c.requires.finer_places (ap (λ k. mid * k) c.parts.ensures.count) c.split_at_mut-low_finer.ensures.back_len),
       ),
     )
