@@ -1,9 +1,12 @@
--- Members divided in place, one after another (`next_in_both`), until all are (`all_are_divided`).
-use Rattle.std.proofs.Common.{◌≡◌, ℕ, ◌+◌, zero, suc, ◌-◌, ◌<◌, ◌==◌, Bool, true, false, List, [], ◌∷◌, ◌++◌, length, get_or, set, take, drop, cond, refl, subst, sym, ap, ◌∙◌, arith, append-nil, length-append}
-use Rattle.std.specs.Prelude.{filter, not}
+-- Members divided in place, one after another (`next_in_both`), until all are (`all_are_divided`); members that all go to one side lie
+-- as they are divided (`one_side`).
+use Rattle.std.proofs.Common.{◌≡◌, ℕ, ◌+◌, zero, suc, ◌-◌, ◌<◌, ◌≤◌, ◌==◌, Bool, true, false, List, [], ◌∷◌, ◌++◌, length, get_or, set, take, drop, cond, refl, subst, sym, ap, ◌∙◌, arith, inl, inr, append-nil, length-append}
+use Rattle.std.specs.Prelude.{◌⊎◌, filter, not, count_by}
 use Rattle.std.proofs.lemmas.Bool.{cond-true, cond-false}
-use Rattle.std.proofs.lemmas.List.{length-set, take-set, take_more, take_more_set, take_all, get_or-drop, drop-drop, drop-set-lt, length-take-le}
+use Rattle.std.proofs.lemmas.List.{length-set, take-set, take_more, take_more_set, take_all, get_or-drop, drop-drop, drop-set-lt}
 use Rattle.std.proofs.lemmas.List.Elements.{filter-append}
+use Rattle.std.proofs.lemmas.List.Filters.{length-filter_both}
+use Rattle.std.proofs.lemmas.List.Sums.{length-filter, count_by-le-length}
 use Rattle.std.proofs.Math.Seq.{take-append_seam, drop-append_seam}
 use Rattle.isax_word.specs.declared.member.Member.{Member}
 
@@ -128,13 +131,42 @@ all_are_divided p all now waiting low i is end =
     ∙ ap (λ l. filter (λ m. not (p m)) (take i all) ++ l) is.others
     ∙ ap (λ (l : List Member). filter (λ m. not (p m)) l ++ filter p l) whole
 
--- at the end low is the number of members that do not pass
-pub front_count : (p : Member → Bool) (all now waiting : List Member) (low i : ℕ)
-    → IsDivided p all now waiting low i → i ≡ length all → low ≡ length (filter (λ m. not (p m)) all)
-front_count p all now waiting low i is end =
-    let whole : take i all ≡ all = ap (λ (k : ℕ). take k all) end ∙ take_all (length all) all (omega arith) in
-    sym (length-take-le low now (omega (arith, is.count, is.long)))
-    ∙ ap length is.front ∙ ap (λ (l : List Member). length (filter (λ m. not (p m)) l)) whole
+-- where as many pass as there are, all do
+all_pass : (p : Member → Bool) (all : List Member) → length all ≤ length (filter p all) → filter p all ≡ all
+all_pass p [] many = refl
+all_pass p (m ∷ all) many = by_cases (p m) many (all_pass p all)
+  where
+    by_cases : (b : Bool) → suc (length all) ≤ length (cond b (m ∷ filter p all) (filter p all))
+        → (length all ≤ length (filter p all) → filter p all ≡ all)
+        → cond b (m ∷ filter p all) (filter p all) ≡ m ∷ all
+    by_cases true many rest = ap (λ l. m ∷ l) (rest (omega (arith, many)))
+    by_cases false many rest = absurd (omega (arith, many, length-filter p all, count_by-le-length p all))
+
+-- where none passes, nothing is left
+none_passes : (p : Member → Bool) (all : List Member) → length (filter p all) ≡ 0 → filter p all ≡ []
+none_passes p all none = empty (filter p all) none
+  where
+    empty : (l : List Member) → length l ≡ 0 → l ≡ []
+    empty [] _ = refl
+    empty (m ∷ l) some = absurd (omega (arith, some))
+
+-- what does not pass is what is left of all
+pub low_count : (p : Member → Bool) (all : List Member) → length all - count_by p all ≡ length (filter (λ m. not (p m)) all)
+low_count p all =
+    omega (arith, length-filter p all, length-filter_both p (λ m. not (p m)) (λ m. refl) all)
+
+-- members that all go to one side are divided as they lie
+pub one_side : (p : Member → Bool) (all : List Member) → (length all - count_by p all ≡ 0) ⊎ (count_by p all ≡ 0)
+    → all ≡ filter (λ m. not (p m)) all ++ filter p all
+one_side p all (inl none) =
+    let low = none_passes (λ m. not (p m)) all (sym (low_count p all) ∙ none) in
+    sym (ap (λ l. l ++ filter p all) low
+    ∙ all_pass p all (omega (arith, none, length-filter p all)))
+one_side p all (inr none) =
+    let high = none_passes p all (length-filter p all ∙ none) in
+    sym (ap (λ l. filter (λ m. not (p m)) all ++ l) high
+    ∙ append-nil (filter (λ m. not (p m)) all)
+    ∙ all_pass (λ m. not (p m)) all (omega (arith, none, low_count p all)))
 
 -- the front of two lists is the first
 pub front_is : (all front back some : List Member) (n : ℕ) → all ≡ front ++ back → n ≡ length front

@@ -9,6 +9,13 @@ use isax_word::{Full, Word};
 use std::simd::prelude::*;
 use summary_phase::Member;
 
+/// In which segment the members of a node are divided, and how many of them have 1 for their next bit there.
+#[derive(Clone, Copy)]
+pub(crate) struct Split {
+    pub(crate) segment: u32,
+    pub(crate) high: u32,
+}
+
 /// What a split in a segment is judged by; the least triple is the best.
 #[derive(Clone, Copy, PartialEq, Eq, PartialOrd, Ord, Debug)]
 struct Triple {
@@ -56,19 +63,22 @@ fn high_counts(word: &Word, members: &[Member]) -> [u32; 16]
     counts.to_array()
 }
 
-/// The segment in which a node of this word and these members is split; None where the word has eight bits in
-/// each segment.
-pub(crate) fn best_segment(word: &Word, members: &[Member]) -> Option<u32>
+/// The split of a node of this word and these members; None where the word has eight bits in each segment.
+pub(crate) fn best_split(word: &Word, members: &[Member]) -> Option<Split>
     requires segments { All (λ m. length m.full ≡ length word.now) members.now }
     requires few { length members.now < 2 ^ 32 }
-    ensures segment { IfSome result (λ j. j ≡ split_segment word.now members.now) }
-    ensures used { IfSome result (λ j. j < length word.now) }
-    ensures divisible { IfSome result (λ j. (part_at word.now j).bits < 8) }
+    ensures segment { IfSome result (λ s. s.segment ≡ split_segment word.now members.now) }
+    ensures used { IfSome result (λ s. s.segment < length word.now) }
+    ensures divisible { IfSome result (λ s. (part_at word.now s.segment).bits < 8) }
+    ensures high { IfSome result (λ s. s.high ≡ count_by (goes_high word.now s.segment) members.now) }
     ensures none { IfNone result (bits_left word.now ≡ 0) }
 {
     let counts = high_counts(word, members);
     let best = best_triple(word, members, &counts)?;
-    Some(best.segment)
+    Some(Split {
+        segment: best.segment,
+        high: counts[best.segment as usize],
+    })
 }
 
 /// The least triple of a segment that can be split.

@@ -32,7 +32,7 @@ pub subtree-child_node-requires : goal.subtree-child_node-requires
 subtree-child_node-requires t c =
     let word = c.args.word.now in
     let members = c.args.members.now in
-    let j = c.in-Some.segment in
+    let j = c.in-Some.split.segment in
     let low = c.split_at_mut-low.result.0.now in
     let told = c.in-Some.ensures.split in
     let fewer = bits_left-child word j false told.used told.divisible in
@@ -54,7 +54,7 @@ pub subtree-child_node-requires-2 : goal.subtree-child_node-requires-2
 subtree-child_node-requires-2 t c =
     let word = c.args.word.now in
     let members = c.args.members.now in
-    let j = c.in-Some.segment in
+    let j = c.in-Some.split.segment in
     let low = c.split_at_mut-low.result.0.now in
     let high = c.split_at_mut-low.result.1.now in
     let told = c.in-Some.ensures.split in
@@ -94,7 +94,7 @@ subtree-returns t c =
     c.child_node-2.new.leaves.items (c.child_node.new.members ++ c.child_node-2.new.members) in
     record {
       grown = subst P (sym c.split_node.ensures)
-          (children_are_grown c.args.leaf_size word members c.in-Some.segment
+          (children_are_grown c.args.leaf_size word members c.in-Some.split.segment
           c.child-low_word.result c.child-high_word.result low high
           c.child_node.new.members c.child_node-2.new.members
           c.args.leaves.now.items c.child_node.new.leaves.items c.child_node-2.new.leaves.items

@@ -1,43 +1,25 @@
--- The next member is put in both.
-use Rattle.std.proofs.Common.{◌≡◌, ◌++◌, ◌<◌, ◌==◌, cond, length, get_or, take, ap, ◌∙◌, arith}
-use Rattle.std.proofs.lemmas.List.Elements.{All-get_or}
-use Rattle.isax_word.specs.declared.member.Member.{Member}
+-- Members are moved where there are some for both sides, and else lie as they are divided.
+use Rattle.std.proofs.Common.{◌-◌, length, ap, ◌∙◌, inl, inr, arith, ◌⊎◌, ◌≡◌}
+use Rattle.std.specs.Prelude.{count_by}
 use Rattle.subtree_build.specs.Splitting.{goes_high}
-use Rattle.subtree_build.proofs.Dividing.{all_are_divided, bit_is, front_count, next_in_both, same_next}
+use Rattle.subtree_build.proofs.Dividing.{low_count, one_side}
 use Rattle.subtree_build.proofs.subtree.divide.Goals as goal
+use Rattle.subtree_build.proofs.subtree.divide.Goals.{else-low-gt0-via-then-low-gt0+else-split-gt0, else-low-gt0-via-else-low-gt0}
 
-pub next_bit-requires-clause-full : goal.next_bit-requires-clause-full
-next_bit-requires-clause-full c =
-    let all = c.args.members.now in
-    let m = c.index-members-i.result in
-    let is : m ≡ get_or all c.loop-i.i m
-    = same_next _ all c.loop-i.members _ _ c.loop-i.i c.loop-i.invariant.0 m c.index-members-i.is c.loop-i-test.true in
-    let long = All-get_or (λ (x : Member). length x.full ≡ length c.args.word.now) all c.loop-i.i m (omega arith)
-    c.requires.segments in
-    omega (arith, c.requires.used, ap (λ (x : Member). length x.full) is, long)
+pub returns-then-split-gt0-clause-low : goal.returns-then-split-gt0-clause-low
+returns-then-split-gt0-clause-low c =
+    ap (λ n. length c.args.members.now - n) c.requires.high ∙ low_count (goes_high c.args.word.now c.args.split.segment) c.args.members.now
 
-pub loop-i-preserved : goal.loop-i-preserved
-loop-i-preserved c =
-    let m = c.index-members-i.result in
-    let p = goes_high c.args.word.now c.args.segment in
-    let bit : c.from-bit.result ≡ cond (p m) 1 0
-    = c.from-bit.ensures ∙ bit_is c.next_bit.result c.next_bit.ensures.bit ∙ ap (λ n. cond (n == 1) 1 0) c.next_bit.ensures.value in
-    let few : c.from-bit.result < 2 = omega (arith, c.from-bit.ensures, c.next_bit.ensures.bit) in (
-      next_in_both p c.args.members.now c.loop-i.members c.loop-i.scratch c.loop-i.low c.loop-i.high c.loop-i.i c.from-bit.result m
-          c.loop-i.invariant.0 c.index-members-i.is c.loop-i-test.true
-          (omega (arith, c.loop-i.invariant.1, c.loop-i-test.true, c.loop-i.auto.scratch, c.requires.room)) bit,
-      omega (arith, c.loop-i.invariant.1, few),
-    )
+pub returns-else-low-gt0-clause-divided : goal.returns-else-low-gt0-clause-divided
+returns-else-low-gt0-clause-divided c =
+    let members = c.args.members.now in
+    let p = goes_high c.args.word.now c.args.split.segment in
+    let one : (length members - count_by p members ≡ 0) ⊎ (count_by p members ≡ 0) = elim c.else-low-gt0.branch [
+      | else-low-gt0-via-then-low-gt0+else-split-gt0 w ↦ inr (omega (arith, c.requires.high, w.if-split-gt0.false))
+      | else-low-gt0-via-else-low-gt0 w ↦ inl (omega (arith, c.requires.high, w.if-low-gt0.false))
+    ] in
+    one_side p members one
 
-pub returns-clause-divided : goal.returns-clause-divided
-returns-clause-divided c =
-    let was = c.loop-i.invariant.0 in
-    let end : c.loop-i.i ≡ length c.args.members.now = omega arith in
-    ap (λ ms. ms ++ c.copy_from_slice.new.self) c.split_at_mut-behind.ensures.front
-    ∙ ap (λ ms. take c.loop-i.low c.loop-i.members ++ ms) c.copy_from_slice.ensures.after
-    ∙ all_are_divided _ c.args.members.now c.loop-i.members (take c.loop-i.high c.loop-i.scratch) c.loop-i.low c.loop-i.i was end
-
-pub returns-clause-low : goal.returns-clause-low
-returns-clause-low c =
-    front_count _ c.args.members.now c.loop-i.members (take c.loop-i.high c.loop-i.scratch) c.loop-i.low c.loop-i.i
-    c.loop-i.invariant.0 (omega arith)
+pub returns-else-low-gt0-clause-low : goal.returns-else-low-gt0-clause-low
+returns-else-low-gt0-clause-low c =
+    ap (λ n. length c.args.members.now - n) c.requires.high ∙ low_count (goes_high c.args.word.now c.args.split.segment) c.args.members.now

@@ -2,7 +2,7 @@
 use Rattle.std.proofs.Common.{◌≡◌, ◌+◌, take}
 use Rattle.subtree_build.specs.Splitting.{goes_high}
 use Rattle.subtree_build.proofs.Dividing.{IsDivided}
-use Rattle.subtree_build.proofs.subtree.divide.Given as goal
+use Rattle.subtree_build.proofs.subtree.move_apart.Given as goal
 
 abbrev pub invariant-loop-i : goal.invariant-loop-i
 invariant-loop-i l =
