@@ -1,12 +1,14 @@
 -- The bit behind those that a word has, found by its place value (`has_next_bit`) or in lanes (`bits_are`), and how counts of members grow
--- by it (`count_grows`, `sums_are`, `sums_stay_few`).
-use Rattle.std.proofs.Common.{◌≡◌, ℕ, zero, suc, ◌+◌, ◌-◌, ◌*◌, ◌/◌, ◌%◌, ◌^◌, ◌<◌, ◌≤◌, arith, Bool, true, false, cond, List, [], ◌∷◌, map, replicate, length, get_or, take, bit_and, ap, ◌∙◌}
-use Rattle.std.specs.Prelude.{◌==◌, not, count_by}
+-- by it (`count_grows`, `sums_are`, `sums_stay_few`) or by those of some more (`count_of_parts`, `parts_are`, `parts_stay_few`).
+use Rattle.std.proofs.Common.{◌≡◌, ℕ, zero, suc, ◌+◌, ◌-◌, ◌*◌, ◌/◌, ◌%◌, ◌^◌, ◌<◌, ◌≤◌, arith, Bool, true, false, cond, List, [], ◌∷◌, map, replicate, length, get_or, take, drop, bit_and, sym, ap, ◌∙◌, length-append}
+use Rattle.std.specs.Prelude.{◌==◌, not, filter, count_by}
 use Rattle.std.specs.Int.{bit_at}
 use Rattle.std.proofs.lemmas.Bool.Decides.{nat_tests}
 use Rattle.std.proofs.lemmas.Nat.{pow_pos}
 use Rattle.std.proofs.lemmas.Nat.Bits.{and_pow, bit_at-lt}
-use Rattle.std.proofs.lemmas.List.Sums.{count_by_more_no, count_by_more_yes}
+use Rattle.std.proofs.lemmas.List.{take-append-drop}
+use Rattle.std.proofs.lemmas.List.Elements.{filter-append}
+use Rattle.std.proofs.lemmas.List.Sums.{count_by_more_no, count_by_more_yes, length-filter}
 use lib.Lanes.{zip2, sel_l, top, Each1}
 use lib.Dec.{eqb}
 use Rattle.isax_word.specs.Word.{next_bit}
@@ -73,12 +75,12 @@ bits_few (x ∷ xs) [] = tt
 bits_few (x ∷ xs) (y ∷ ys) = (has_bit_le x y, bits_few xs ys)
 
 -- counts with room do not wrap
-pub sums_are : (ns bs : List ℕ) → Each1 (λ n. n + 1 < 4294967296) ns → Each1 (λ b. b ≤ 1) bs
-    → zip2 (λ a b. (a + b) % 4294967296) ns (map (λ b. b) bs) ≡ zip2 (λ n b. n + b) ns bs
+pub sums_are : (ns bs : List ℕ) → Each1 (λ n. n + 1 < 256) ns → Each1 (λ b. b ≤ 1) bs
+    → zip2 (λ a b. (a + b) % 256) ns bs ≡ zip2 (λ n b. n + b) ns bs
 sums_are [] bs room few = λ i. []
 sums_are (n ∷ ns) [] room few = λ i. []
 sums_are (n ∷ ns) (b ∷ bs) room few =
-    let first : (n + b) % 4294967296 ≡ n + b = omega (arith, room.0, few.0) in
+    let first : (n + b) % 256 ≡ n + b = omega (arith, room.0, few.0) in
     let rest = sums_are ns bs room.1 few.1 in
     λ i. first i ∷ rest i
 
@@ -88,3 +90,31 @@ pub sums_stay_few : (i : ℕ) (ns bs : List ℕ) → Each1 (λ n. n ≤ i) ns �
 sums_stay_few i [] bs room few = tt
 sums_stay_few i (n ∷ ns) [] room few = tt
 sums_stay_few i (n ∷ ns) (b ∷ bs) room few = (omega (arith, room.0, few.0), sums_stay_few i ns bs room.1 few.1)
+
+-- a count over all is that over the first and that over the others
+pub count_of_parts : {X : Type 0} (p : X → Bool) (n : ℕ) (xs : List X)
+    → count_by p (take n xs) + count_by p (drop n xs) ≡ count_by p xs
+count_of_parts p n xs =
+    let both : length (filter p (take n xs)) + length (filter p (drop n xs)) ≡ length (filter p xs)
+    = sym (length-append (filter p (take n xs)) (filter p (drop n xs)))
+    ∙ ap (λ l. length l) (sym (filter-append p (take n xs) (drop n xs)))
+    ∙ ap (λ l. length (filter p l)) (take-append-drop n xs) in
+    omega (arith, both, length-filter p (take n xs), length-filter p (drop n xs), length-filter p xs)
+
+-- with the counts of k members more, counts of all but r of t do not wrap
+pub parts_are : (k r t : ℕ) (ns bs : List ℕ) → t < 4294967296 → k ≤ r → Each1 (λ n. n + r ≤ t) ns → Each1 (λ b. b ≤ k) bs
+    → zip2 (λ a b. (a + b) % 4294967296) ns (map (λ b. b) bs) ≡ zip2 (λ n b. n + b) ns bs
+parts_are k r t [] bs low some room few = λ i. []
+parts_are k r t (n ∷ ns) [] low some room few = λ i. []
+parts_are k r t (n ∷ ns) (b ∷ bs) low some room few =
+    let first : (n + b) % 4294967296 ≡ n + b = omega (arith, room.0, few.0, low, some) in
+    let rest = parts_are k r t ns bs low some room.1 few.1 in
+    λ i. first i ∷ rest i
+
+-- they are then of all but r - k
+pub parts_stay_few : (k r t : ℕ) (ns bs : List ℕ) → k ≤ r → Each1 (λ n. n + r ≤ t) ns → Each1 (λ b. b ≤ k) bs
+    → Each1 (λ n. n + (r - k) ≤ t) (zip2 (λ n b. n + b) ns bs)
+parts_stay_few k r t [] bs some room few = tt
+parts_stay_few k r t (n ∷ ns) [] some room few = tt
+parts_stay_few k r t (n ∷ ns) (b ∷ bs) some room few =
+    (omega (arith, room.0, few.0, some), parts_stay_few k r t ns bs some room.1 few.1)

@@ -21,12 +21,12 @@ pub(crate) fn next_places(word: &Word) -> [u8; 16]
 
 /// The counts, each with 1 more where the segment's symbol has the bit of its place value.
 #[inline(always)]
-pub(crate) fn bits_added(counts: u32x16, symbols: &[u8; 16], places: &[u8; 16]) -> u32x16
+pub(crate) fn bits_added(counts: u8x16, symbols: &[u8; 16], places: &[u8; 16]) -> u8x16
     requires lanes { length counts ≡ 16 }
-    requires room { Each1 (λ n. n + 1 < 2 ^ 32) counts }
+    requires room { Each1 (λ n. n + 1 < 2 ^ 8) counts }
     ensures { result ≡ zip2 (λ n b. n + b) counts (zip2 has_bit symbols.now places.now) }
 {
-    counts + bits_of(symbols, places).cast::<u32>()
+    counts + bits_of(symbols, places)
 }
 
 /// 1 in the lane of each symbol that has the bit of its place value, and else 0.

@@ -1,5 +1,6 @@
 //! In which segment a node is split. One pass over the members counts the 1s of all segments.
 ghost use Rattle.std.specs.Prelude.{◌≡◌, ℕ, ◌+◌, ◌*◌, ◌^◌, ◌<◌, ◌≤◌, All, length, slice_index, count_by, IfSome, IfNone};
+ghost use Rattle.std.specs.Simd.Lanes.{Each1};
 ghost use Rattle.isax_word.specs.Word.{IsWord, part_at, next_bit_at};
 ghost use Rattle.subtree_build.specs.Division.{bits_left};
 ghost use Rattle.subtree_build.specs.Splitting.{goes_high, split_segment, is_less, triple_of, lesser_of, IsBestOf, NoneDivisible};
@@ -55,12 +56,32 @@ fn high_counts(word: &Word, members: &[Member]) -> [u32; 16]
     ensures { (j : ℕ) → j < length word.now
         → slice_index result j ≡ count_by (goes_high word.now j) members.now }
 {
-    let places = next_places(word);
     let mut counts = u32x16::splat(0);
+    let mut rest = members;
+    while 0 < rest.len() {
+        let (few, behind) = rest.split_at(rest.len().min(255));
+        counts = counts + high_counts_of_few(word, few).cast::<u32>();
+        rest = behind;
+    }
+    counts.to_array()
+}
+
+/// The same of at most 255 members, which are counted in bytes.
+fn high_counts_of_few(word: &Word, members: &[Member]) -> u8x16
+    requires segments { All (λ m. length m.full ≡ length word.now) members.now }
+    requires few { length members.now ≤ 255 }
+    ensures counts { (j : ℕ) → j < length word.now
+        → slice_index result j ≡ count_by (goes_high word.now j) members.now }
+    ensures few { Each1 (λ n. n ≤ length members.now) result }
+    ensures lanes { length result ≡ 16 }
+    ensures segments { length word.now ≤ 16 }
+{
+    let places = next_places(word);
+    let mut counts = u8x16::splat(0);
     for member in members {
         counts = bits_added(counts, member.full.symbols(), &places);
     }
-    counts.to_array()
+    counts
 }
 
 /// The split of a node of this word and these members; None where the word has eight bits in each segment.

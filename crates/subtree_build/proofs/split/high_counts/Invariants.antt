@@ -1,13 +1,18 @@
--- The counts of the members so far, none of them above the number of these members.
-use Rattle.std.proofs.Common.{◌≡◌, ℕ, ◌<◌, ◌≤◌, get_or, length, take}
-use Rattle.std.specs.Prelude.{count_by}
+-- The members that are left are those that are not yet counted, and no count is above the number of the others.
+use Rattle.std.proofs.Common.{◌≡◌, ℕ, ◌+◌, ◌<◌, ◌≤◌, get_or, length}
+use Rattle.std.specs.Prelude.{All, count_by}
 use Rattle.std.specs.Simd.Lanes.{Each1}
 use Rattle.subtree_build.specs.Splitting.{goes_high}
 use Rattle.subtree_build.proofs.split.high_counts.Given as goal
 
-abbrev pub invariant-loop-member : goal.invariant-loop-member
-invariant-loop-member l = record {
+abbrev pub invariant-loop-rest : goal.invariant-loop-rest
+invariant-loop-rest l = record {
   lanes : length l.counts ≡ 16;
-  counted : (j : ℕ) → j < length l.word → get_or l.counts j 0 ≡ count_by (goes_high l.word j) (take l.member-index l.members);
-  few : Each1 (λ n. n ≤ l.member-index) l.counts;
+  segments : All (λ m. length m.full ≡ length l.word) l.rest;
+  counted : (j : ℕ) → j < length l.word
+      → get_or l.counts j 0 + count_by (goes_high l.word j) l.rest ≡ count_by (goes_high l.word j) l.members;
+  few : Each1 (λ n. n + length l.rest ≤ length l.members) l.counts;
 }
+
+abbrev pub decreases-loop-rest : goal.decreases-loop-rest
+decreases-loop-rest l = length l.rest
