@@ -5,8 +5,7 @@ ghost use Rattle.std.specs.Prelude.{◌≡◌, length};
 
 use isax_word::Word;
 use search_machine::{EntryList, Start};
-use series_core::{LabelList, Pair, PairList};
-use std::marker::Model;
+use series_core::{LabelList, Listed, Pair, PairList};
 
 /// What a certificate says of a leaf.
 #[derive(Clone, Copy, PartialEq, Eq, Debug)]
@@ -26,37 +25,11 @@ pub struct LeafLine {
     pub said: Said,
 }
 
-/// A list of lists of entries.
-#[derive(Drop, Debug)]
-pub struct EntryLists {
-    /// One list a queue, in the order of the queues.
-    pub items: Vec<EntryList>,
-}
+/// A list of lists of entries, one list a queue, in the order of the queues.
+pub type EntryLists = Listed<EntryList>;
 
-impl Model for EntryLists {
-    ghost use Rattle.std.specs.Prelude.{List};
-    ghost use Rattle.series_core.specs.declared.queue_words.Entry.{Entry};
-
-    ghost Value = { List (List Entry) };
-
-    ghost view = { λ l. l.items.items };
-}
-
-/// A list of leaf lines.
-#[derive(Drop)]
-pub struct LeafLineList {
-    /// One line a leaf, in the order of the leaves.
-    pub items: Vec<LeafLine>,
-}
-
-impl Model for LeafLineList {
-    ghost use Rattle.std.specs.Prelude.{List};
-    ghost use Rattle.certificate.specs.declared.block.LeafLine.{LeafLine};
-
-    ghost Value = { List LeafLine };
-
-    ghost view = { λ l. l.items.items };
-}
+/// A list of leaf lines, one a leaf, in the order of the leaves.
+pub type LeafLineList = Listed<LeafLine>;
 
 /// The block of one query.
 #[derive(Drop)]

@@ -3,11 +3,10 @@
 ghost use Rattle.std.specs.Prelude.{◌≡◌, ◌≤◌, ◌++◌, ◌∷◌, [], OnOk, IfOk};
 ghost use Rattle.certificate.specs.Reading.{reading_of, nothing_read, empty_block, is_whole, blocks_read, Takes, TakesNow, head_step, rest_step, query_step, answer_step, start_step, queue_step, leaf_step, step};
 
-use crate::block::{Block, EntryLists, LeafLine, LeafLineList};
+use crate::block::{Block, EntryLists, LeafLineList};
 use crate::line::{answer, leaf, query, queue, start};
 use outside::NoMemory;
-use search_machine::EntryList;
-use series_core::{LabelList, Pair, PairList};
+use series_core::{LabelList, Listed, PairList};
 use std::alloc::Global;
 use std::mem;
 
@@ -84,35 +83,11 @@ fn empty_block(alloc: Global) -> Block
     }
 }
 
-// Appends an answer.
-fn push_pair(pairs: &mut PairList, pair: Pair) -> Result<(), NoMemory>
-    ensures { OnOk result (pairs.new ≡ pairs.old ++ pair ∷ []) }
+// Appends an item.
+fn push<T: Drop>(list: &mut Listed<T>, item: T) -> Result<(), NoMemory>
+    ensures { OnOk result (list.new ≡ list.old ++ item ∷ []) }
 {
-    pairs.items.push(pair)?;
-    Ok(())
-}
-
-// Appends a label.
-fn push_label(labels: &mut LabelList, label: u64) -> Result<(), NoMemory>
-    ensures { OnOk result (labels.new ≡ labels.old ++ label ∷ []) }
-{
-    labels.items.push(label)?;
-    Ok(())
-}
-
-// Appends the entries of a queue.
-fn push_entries(lines: &mut EntryLists, entries: EntryList) -> Result<(), NoMemory>
-    ensures { OnOk result (lines.new ≡ lines.old ++ entries ∷ []) }
-{
-    lines.items.push(entries)?;
-    Ok(())
-}
-
-// Appends a leaf line.
-fn push_leaf(leaves: &mut LeafLineList, leaf: LeafLine) -> Result<(), NoMemory>
-    ensures { OnOk result (leaves.new ≡ leaves.old ++ leaf ∷ []) }
-{
-    leaves.items.push(leaf)?;
+    list.items.push(item)?;
     Ok(())
 }
 
@@ -168,9 +143,9 @@ impl Reader {
         let Some((pair, label)) = answer(line, labelled, count + 1) else {
             return Ok(false);
         };
-        push_pair(&mut self.block.answers, pair)?;
+        push(&mut self.block.answers, pair)?;
         if let Some(label) = label {
-            push_label(&mut self.block.labels, label)?;
+            push(&mut self.block.labels, label)?;
         }
         Ok(true)
     }
@@ -216,7 +191,7 @@ impl Reader {
         let Some(entries) = queue(alloc, line, count)? else {
             return Ok(false);
         };
-        push_entries(&mut self.block.lines, entries)?;
+        push(&mut self.block.lines, entries)?;
         Ok(true)
     }
 
@@ -234,7 +209,7 @@ impl Reader {
         let Some(leaf) = leaf(line, segments, count) else {
             return Ok(false);
         };
-        push_leaf(&mut self.block.leaves, leaf)?;
+        push(&mut self.block.leaves, leaf)?;
         Ok(true)
     }
 

@@ -1,5 +1,5 @@
 //! What is found: discords, and a list of them.
-use std::marker::Model;
+use series_core::Listed;
 
 /// A series with its nearest other: of two as near, the one with the smaller number.
 #[derive(Clone, Copy, PartialEq, Eq, Debug)]
@@ -13,17 +13,4 @@ pub struct Discord {
 }
 
 /// A list of discords.
-#[derive(Drop, Debug)]
-pub struct DiscordList {
-    /// The discords in order.
-    pub items: Vec<Discord>,
-}
-
-impl Model for DiscordList {
-    ghost use Rattle.std.specs.Prelude.{List};
-    ghost use Rattle.discord_query.specs.declared.discords.Discord.{Discord};
-
-    ghost Value = { List Discord };
-
-    ghost view = { λ l. l.items.items };
-}
+pub type DiscordList = Listed<Discord>;

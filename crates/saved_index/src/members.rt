@@ -54,7 +54,7 @@ fn member_lists(
 {
     let mut all = Vec::with_capacity(alloc, lists.len())?;
     for list in lists {
-        all.push(members_of(alloc, list.numbers.as_slice(), words)?)?;
+        all.push(members_of(alloc, list.items.as_slice(), words)?)?;
     }
     Ok(all)
 }

@@ -49,7 +49,7 @@ fn read_leaf(
     let read = read_numbers(alloc, bytes, at + 4, many, count)?;
     let number = lists.len() as u32;
     lists.push(NumberList {
-        numbers: read.numbers,
+        items: read.numbers,
     })?;
     Ok(NodeAt {
         node: Node::Leaf(number),

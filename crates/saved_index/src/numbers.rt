@@ -6,23 +6,11 @@ ghost use Rattle.saved_index.specs.declared.error.IndexFault.TheVariants.{NotInd
 
 use crate::error::IndexFault;
 use byteorder::{ByteOrder, LittleEndian};
+use series_core::Listed;
 use std::alloc::Global;
-use std::marker::Model;
 
-/// The numbers of a leaf.
-#[derive(Drop)]
-pub(crate) struct NumberList {
-    /// The numbers in order.
-    pub(crate) numbers: Vec<u32>,
-}
-
-impl Model for NumberList {
-    ghost use Rattle.std.specs.Prelude.{ℕ, List};
-
-    ghost Value = { List ℕ };
-
-    ghost view = { λ l. l.numbers.items };
-}
+/// The numbers of a leaf, in order.
+pub(crate) type NumberList = Listed<u32>;
 
 /// Numbers that were read, and the place behind them.
 #[derive(Drop)]

@@ -121,7 +121,7 @@ fn tell_leaf(lists: &[NumberList], l: u32, told: &mut Vec<u32>) -> Result<(), Fa
     let Some(list) = lists.get(l as usize) else {
         return Err(Fail::new("a node of no leaf"));
     };
-    let numbers = list.numbers.as_slice();
+    let numbers = list.items.as_slice();
     told.push(0)?;
     told.push(u32::try_from(numbers.len()).unwrap_or(0))?;
     for number in numbers {

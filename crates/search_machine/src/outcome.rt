@@ -1,7 +1,6 @@
 //! What a search ends with: the pairs, the start, what each queue gave, and what became of each
 //! leaf.
-use series_core::{Entry, PairList};
-use std::marker::Model;
+use series_core::{Entry, Listed, PairList};
 
 /// The leaf that is scanned first, and the limit that it gives.
 #[derive(Clone, Copy, PartialEq, Eq, Debug)]
@@ -26,20 +25,7 @@ pub enum Fate {
 }
 
 /// A list of entries.
-#[derive(Drop, Debug)]
-pub struct EntryList {
-    /// The entries in order.
-    pub items: Vec<Entry>,
-}
-
-impl Model for EntryList {
-    ghost use Rattle.std.specs.Prelude.{List};
-    ghost use Rattle.series_core.specs.declared.queue_words.Entry.{Entry};
-
-    ghost Value = { List Entry };
-
-    ghost view = { λ l. l.items.items };
-}
+pub type EntryList = Listed<Entry>;
 
 /// What a closed queue tells.
 #[derive(Drop, Debug)]
@@ -50,37 +36,11 @@ pub struct QueueLine {
     pub kept: u64,
 }
 
-/// A list of what closed queues tell.
-#[derive(Drop, Debug)]
-pub struct LineList {
-    /// One line a queue, in the order of the queues.
-    pub items: Vec<QueueLine>,
-}
+/// A list of what closed queues tell, one line a queue, in the order of the queues.
+pub type LineList = Listed<QueueLine>;
 
-impl Model for LineList {
-    ghost use Rattle.std.specs.Prelude.{List};
-    ghost use Rattle.search_machine.specs.declared.outcome.QueueLine.{QueueLine};
-
-    ghost Value = { List QueueLine };
-
-    ghost view = { λ l. l.items.items };
-}
-
-/// A list of fates.
-#[derive(Drop, Debug)]
-pub struct FateList {
-    /// One fate a leaf, in the order of the leaves.
-    pub items: Vec<Fate>,
-}
-
-impl Model for FateList {
-    ghost use Rattle.std.specs.Prelude.{List};
-    ghost use Rattle.search_machine.specs.declared.outcome.Fate.{Fate};
-
-    ghost Value = { List Fate };
-
-    ghost view = { λ l. l.items.items };
-}
+/// A list of fates, one a leaf, in the order of the leaves.
+pub type FateList = Listed<Fate>;
 
 /// The outcome of a search.
 #[derive(Drop, Debug)]

@@ -1,9 +1,9 @@
 //! Pairs, their order, and lists of them.
 //! A pair comes before another where it is nearer, and of two as near where its number is smaller.
 
-ghost use Rattle.std.specs.Prelude.{◌≡◌, ℕ, List};
+ghost use Rattle.std.specs.Prelude.{◌≡◌};
 
-use std::marker::Model;
+use crate::listed::Listed;
 
 /// A series and its squared distance to a query.
 #[derive(Clone, Copy, PartialEq, Eq, PartialOrd, Ord, Debug)]
@@ -26,30 +26,7 @@ impl Pair {
 }
 
 /// A list of pairs.
-#[derive(Drop, Debug)]
-pub struct PairList {
-    /// The pairs in order.
-    pub items: Vec<Pair>,
-}
+pub type PairList = Listed<Pair>;
 
-impl Model for PairList {
-    ghost use Rattle.std.specs.Prelude.{List};
-    ghost use Rattle.series_core.specs.declared.pair.Pair.{Pair};
-
-    ghost Value = { List Pair };
-
-    ghost view = { λ l. l.items.items };
-}
-
-/// A list of labels, one a series.
-#[derive(Drop, Debug)]
-pub struct LabelList {
-    /// The labels, in the order of the series.
-    pub items: Vec<u64>,
-}
-
-impl Model for LabelList {
-    ghost Value = { List ℕ };
-
-    ghost view = { λ l. l.items.items };
-}
+/// A list of labels, one a series, in the order of the series.
+pub type LabelList = Listed<u64>;

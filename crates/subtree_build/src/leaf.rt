@@ -1,23 +1,10 @@
 //! The leaves of a tree: as contracts see them, as a subtree grows them, and where an index keeps them.
 use isax_word::Word;
-use std::marker::Model;
+use series_core::Listed;
 use summary_phase::Member;
 
 /// A list of members.
-#[derive(Drop)]
-pub struct MemberList {
-    /// The members in order.
-    pub items: Vec<Member>,
-}
-
-impl Model for MemberList {
-    ghost use Rattle.std.specs.Prelude.{List};
-    ghost use Rattle.isax_word.specs.declared.member.Member.{Member};
-
-    ghost Value = { List Member };
-
-    ghost view = { λ l. l.items.items };
-}
+pub type MemberList = Listed<Member>;
 
 /// A leaf: its word, and the series whose full words it contains. An index is seen as having these; what it keeps is
 /// the word and the place of the members among those of all leaves.
