@@ -37,10 +37,7 @@ pub fn read_script(alloc: Global, bytes: &[u8]) -> Result<Script, ScriptError>
         let Some((line, behind)) = cut(rest, b'\n') else {
             return Err(ScriptError::Line(at));
         };
-        let Ok(taken) = script.take(alloc, at, line) else {
-            return Err(ScriptError::NoMemory);
-        };
-        if !taken {
+        if !script.take(alloc, at, line)? {
             return Err(ScriptError::Line(at));
         }
         rest = behind;
