@@ -4,6 +4,7 @@ ghost use Rattle.std.specs.Prelude.{◌≡◌, ◌≤◌, IfOk};
 ghost use Rattle.series_core.specs.Answer.{answer};
 ghost use Rattle.subtree_build.specs.Fits.{Fits as IndexFits};
 
+use crate::first_limit::{FEW, FIRST};
 use crate::index_laws::search_law;
 use crate::task::Task;
 use crate::telling::Telling;
@@ -12,10 +13,7 @@ use series_core::{KBest, PairList, Rows};
 use std::alloc::Global;
 use subtree_build::Index;
 
-/// How many members are scanned for a first limit, at least.
-const FIRST: usize = 128;
-
-/// How many are scanned for a closer limit, where means tell little by the first one.
+/// How many members are scanned for a closer limit, where means tell little by the first one.
 const CLOSE: usize = 512;
 
 /// The answer alone, the k nearest rows, without what an outcome has for a certificate. One worker needs no queues, so
@@ -44,11 +42,29 @@ impl<'a, R: Rows> Task<'a, R> {
         ensures { IfOk result (λ best. best.pairs ≡ answer self.now.collection self.now.query self.now.k) }
     {
         search_law(self, index);
+        if self.k() > FEW {
+            return self.nearest_of_many(alloc, index);
+        }
         let first = self.first_limit(alloc, index, FIRST)?;
         if self.means_tell_little(index, first) {
             return self.nearest_by_sample(alloc, index);
         }
         self.nearest_by_leaves(alloc, index, first)
+    }
+
+    // The list of the answer for a great k. Where nothing tells members apart even by a limit that is too close for the k-th, all rows
+    // are read; else all leaves are listed, and the closest of them tell a limit.
+    fn nearest_of_many(&self, alloc: Global, index: &Index) -> Result<KBest, NoMemory>
+        requires fits { IndexFits self.now.collection self.now.layout index.now }
+        ensures { IfOk result (λ best. best.pairs ≡ answer self.now.collection self.now.query self.now.k) }
+    {
+        search_law(self, index);
+        let wide = self.first_limit(alloc, index, FIRST)?;
+        let guess = self.guessed_limit(alloc, index)?;
+        match self.what_tells(index, guess) {
+            Telling::Nothing => self.answer_by_rows(alloc, wide),
+            Telling::Means | Telling::FinerMeans => self.nearest_by_leaves(alloc, index, wide),
+        }
     }
 
     // The list of the answer where means may tell too little. The first limit may be too wide, so a closer one decides it, less a quarter:

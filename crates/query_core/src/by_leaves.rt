@@ -24,6 +24,9 @@ const CLOSEST: u64 = 64;
 /// How many members these leaves are to have, as far as all leaves have as many.
 const CLOSEST_MEMBERS: u64 = 512;
 
+/// And how many for each of the k.
+const CLOSEST_EACH: u64 = 2;
+
 /// Where more leaves than these are left, they are looked for once more, by the closer limit.
 const MANY: usize = 4096;
 
@@ -79,7 +82,8 @@ impl<'a, R: Rows> Task<'a, R> {
     fn closest_count(&self, index: &Index) -> usize {
         let leaves = u64::from(index.leaf_count());
         let count = u64::from(self.rows.count()).max(1);
-        (CLOSEST_MEMBERS * leaves / count).max(CLOSEST) as usize
+        let members = CLOSEST_MEMBERS.max(CLOSEST_EACH * u64::from(self.k()));
+        (members * leaves / count).max(CLOSEST) as usize
     }
 
     // Scans the closest leaves into an empty list, and tells the closer limit that they give.

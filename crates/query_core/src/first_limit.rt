@@ -11,9 +11,21 @@ use series_core::{KBest, NONE, Rows};
 use std::alloc::Global;
 use subtree_build::Index;
 
+/// How many members are scanned for a first limit or a guess, at least.
+pub(crate) const FIRST: usize = 128;
+
+/// The place of the tenth pair of a list.
+const TENTH: usize = 9;
+
+/// Up to which k the limit of some members tells whether means tell series apart.
+pub(crate) const FEW: u32 = 64;
+
+/// Up to which k the next leaves tell a limit that is worth their scan.
+const SOME: u32 = 256;
+
 impl<'a, R: Rows> Task<'a, R> {
     /// A limit that is not below the last distance: that of the k-th pair of the start leaf's members, and where these are fewer
-    /// than k or than `least`, of those of the next leaves too.
+    /// than k or than `least`, of those of the next leaves too; `NONE` where k is above 256.
     pub(crate) fn first_limit(
         &self,
         alloc: Global,
@@ -24,6 +36,9 @@ impl<'a, R: Rows> Task<'a, R> {
         ensures limit { IfOk result (λ v. last_of self.now ≤ v) }
     {
         search_law(self, index);
+        if self.k() > SOME {
+            return Ok(NONE);
+        }
         let mut list = KBest::new(alloc, self.k())?;
         let Some(first) = index.start_leaf(self.view()) else {
             return Ok(NONE);
@@ -37,5 +52,29 @@ impl<'a, R: Rows> Task<'a, R> {
             self.scan_leaf(index, leaf, NONE, &mut list);
         }
         Ok(distance_of_worst(&list))
+    }
+
+    /// How far the tenth of some 128 members from the start leaf on is: the k-th of all is mostly farther where k is great. It is
+    /// a guess alone, and `NONE` where members are fewer than ten.
+    pub(crate) fn guessed_limit(&self, alloc: Global, index: &Index) -> Result<u64, NoMemory>
+        requires fits { IndexFits self.now.collection self.now.layout index.now }
+    {
+        search_law(self, index);
+        let mut list = KBest::new(alloc, self.k())?;
+        let Some(first) = index.start_leaf(self.view()) else {
+            return Ok(NONE);
+        };
+        let mut members = 0usize;
+        for leaf in first..index.leaf_count() {
+            if members >= FIRST {
+                break;
+            }
+            members = members.saturating_add(index.leaf_members(leaf).len());
+            self.scan_leaf(index, leaf, NONE, &mut list);
+        }
+        match list.pairs().get(TENTH) {
+            Some(pair) => Ok(pair.distance),
+            None => Ok(NONE),
+        }
     }
 }

@@ -123,6 +123,22 @@ fn every_kind_of_data(rt: HostRuntime) -> Result<(), Fail> {
 }
 
 #[test]
+fn many_of_every_kind(rt: HostRuntime) -> Result<(), Fail> {
+    let alloc = rt.alloc();
+    let mut rng = SplitMix64::seed_from_u64(7);
+    for kind in [Kind::Walk, Kind::Noise, Kind::Resonance, Kind::Constant] {
+        for (length, k) in [(16, 65), (64, 300), (130, 1000)] {
+            let values = values_of(alloc, &mut rng, kind, 2000, length)?;
+            assert!(rt;
+                agree(&rt, alloc, values, length, k)?,
+                "{k} of 2000 series of {length} values, {kind:?}"
+            );
+        }
+    }
+    Ok(())
+}
+
+#[test]
 fn data_that_finer_means_alone_tell(rt: HostRuntime) -> Result<(), Fail> {
     let alloc = rt.alloc();
     let mut rng = SplitMix64::seed_from_u64(6);

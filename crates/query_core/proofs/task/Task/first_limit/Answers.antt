@@ -11,6 +11,12 @@ use Rattle.query_core.proofs.Nearest.{next_scanned, worst_enough}
 use Rattle.query_core.proofs.Ranges.{none_at_end, range_next}
 use Rattle.query_core.proofs.task.Task.first_limit.Goals as goal
 
+pub returns-then-k-gt-SOME : goal.returns-then-k-gt-SOME
+returns-then-k-gt-SOME g c =
+    let ground = search_over c.args.self.now c.args.index.now 1 1 in
+    let fits = c.search_law.ensures.fits 1 1 (omega arith) (omega arith) in
+    record { limit = omega (arith, last_none ground fits, c.search_law.ensures.last 1 1) }
+
 pub returns-in_default : goal.returns-in_default
 returns-in_default g c =
     let ground = search_over c.args.self.now c.args.index.now 1 1 in
