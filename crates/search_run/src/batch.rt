@@ -15,8 +15,8 @@ use std::alloc::Global;
 use std::thread;
 use std::thread::Threads;
 
-/// How many queries each worker is given at a time, where queries are answered side by side.
-const SHARE: u32 = 32;
+/// How many queries are answered ahead at most, where queries are answered side by side.
+const AHEAD: u32 = 2048;
 
 /// From how many values of all series on a query is long enough for a team.
 const LONG: u64 = 1_000_000_000;
@@ -123,10 +123,9 @@ impl<R: Rows> Batch<'_, R> {
     /// The queries from `first` on that are answered side by side, the last of them first; nothing is found yet.
     fn stretch(&self, alloc: Global, first: u32) -> Result<Vec<Found>, NoMemory>
         requires below { first < length self.now.queries.now.series }
-        requires few { self.now.asking.workers ≤ 64 }
         ensures { IfOk result (λ found. All (HasQuery self.now) found.items) }
     {
-        let size = (self.queries.count() - first).min(self.asking.workers * SHARE);
+        let size = (self.queries.count() - first).min(AHEAD);
         let mut stretch = Vec::with_capacity(alloc, size as usize)?;
         for back in 0..size {
             stretch.push(Found {
