@@ -9,6 +9,7 @@ ghost use Rattle.search_machine.specs.Sound.{ListSound};
 ghost use Rattle.query_core.specs.NearLeaves.{IsLeafEntry, leaves_in, within_bound};
 ghost use Rattle.query_core.specs.Questions.{last_of, search_over};
 
+use crate::first_limit::FEW;
 use crate::index_laws::search_law;
 use crate::scan::distance_of_worst;
 use crate::task::Task;
@@ -70,7 +71,7 @@ impl<'a, R: Rows> Task<'a, R> {
             }
             Telling::Nothing => return self.answer_by_rows(alloc, limit),
         }
-        if others.len() > MANY {
+        if others.len() > MANY && self.k() <= FEW {
             return self.answer_in_order(alloc, index, limit);
         }
         self.scan_entry(index, next, limit, &mut list);
