@@ -17,12 +17,9 @@ use Rattle.series_core.specs.Distance.{squared_distance}
 use Rattle.series_core.specs.Order.{distance_at}
 use Rattle.series_core.specs.Pairs.{smallest}
 use Rattle.series_core.specs.declared.pair.Pair.{Pair}
-use Rattle.mean_bound.proofs.BelowDistances.{mean_bound_below}
-use Rattle.mean_bound.specs.MeanBound.{mean_bound, mean_view_of}
 use Rattle.isax_word.specs.FullWord.{full_word}
 use Rattle.isax_word.specs.declared.member.Member.{Member}
 use Rattle.subtree_build.specs.Index.{IndexParts, leaf_at}
-use Rattle.subtree_build.specs.Means.{means_of}
 use Rattle.subtree_build.specs.Members.{numbers_of, series_at}
 use Rattle.search_machine.specs.Ground.{pair_of, scan_one}
 use Rattle.query_core.specs.NearLeaves.{IsBelowLeaf}

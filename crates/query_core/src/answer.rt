@@ -53,14 +53,13 @@ impl<'a, R: Rows> Task<'a, R> {
     }
 
     // The list of the answer for a great k. Where nothing tells members apart even by a limit that is too close for the k-th, all rows
-    // are read; else all leaves are listed, and the closest of them tell a limit.
+    // are read; else the leaves within a first limit are listed, and the closest of them tell a closer one.
     fn nearest_of_many(&self, alloc: Global, index: &Index) -> Result<KBest, NoMemory>
         requires fits { IndexFits self.now.collection self.now.layout index.now }
         ensures { IfOk result (λ best. best.pairs ≡ answer self.now.collection self.now.query self.now.k) }
     {
         search_law(self, index);
-        let wide = self.first_limit(alloc, index, FIRST)?;
-        let guess = self.guessed_limit(alloc, index)?;
+        let (wide, guess) = self.limit_and_guess(alloc, index)?;
         match self.what_tells(index, guess) {
             Telling::Nothing => self.answer_by_rows(alloc, wide),
             Telling::Means | Telling::FinerMeans => self.nearest_by_leaves(alloc, index, wide),

@@ -1,5 +1,6 @@
 //! The answer by the leaves that are near: those of least bound are scanned first, which tells a closer limit, and then the others in the
-//! order of their numbers. The list that the first gave is handed on where few leaves are left; many are scanned anew.
+//! order of their numbers. The list that the first gave is handed on; but where k is small and many leaves are left, these are listed
+//! anew by the closer limit.
 ghost use Rattle.std.specs.Prelude.{◌≡◌, ℕ, ◌≤◌, ◌++◌, List, [], IfOk, IsPermutation, length};
 ghost use Rattle.std.specs.List.{All};
 ghost use Rattle.list_totals.specs.Totals.{times};

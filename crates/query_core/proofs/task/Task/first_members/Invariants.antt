@@ -3,7 +3,7 @@ use Rattle.std.proofs.Common.{◌≡◌, ◌-◌}
 use Rattle.std.specs.List.{range_with_len}
 use Rattle.search_machine.specs.Sound.{ListSound}
 use Rattle.query_core.specs.Questions.{search_over}
-use Rattle.query_core.proofs.task.Task.first_limit.Given as goal
+use Rattle.query_core.proofs.task.Task.first_members.Given as goal
 
 abbrev pub invariant-loop-leaf : goal.invariant-loop-leaf
 invariant-loop-leaf g l = record {
