@@ -3,7 +3,7 @@ use Rattle.std.proofs.Common.{◌≡◌, ◌≢◌, ℕ, zero, suc, ◌<◌, ◌
 use Rattle.std.specs.Prelude.{is_some, slice_get}
 use Rattle.std.proofs.lemmas.Bool.{true≢false}
 use Rattle.std.proofs.lemmas.List.{length-map}
-use Rattle.std.proofs.lemmas.Option.{none-some, slice_get_within}
+use Rattle.std.proofs.lemmas.Option.{none-some}
 use Rattle.list_totals.specs.Totals.{total}
 use Rattle.list_totals.specs.Standing.{In}
 use Rattle.best_word.specs.Passes.{Best}
@@ -17,7 +17,7 @@ use Rattle.search_machine.specs.Ground.{Fits, Ground}
 use Rattle.search_machine.specs.OwnRecord.{RecordedWorker}
 use Rattle.search_machine.specs.Stands.{StandsFor}
 use Rattle.search_machine.specs.Workers.{fills}
-use Rattle.search_machine.proofs.Places.{get_map, get_some}
+use Rattle.search_machine.proofs.Places.{get_map}
 use Rattle.query_core.specs.Questions.{CanBeSearched, Question, last_of, search_over}
 use Rattle.query_core.specs.Teams.{AreOver}
 use Rattle.query_core.specs.Working.{Working}
@@ -29,6 +29,7 @@ use Rattle.live_query.specs.Parts.{AllDrainOn, AllFilled, Draining, HasFilled, R
 use Rattle.live_query.specs.Resting.{Kept}
 use Rattle.live_query.proofs.Openers.{search_at}
 use Rattle.live_query.proofs.Places.{all_from, all_map, by_place}
+use Rattle.live_query.proofs.PutsKept.{has_at}
 
 -- a fresh visit of a run
 fresh_at : (runs : List Run) (j : ℕ) → j < length runs → visit_at (fresh_visits runs) j ≡ fresh_visit (run_at runs j).claims
@@ -62,14 +63,6 @@ module _ {a : Question} {ix : IndexParts} {m : ℕ} {best : Best} {team : List R
     (outset : Outset a ix m best team runs roots) where
   abbrev one : Ground
   one = search_over a ix 1 m
-
-  -- the record of a searcher that has filled
-  has_at : (i : ℕ) (c : Resting) → slice_get team i ≡ Some c
-      → (x : RecordedWorker) × (slice_get outset.filled.records i ≡ Some x) × HasFilled a ix m best i c x
-  has_at i c at =
-      let low : i < length outset.filled.records = let b = slice_get_within team i c at in let e = outset.filled.count in omega arith in
-      let x = get_some outset.filled.records i low in
-      (x.0, x.1, outset.filled.each i c x.0 at x.1)
 
   -- before the drain part its record has no pops, and no run has answered it
   fresh_tied : (c : Resting) (x : RecordedWorker) (i : ℕ) → HasFilled a ix m best i c x
@@ -109,25 +102,25 @@ module _ {a : Question} {ix : IndexParts} {m : ℕ} {best : Best} {team : List R
   }
 
   pub all_word : All (λ (c : Resting). c.hand.best ≡ best) team
-  all_word = all_from (λ (c : Resting). c.hand.best ≡ best) team (λ i c at. (has_at i c at).2.word)
+  all_word = all_from (λ (c : Resting). c.hand.best ≡ best) team (λ i c at. (has_at outset.filled i c at).2.word)
 
   pub all_draining : (cells : List Draining) → cells ≡ map (draining runs roots) team
       → All (λ (c : Draining). DrainServes c.worker c.hand) cells
   all_draining cells is =
       all_map (λ (c : Draining). DrainServes c.worker c.hand) (draining runs roots) team cells is
-      (λ i c at. let x = has_at i c at in serving_at c x.0 i x.2)
+      (λ i c at. let x = has_at outset.filled i c at in serving_at c x.0 i x.2)
 
   pub all_busy : (cells : List Draining) → cells ≡ map (draining runs roots) team
       → All (λ (c : Draining). c.worker.phase ≢ Done) cells
   all_busy cells is =
       all_map (λ (c : Draining). c.worker.phase ≢ Done) (draining runs roots) team cells is
-      (λ i c at. (has_at i c at).2.running)
+      (λ i c at. (has_at outset.filled i c at).2.running)
 
   pub all_drain : (cells : List Draining) → cells ≡ map (draining runs roots) team
       → All (λ (c : Draining). fills c.worker.phase ≡ false) cells
   all_drain cells is =
       all_map (λ (c : Draining). fills c.worker.phase ≡ false) (draining runs roots) team cells is
-      (λ i c at. (has_at i c at).2.filled)
+      (λ i c at. (has_at outset.filled i c at).2.filled)
 
   abbrev On : Draining → Draining → Type 0
   On x y = DrainsOn x.worker x.hand y.worker y.hand
@@ -146,7 +139,7 @@ module _ {a : Question} {ix : IndexParts} {m : ℕ} {best : Best} {team : List R
     went i d at =
         let r = by_place On before cells turned.len turned.on i d at in
         let s = get_map (draining runs roots) team i r.from (ap (λ l. slice_get l i) (sym turned.is) ∙ r.at) in
-        let x = has_at i s.0 s.1 in
+        let x = has_at outset.filled i s.0 s.1 in
         record {
           from = s.0;
           record_of = x.0;

@@ -15,6 +15,7 @@ pub mod Marks
 pub mod Openers
 pub mod FillGather
 pub mod RunQueues
+pub mod PutsKept
 pub mod DrainGather
 pub mod SealedClose
 pub mod LastReplies
@@ -27,4 +28,5 @@ pub mod Fronts
 pub mod LockRows
 pub mod LockColumns
 pub mod LockGather
+pub mod QueuesFilled
 pub mod LockedClose

@@ -1,28 +1,36 @@
--- From searchers with hands over new locks to what a part made of them and of the queues (`went`).
-use Rattle.std.proofs.Common.{◌≡◌, ◌≢◌, ℕ, zero, suc, ◌<◌, ◌≤◌, ◌++◌, ◌⊎◌, List, [], ◌∷◌, None, Some, Option, All, length, map, refl, sym, ap, ◌∙◌, subst, ⊎_elim, length-append, arith}
+-- From searchers that have filled, with hands over new locks, to what the drain part made of them and of the queues (`went`).
+use Rattle.std.proofs.Common.{◌≡◌, ◌≢◌, ℕ, ◌<◌, ◌≤◌, ◌++◌, List, [], ◌∷◌, None, Some, Option, All, false, length, map, refl, sym, ap, ◌∙◌, subst, length-append, arith}
 use Rattle.std.specs.Prelude.{slice_get}
 use Rattle.std.proofs.lemmas.List.{length-map}
 use Rattle.std.proofs.lemmas.Option.{same_Some, slice_get_within}
-use Rattle.list_totals.specs.Standing.{In}
 use Rattle.best_word.specs.Passes.{Best}
 use Rattle.leaf_queues.specs.PlainQueue.{PlainQueue}
 use Rattle.turn_lock.specs.Passes.{opening_of}
+use Rattle.subtree_build.specs.Index.{IndexParts}
 use Rattle.search_machine.specs.declared.phase.Phase.TheVariants.{Done}
+use Rattle.search_machine.specs.Ground.{Fits, Ground}
+use Rattle.search_machine.specs.OwnRecord.{RecordedWorker}
+use Rattle.search_machine.specs.Stands.{StandsFor}
+use Rattle.search_machine.specs.Workers.{fills}
 use Rattle.search_machine.proofs.Places.{get_map, get_some}
+use Rattle.query_core.specs.Questions.{CanBeSearched, Question, last_of}
+use Rattle.query_core.specs.Teams.{AreOver}
+use Rattle.query_core.specs.Turning.{search_of}
 use Rattle.query_core.specs.Working.{Working}
-use Rattle.live_query.specs.declared.part.Part.{Part}
-use Rattle.live_query.specs.declared.part.Part.TheVariants.{Fill, Drain}
-use Rattle.live_query.specs.Holding.{Held}
-use Rattle.live_query.specs.RootClaims.{IsOwn, Roots}
-use Rattle.live_query.specs.Parts.{Between}
+use Rattle.query_core.proofs.OfIndex.{search_fits}
 use Rattle.live_query.specs.LockHands.{LockKept, QueueLock, QueuePass, calls_at, calls_of}
-use Rattle.live_query.specs.LockKnowing.{CallsOf, EndsPart, InPart, LockServes, LocksOn}
-use Rattle.live_query.specs.LockParts.{AllLocksOn, AreEquipped, AreNumbered, AreRound, HasNew, IsServed, Locking, Row, Went, WentBy, WentOn, calls_by_hand, calls_in, calls_in_row, held_of, holding}
+use Rattle.live_query.specs.LockKnowing.{ArePopsOf, LockServes, LocksBy, LocksOn}
+use Rattle.live_query.specs.LockParts.{AllLocksOn, AreEquipped, AreNumbered, AreRound, HasNew, Locking, Row, WentBy, calls_in, calls_in_row}
+use Rattle.live_query.specs.Parts.{AllFilled, HasFilled, Resting}
+use Rattle.live_query.specs.Resting.{Kept}
+use Rattle.live_query.proofs.Agreeing.{no_pops}
 use Rattle.live_query.proofs.Fronts.{push_both}
-use Rattle.live_query.proofs.Places.{all_at, all_from, by_place, map_at}
+use Rattle.live_query.proofs.Openers.{search_at}
+use Rattle.live_query.proofs.Places.{all_from, by_place, map_at}
+use Rattle.live_query.proofs.PutsKept.{has_at}
 
 -- one more searcher with its hand
-pub equipped_more : (roots : Roots) (locks : List QueueLock) (team : List Between) (cells : List Locking) (c : Between) (d : Locking)
+pub equipped_more : (roots : ℕ) (locks : List QueueLock) (team : List Resting) (cells : List Locking) (c : Resting) (d : Locking)
     → AreEquipped roots locks team cells → d.worker ≡ c.worker → HasNew roots locks (length team) c.hand d.hand
     → AreEquipped roots locks (team ++ c ∷ []) (cells ++ d ∷ [])
 equipped_more roots locks team cells c d e worker hand = record {
@@ -32,7 +40,7 @@ equipped_more roots locks team cells c d e worker hand = record {
 }
 
 -- a hand with new passes has called nothing
-fresh_calls : (roots : Roots) (locks : List QueueLock) (i : ℕ) (c : Held) (h : LockKept) → HasNew roots locks i c h → (m : ℕ) → calls_at h m ≡ []
+fresh_calls : (roots : ℕ) (locks : List QueueLock) (i : ℕ) (c : Kept) (h : LockKept) → HasNew roots locks i c h → (m : ℕ) → calls_at h m ≡ []
 fresh_calls roots locks i c h new m = ap (λ (h : LockKept). calls_at h m) new.is ∙ by (slice_get new.passes m) refl
   where
     by : (o : Option QueuePass) → slice_get new.passes m ≡ o → calls_of o ≡ []
@@ -42,208 +50,202 @@ fresh_calls roots locks i c h new m = ap (λ (h : LockKept). calls_at h m) new.i
         let k = get_some locks m (let a = new.count in omega arith) in
         (new.fresh m k.0 p k.1 e).3
 
-calls_none : (part : Part) (h : LockKept) → ((m : ℕ) → calls_at h m ≡ []) → CallsOf part h
-calls_none Fill h none = λ m x i. absurd (subst (In x) (none m) i)
-calls_none Drain h none = λ m x i. absurd (subst (In x) (none m) i)
+-- searchers that have filled, and a queue for each number below m
+pub record Queued (a : Question) (ix : IndexParts) (m : ℕ) (best : Best) (team : List Resting) (queues : List PlainQueue) (roots : ℕ)
+    : Type 0 where
+  pub searches : CanBeSearched a ix
+  pub some : 0 < m
+  pub filled : AllFilled a ix m best team
+  pub count : length queues ≡ m
+  pub all_roots : roots ≡ length ix.roots
 
-module _ (roots : Roots) (best : Best) (queues : List PlainQueue) (team : List Between)
-    (served : All (IsServed roots best (length queues)) team) where
-  pub all_own : All (λ (c : Between). IsOwn roots c.hand.drawn) team
-  all_own = all_from (λ (c : Between). IsOwn roots c.hand.drawn) team
-      (λ i c at. (all_at (IsServed roots best (length queues)) team i c served at).own)
-
-  pub all_words : All (λ (c : Between). c.hand.best ≡ best) team
-  all_words = all_from (λ (c : Between). c.hand.best ≡ best) team
-      (λ i c at. (all_at (IsServed roots best (length queues)) team i c served at).word)
-
--- searchers that are served, each with its hand over new locks round the queues
-pub record Ready (roots : Roots) (best : Best) (queues : List PlainQueue) (team : List Between) (locks : List QueueLock)
-    (cells : List Locking) : Type 0 where
-  pub served : All (IsServed roots best (length queues)) team
+-- each searcher with its hand over new locks round the queues
+pub record Ready (queues : List PlainQueue) (roots : ℕ) (team : List Resting) (locks : List QueueLock) (cells : List Locking) : Type 0 where
   pub round : AreRound queues (length team) locks
   pub equipped : AreEquipped roots locks team cells
 
--- searchers before and after their turns in a part, and the rows of passes that were taken from them
+-- searchers before and after their turns, and the rows of passes that were taken from them
 pub record Worked (cells later : List Locking) (rows : List Row) : Type 0 where
   pub count : length later ≡ length cells
   pub on : AllLocksOn cells later
   pub passes : map (λ (row : Row). row.items) rows ≡ map (λ (e : Locking). e.hand.passes) later
 
-module _ {roots : Roots} {best : Best} {queues : List PlainQueue} {team : List Between} {locks : List QueueLock}
-    {cells : List Locking} (ready : Ready roots best queues team locks cells) where
-  lock_count : length locks ≡ length queues
-  lock_count = sym (length-map locks opening_of) ∙ ap (λ (qs : List PlainQueue). length qs) ready.round.openings
+module _ {a : Question} {ix : IndexParts} {m : ℕ} {best : Best} {team : List Resting} {queues : List PlainQueue} {roots : ℕ}
+    (queued : Queued a ix m best team queues roots) where
+  pub all_words : All (λ (c : Resting). c.hand.best ≡ best) team
+  all_words = all_from (λ (c : Resting). c.hand.best ≡ best) team (λ i c at. (has_at queued.filled i c at).2.word)
 
-  from_at : (i : ℕ) (d : Locking) → slice_get cells i ≡ Some d → (c : Between) × (slice_get team i ≡ Some c)
-  from_at i d at = get_some team i (let low = slice_get_within cells i d at in let a = ready.equipped.count in omega arith)
+  module _ {locks : List QueueLock} {cells : List Locking} (ready : Ready queues roots team locks cells) where
+    lock_count : length locks ≡ length queues
+    lock_count = sym (length-map locks opening_of) ∙ ap (λ (qs : List PlainQueue). length qs) ready.round.openings
 
-  serves_at : (i : ℕ) (c : Between) (d : Locking) → slice_get team i ≡ Some c → slice_get cells i ≡ Some d
-      → LockServes d.worker d.hand
-  serves_at i c d at_c at_d =
-      let s = all_at (IsServed roots best (length queues)) team i c ready.served at_c in
-      let h = ready.equipped.hands i c d at_c at_d in
-      subst (λ (w : Working). LockServes w d.hand) (sym (ready.equipped.workers i c d at_c at_d))
-      (subst (LockServes c.worker) (sym h.is) (record {
-        shown = s.shown;
-        shows = s.shows;
-        fits = s.fits;
-        roots = s.count;
-        size = s.size;
-        floor = s.last;
-        queues = h.count ∙ lock_count ∙ s.queues_are;
-      }))
-
-  pub all_serve : All (λ (d : Locking). LockServes d.worker d.hand) cells
-  all_serve = all_from (λ (d : Locking). LockServes d.worker d.hand) cells
-      (λ i d at. let c = from_at i d at in serves_at i c.0 d c.1 at)
-
-  pub all_run : All (λ (c : Between). c.worker.phase ≢ Done) team → All (λ (d : Locking). d.worker.phase ≢ Done) cells
-  all_run runs = all_from (λ (d : Locking). d.worker.phase ≢ Done) cells (λ i d at.
-      let c = from_at i d at in
-      subst (λ (w : Working). w.phase ≢ Done) (sym (ready.equipped.workers i c.0 d c.1 at))
-      (all_at (λ (c : Between). c.worker.phase ≢ Done) team i c.0 runs c.1))
-
-  pub all_begin : (part : Part) → All (λ (c : Between). InPart part c.worker.phase) team
-      → All (λ (d : Locking). InPart part d.worker.phase) cells
-  all_begin part begins = all_from (λ (d : Locking). InPart part d.worker.phase) cells (λ i d at.
-      let c = from_at i d at in
-      subst (λ (w : Working). InPart part w.phase) (sym (ready.equipped.workers i c.0 d c.1 at))
-      (all_at (λ (c : Between). InPart part c.worker.phase) team i c.0 begins c.1))
-
-  pub all_calls : (part : Part) → All (λ (d : Locking). CallsOf part d.hand) cells
-  all_calls part = all_from (λ (d : Locking). CallsOf part d.hand) cells (λ i d at.
-      let c = from_at i d at in
-      calls_none part d.hand (fresh_calls roots locks i c.0.hand d.hand (ready.equipped.hands i c.0 d c.1 at)))
-
-  abbrev On : Locking → Locking → Type 0
-  On x y = LocksOn x.worker x.hand y.worker y.hand
-
-  module _ {later : List Locking} {rows : List Row} (worked : Worked cells later rows) where
-    -- a searcher after the part, with what it was before
-    record Came (i : ℕ) (e : Locking) : Type 0 where
-      from : Between
-      began : Locking
+    -- a searcher with its hand, and what it was after it had filled
+    record Began (i : ℕ) (d : Locking) : Type 0 where
+      from : Resting
+      record_of : RecordedWorker
       at : slice_get team i ≡ Some from
-      at_cell : slice_get cells i ≡ Some began
-      hand : HasNew roots locks i from.hand began.hand
-      worker : began.worker ≡ from.worker
-      goes : On began e
+      at_record : slice_get queued.filled.records i ≡ Some record_of
+      has : HasFilled a ix m best i from record_of
+      worker : d.worker ≡ from.worker
+      hand : HasNew roots locks i from.hand d.hand
 
-    came : (i : ℕ) (e : Locking) → slice_get later i ≡ Some e → Came i e
-    came i e at =
-        let r = by_place On cells later worked.count worked.on i e at in
-        let c = from_at i r.from r.at in
+    began : (i : ℕ) (d : Locking) → slice_get cells i ≡ Some d → Began i d
+    began i d at =
+        let c = get_some team i (let low = slice_get_within cells i d at in let a = ready.equipped.count in omega arith) in
+        let x = has_at queued.filled i c.0 c.1 in
         record {
           from = c.0;
-          began = r.from;
+          record_of = x.0;
           at = c.1;
-          at_cell = r.at;
-          hand = ready.equipped.hands i c.0 r.from c.1 r.at;
-          worker = ready.equipped.workers i c.0 r.from c.1 r.at;
-          goes = r.on;
+          at_record = x.1;
+          has = x.2;
+          worker = ready.equipped.workers i c.0 d c.1 at;
+          hand = ready.equipped.hands i c.0 d c.1 at;
         }
 
-    pub all_locks : All (λ (e : Locking). e.hand.locks ≡ locks) later
-    all_locks = all_from (λ (e : Locking). e.hand.locks ≡ locks) later (λ i e at.
-        let r = came i e at in r.goes.same.locks ∙ ap (λ (h : LockKept). h.locks) r.hand.is)
+    serves_at : (i : ℕ) (d : Locking) → Began i d → LockServes d.worker d.hand
+    serves_at i d b =
+        subst (λ (w : Working). LockServes w d.hand) (sym b.worker)
+        (subst (LockServes b.from.worker) (sym b.hand.is) (record {
+          shown = b.record_of.worker;
+          shows = b.has.shows;
+          fits = subst (λ (h : Ground). Fits h) (sym (search_at a ix m i b.from.worker b.has.place))
+              (search_fits a ix 1 m queued.searches (omega arith) queued.some);
+          roots = queued.all_roots ∙ sym (ap (λ ix. length ix.roots) b.has.place.index);
+          floor = b.has.floor ∙ sym (ap last_of b.has.place.question);
+          queues = b.hand.count ∙ lock_count ∙ queued.count ∙ sym b.has.place.queues;
+        }))
 
-    row_count : length rows ≡ length later
-    row_count = sym (length-map rows (λ (row : Row). row.items)) ∙ ap (λ (l : List (List QueuePass)). length l) worked.passes
-        ∙ length-map later (λ (e : Locking). e.hand.passes)
+    pub all_serve : All (λ (d : Locking). LockServes d.worker d.hand) cells
+    all_serve = all_from (λ (d : Locking). LockServes d.worker d.hand) cells (λ i d at. serves_at i d (began i d at))
 
-    pub team_rows : length rows ≡ length team
-    team_rows = row_count ∙ worked.count ∙ ready.equipped.count
+    pub all_run : All (λ (d : Locking). d.worker.phase ≢ Done) cells
+    all_run = all_from (λ (d : Locking). d.worker.phase ≢ Done) cells (λ i d at.
+        let b = began i d at in subst (λ (w : Working). w.phase ≢ Done) (sym b.worker) b.has.running)
 
-    -- the row of a searcher is its passes
-    row_is : (i : ℕ) (e : Locking) (row : Row) → slice_get later i ≡ Some e → slice_get rows i ≡ Some row
-        → row.items ≡ e.hand.passes
-    row_is i e row at_e at_row =
-        same_Some row.items e.hand.passes
-        (sym (map_at (λ (row : Row). row.items) rows i row at_row)
-        ∙ ap (λ (l : List (List QueuePass)). slice_get l i) worked.passes
-        ∙ map_at (λ (e : Locking). e.hand.passes) later i e at_e)
+    pub all_drain : All (λ (d : Locking). fills d.worker.phase ≡ false) cells
+    all_drain = all_from (λ (d : Locking). fills d.worker.phase ≡ false) cells (λ i d at.
+        let b = began i d at in ap (λ (w : Working). fills w.phase) b.worker ∙ b.has.filled)
 
-    pub numbered : AreNumbered rows
-    numbered i m row p at_row at_p =
-        let e = get_some later i (let low = slice_get_within rows i row at_row in let a = row_count in omega arith) in
-        let r = came i e.0 e.1 in
-        let there : slice_get e.0.hand.passes m ≡ Some p
-        = ap (λ (ps : List QueuePass). slice_get ps m) (sym (row_is i e.0 row e.1 at_row)) ∙ at_p in
-        let q = get_some r.began.hand.passes m
-        (let low = slice_get_within e.0.hand.passes m p there in let a = r.goes.same.passes.count in omega arith) in
-        let new_at : slice_get r.hand.passes m ≡ Some q.0
-        = ap (λ (h : LockKept). slice_get h.passes m) (sym r.hand.is) ∙ q.1 in
-        let k = get_some locks m
-        (let low = slice_get_within r.hand.passes m q.0 new_at in let a = r.hand.count in omega arith) in
-        r.goes.same.passes.each m q.0 p q.1 there ∙ (r.hand.fresh m k.0 q.0 k.1 new_at).1
+    -- its record has no pops yet
+    knows_at : (i : ℕ) (d : Locking) (b : Began i d) → LocksBy d.worker d.hand b.record_of
+    knows_at i d b =
+        subst (λ (w : Working). LocksBy w d.hand b.record_of) (sym b.worker) (record {
+          shows = b.has.shows;
+          stands = subst (λ (j : ℕ). StandsFor (search_of b.from.worker 1) j b.record_of) (sym b.has.place.number)
+              (subst (λ (h : Ground). StandsFor h i b.record_of) (sym (search_at a ix m i b.from.worker b.has.place)) b.has.stands);
+          tied = record {
+            reads = λ v n.
+                let r = b.has.tied.reads v n in
+                subst (λ (h : LockKept). (h.floor ≤ v) × (v ≤ h.best.start)) (sym b.hand.is)
+                (subst (λ (k : Kept). (k.floor ≤ v) × (v ≤ k.best.start)) (sym b.has.rests) r);
+            calls = λ j low.
+                subst (ArePopsOf j b.record_of) (sym (fresh_calls roots locks i b.from.hand d.hand b.hand j))
+                (no_pops j b.record_of b.has.tied.pops);
+          };
+        })
 
-    module _ (part : Part) (in_part : All (λ (e : Locking). InPart part e.worker.phase) later)
-        (ends : All (λ (e : Locking). EndsPart part e.worker.phase) later)
-        (calls : All (λ (e : Locking). CallsOf part e.hand) later)
-        (back : List PlainQueue) (back_count : length back ≡ length locks)
-        (histories : (m : ℕ) (k : QueueLock) (r : PlainQueue) → slice_get locks m ≡ Some k → slice_get back m ≡ Some r
-        → WentBy (length rows) (λ i. calls_in rows i m) (opening_of k) r) where
-      abbrev hands : List LockKept
-      hands = map (λ (e : Locking). e.hand) later
+    abbrev On : Locking → Locking → Type 0
+    On x y = LocksOn x.worker x.hand y.worker y.hand
 
-      -- the calls in the rows are those of the hands
-      same_calls : (i m : ℕ) → calls_in rows i m ≡ calls_by_hand (slice_get hands i) m
-      same_calls i m = ⊎_elim
-          (λ (low : i < length rows).
-          let row = get_some rows i low in
-          let e = get_some later i (let a = row_count in omega arith) in
-          ap (λ o. calls_in_row o m) row.1
-          ∙ ap (λ (ps : List QueuePass). calls_of (slice_get ps m)) (row_is i e.0 row.0 e.1 row.1)
-          ∙ ap (λ o. calls_by_hand o m) (sym (map_at (λ (e : Locking). e.hand) later i e.0 e.1)))
-          (λ (out : length rows ≤ i).
-          ap (λ o. calls_in_row o m) (beyond rows i out)
-          ∙ ap (λ o. calls_by_hand o m)
-          (sym (beyond hands i (let a = row_count in let b = length-map later (λ (e : Locking). e.hand) in omega arith))))
-          (either i (length rows))
-        where
-          beyond : {X : Type 0} (xs : List X) (i : ℕ) → length xs ≤ i → slice_get xs i ≡ None
-          beyond [] i out = refl
-          beyond (x ∷ xs) zero out = absurd (omega arith)
-          beyond (x ∷ xs) (suc i) out = beyond xs i (omega arith)
+    module _ {later : List Locking} {rows : List Row} (worked : Worked cells later rows) where
+      -- a searcher after the part, with what it was before
+      pub record Came (i : ℕ) (e : Locking) : Type 0 where
+        pub from : Resting
+        pub record_of : RecordedWorker
+        pub at : slice_get team i ≡ Some from
+        pub at_record : slice_get queued.filled.records i ≡ Some record_of
+        pub has : HasFilled a ix m best i from record_of
+        pub first : Locking
+        pub worker : first.worker ≡ from.worker
+        pub hand : HasNew roots locks i from.hand first.hand
+        pub goes : On first e
+        pub known : LocksBy first.worker first.hand record_of
 
-          either : (i n : ℕ) → (i < n) ⊎ (n ≤ i)
-          either i n = grind arith
+      pub came_at : (i : ℕ) (e : Locking) → slice_get later i ≡ Some e → Came i e
+      came_at i e at =
+          let r = by_place On cells later worked.count worked.on i e at in
+          let b = began i r.from r.at in
+          record {
+            from = b.from;
+            record_of = b.record_of;
+            at = b.at;
+            at_record = b.at_record;
+            has = b.has;
+            first = r.from;
+            worker = b.worker;
+            hand = b.hand;
+            goes = r.on;
+            known = knows_at i r.from b;
+          }
 
-      pub went : (new : List Between) → new ≡ map holding later → Went part roots team queues new back
-      went new is = record {
-        hands = hands;
-        count = length-map later (λ (e : Locking). e.hand) ∙ worked.count ∙ ready.equipped.count;
-        same = ap (λ (l : List Between). length l) is ∙ length-map later holding ∙ worked.count ∙ ready.equipped.count;
-        each = λ i c d k at_c at_d at_k.
-            let e = get_map holding later i d (ap (λ (l : List Between). slice_get l i) (sym is) ∙ at_d) in
-            let r = came i e.0 e.1 in
-            let from = same_Some r.from c (sym r.at ∙ at_c) in
-            let hand : e.0.hand ≡ k
-            = same_Some e.0.hand k (sym (map_at (λ (e : Locking). e.hand) later i e.0 e.1) ∙ at_k) in
-            subst (WentOn part roots (length queues) c d) hand
-            (subst (λ (d : Between). WentOn part roots (length queues) c d e.0.hand) e.2
-            (subst (λ (c : Between). WentOn part roots (length queues) c (holding e.0) e.0.hand) from (record {
-              first = r.began.hand;
-              roots = ap (λ (h : LockKept). h.roots) r.hand.is;
-              begins = ap held_of r.hand.is;
-              count = ap (λ (h : LockKept). length h.passes) r.hand.is ∙ r.hand.count ∙ lock_count;
-              fresh = fresh_calls roots locks i r.from.hand r.began.hand r.hand;
-              on = subst (λ (w : Working). LocksOn w r.began.hand e.0.worker e.0.hand) r.worker r.goes;
-              rests = refl;
-              in_part = all_at (λ (e : Locking). InPart part e.worker.phase) later i e.0 in_part e.1;
-              ends = all_at (λ (e : Locking). EndsPart part e.worker.phase) later i e.0 ends e.1;
-              calls = all_at (λ (e : Locking). CallsOf part e.hand) later i e.0 calls e.1;
-            })));
-        queue_count = back_count ∙ lock_count;
-        queues = λ m q r at_q at_r.
-            let k = get_map opening_of locks m q (ap (λ (l : List PlainQueue). slice_get l m) ready.round.openings ∙ at_q) in
-            let h = histories m k.0 r k.1 at_r in
-            subst (λ (q : PlainQueue). WentBy (length team) (λ i. calls_by_hand (slice_get hands i) m) q r) k.2
-            (record {
-              log = h.log;
-              leads = h.leads;
-              callers_only = subst (λ (n : ℕ). All (λ x. x.caller < n) h.log)
-                  (row_count ∙ worked.count ∙ ready.equipped.count) h.callers_only;
-              own = λ i low. h.own i (let a = team_rows in omega arith) ∙ same_calls i m;
-            });
-      }
+      pub all_locks : All (λ (e : Locking). e.hand.locks ≡ locks) later
+      all_locks = all_from (λ (e : Locking). e.hand.locks ≡ locks) later (λ i e at.
+          let r = came_at i e at in r.goes.same.locks ∙ ap (λ (h : LockKept). h.locks) r.hand.is)
+
+      pub all_over : (ws : List Working) → ws ≡ map (λ (e : Locking). e.worker) later → AreOver a ix ws
+      all_over ws are i w at =
+          let e = get_map (λ (e : Locking). e.worker) later i w (ap (λ l. slice_get l i) (sym are) ∙ at) in
+          let r = came_at i e.0 e.1 in
+          let place = ap (λ (w : Working). w.question) r.worker in
+          let index = ap (λ (w : Working). w.index) r.worker in
+          subst (λ (v : Working). (v.question ≡ a) × (v.index ≡ ix)) e.2
+          (r.goes.place.question ∙ place ∙ r.has.place.question, r.goes.place.index ∙ index ∙ r.has.place.index)
+
+      pub team_count : length later ≡ length team
+      team_count = worked.count ∙ ready.equipped.count
+
+      row_count : length rows ≡ length later
+      row_count = sym (length-map rows (λ (row : Row). row.items)) ∙ ap (λ (l : List (List QueuePass)). length l) worked.passes
+          ∙ length-map later (λ (e : Locking). e.hand.passes)
+
+      pub team_rows : length rows ≡ length team
+      team_rows = row_count ∙ team_count
+
+      -- the row of a searcher is its passes
+      row_is : (i : ℕ) (e : Locking) (row : Row) → slice_get later i ≡ Some e → slice_get rows i ≡ Some row
+          → row.items ≡ e.hand.passes
+      row_is i e row at_e at_row =
+          same_Some row.items e.hand.passes
+          (sym (map_at (λ (row : Row). row.items) rows i row at_row)
+          ∙ ap (λ (l : List (List QueuePass)). slice_get l i) worked.passes
+          ∙ map_at (λ (e : Locking). e.hand.passes) later i e at_e)
+
+      pub numbered : AreNumbered rows
+      numbered i j row p at_row at_p =
+          let e = get_some later i (let low = slice_get_within rows i row at_row in let a = row_count in omega arith) in
+          let r = came_at i e.0 e.1 in
+          let there : slice_get e.0.hand.passes j ≡ Some p
+          = ap (λ (ps : List QueuePass). slice_get ps j) (sym (row_is i e.0 row e.1 at_row)) ∙ at_p in
+          let q = get_some r.first.hand.passes j
+          (let low = slice_get_within e.0.hand.passes j p there in let a = r.goes.same.passes.count in omega arith) in
+          let new_at : slice_get r.hand.passes j ≡ Some q.0
+          = ap (λ (h : LockKept). slice_get h.passes j) (sym r.hand.is) ∙ q.1 in
+          let k = get_some locks j
+          (let low = slice_get_within r.hand.passes j q.0 new_at in let a = r.hand.count in omega arith) in
+          r.goes.same.passes.each j q.0 p q.1 there ∙ (r.hand.fresh j k.0 q.0 k.1 new_at).1
+
+      -- the calls of a searcher at queue j are those in its row
+      pub row_calls : (i j : ℕ) (e : Locking) → slice_get later i ≡ Some e → calls_in rows i j ≡ calls_at e.hand j
+      row_calls i j e at =
+          let row = get_some rows i (let low = slice_get_within later i e at in let a = row_count in omega arith) in
+          ap (λ o. calls_in_row o j) row.1 ∙ ap (λ (ps : List QueuePass). calls_of (slice_get ps j)) (row_is i e row.0 at row.1)
+
+      -- how many passes it has
+      pub pass_count : (i : ℕ) (e : Locking) → slice_get later i ≡ Some e → length e.hand.passes ≡ m
+      pass_count i e at =
+          let r = came_at i e at in
+          r.goes.same.passes.count ∙ ap (λ (h : LockKept). length h.passes) r.hand.is ∙ r.hand.count ∙ lock_count ∙ queued.count
+
+      module _ (back : List PlainQueue) (back_count : length back ≡ length locks)
+          (histories : (j : ℕ) (k : QueueLock) (r : PlainQueue) → slice_get locks j ≡ Some k → slice_get back j ≡ Some r
+          → WentBy (length rows) (λ i. calls_in rows i j) (opening_of k) r) where
+        pub back_are : length back ≡ m
+        back_are = back_count ∙ lock_count ∙ queued.count
+
+        -- each queue went by one history of their calls from what it was
+        pub went : (j : ℕ) (q r : PlainQueue) → slice_get queues j ≡ Some q → slice_get back j ≡ Some r
+            → WentBy (length rows) (λ i. calls_in rows i j) q r
+        went j q r at_q at_r =
+            let k = get_map opening_of locks j q (ap (λ (l : List PlainQueue). slice_get l j) ready.round.openings ∙ at_q) in
+            subst (λ (q : PlainQueue). WentBy (length rows) (λ i. calls_in rows i j) q r) k.2 (histories j k.0 r k.1 at_r)

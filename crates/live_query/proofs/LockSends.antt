@@ -8,8 +8,6 @@ use Rattle.std.proofs.Crossing.{crosses}
 use Rattle.std.proofs.option.Option.TheSendSync as option
 use Rattle.best_word.proofs.number.BestWord.TheSendSync as best
 use Rattle.best_word.proofs.pass.WordPass.TheSendSync as seen
-use Rattle.live_query.proofs.root_claims.RootClaims.TheSendSync as claims
-use Rattle.live_query.proofs.root_claims.Drawing.TheSendSync as drawing
 use Rattle.leaf_queues.proofs.queue.Queue.TheSendSync as queue
 use Rattle.turn_lock.proofs.lock.LockOf.TheSendSync as lock
 use Rattle.turn_lock.proofs.lock.PassOf.TheSendSync as pass
@@ -31,8 +29,6 @@ lock_hand_sends ℓ n W s =
       held_sends,
       lock.the_sync,
       pass.the_send,
-      claims.the_sync,
-      drawing.the_send,
       best.the_sync,
       seen.the_send,
       crosses,

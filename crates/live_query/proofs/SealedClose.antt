@@ -1,12 +1,12 @@
 -- What the searchers and the closed runs say together: the search has a legal and straight outcome (`ends_right`).
-use Rattle.std.proofs.Common.{◌≡◌, ◌≢◌, ℕ, ◌+◌, ◌<◌, ◌≤◌, ◌⊎◌, List, None, Some, All, true, false, length, map, eqb, refl, sym, ap, ◌∙◌, subst, inl, inr, ⊎_elim, arith}
-use Rattle.std.specs.Prelude.{IfSome, is_some, not, nat_lt, slice_get, ◌&&◌}
+use Rattle.std.proofs.Common.{◌≡◌, ◌≢◌, ℕ, ◌+◌, ◌<◌, ◌≤◌, ◌⊎◌, List, None, Some, All, true, length, map, refl, sym, ap, ◌∙◌, subst, inl, inr, arith}
+use Rattle.std.specs.Prelude.{IfSome, is_some, not, nat_lt, slice_get}
 use Rattle.std.proofs.lemmas.Bool.{and_from, cases_lt, cond-true, eq-eqb, true≢false}
 use Rattle.std.proofs.lemmas.List.{length-map}
 use Rattle.std.proofs.lemmas.Option.{same_Some, slice_get-get_or, slice_get_within, get_or_from_slice_get}
 use Rattle.list_totals.specs.Totals.{one_if_same, total}
 use Rattle.list_totals.specs.Standing.{In}
-use Rattle.list_totals.proofs.Standing.{in_at, in_contains, in_total, total_in}
+use Rattle.list_totals.proofs.Standing.{in_at, in_contains}
 use Rattle.list_totals.proofs.Totals.{total_map}
 use Rattle.best_word.specs.Passes.{Best}
 use Rattle.series_core.specs.declared.queue_words.Entry.{Entry}
@@ -21,38 +21,28 @@ use Rattle.subtree_build.specs.Outline.{leaf_numbers}
 use Rattle.search_machine.specs.declared.phase.Phase.TheVariants.{Done}
 use Rattle.search_machine.specs.declared.outcome.QueueLine.{QueueLine}
 use Rattle.search_machine.specs.Basics.{Between, Ordered, entered}
-use Rattle.search_machine.specs.Closes.{AllStand, CameBy, CameByPop, CameByPut, ClaimedOnce, Closes, ClosesStraight, QueueCloses, claimed_by, placed_by, placed_of, popped_by}
-use Rattle.search_machine.specs.Ground.{Fits, Ground, entry_of, queue_of, start_limit}
+use Rattle.search_machine.specs.Closes.{AllStand, CameByPop, Closes, ClosesStraight, QueueCloses, placed_by, popped_by}
+use Rattle.search_machine.specs.Ground.{Fits, Ground, start_limit}
 use Rattle.search_machine.specs.Machine.{capacity_of}
 use Rattle.search_machine.specs.Outcome.{line_of}
-use Rattle.search_machine.specs.OwnRecord.{Below, OwnRecord, PopMade, PutMade, RecordedWorker, WasClosed, WasPut, is_refused}
+use Rattle.search_machine.specs.OwnRecord.{RecordedWorker, WasClosed}
 use Rattle.search_machine.specs.Sound.{takes, waits}
 use Rattle.search_machine.specs.Stands.{OwnDrains, OwnPhase, StandsFor}
 use Rattle.search_machine.proofs.AnyWorkers.{stands_any}
-use Rattle.search_machine.proofs.CallCounts.{placed_is}
-use Rattle.search_machine.proofs.Counts.{same_counts}
-use Rattle.search_machine.proofs.OwnLate.{below_real}
-use Rattle.search_machine.proofs.Places.{get_map, get_some, total_at, total_some}
-use Rattle.search_machine.proofs.PutsOnce.{placed_put, puts_once}
+use Rattle.search_machine.proofs.Places.{get_map, get_some}
 use Rattle.query_core.specs.Questions.{Question, search_over, view_in}
 use Rattle.query_core.specs.Working.{Working}
 use Rattle.query_core.proofs.OfIndex.{last_is, search_fits}
 use Rattle.live_query.specs.DrainHands.{given_of}
 use Rattle.live_query.specs.Knowing.{IsLater}
-use Rattle.live_query.specs.Marked.{IsMarked, IsRunOf, line_of_run}
+use Rattle.live_query.specs.Marked.{IsRunOf, line_of_run}
 use Rattle.live_query.specs.Parts.{Draining, EndsRight, Resting, draining, marks_of}
-use Rattle.live_query.specs.Resting.{Kept}
 use Rattle.live_query.proofs.DrainGather.{Outset, Turned, Went, known_at, none_closed, went}
 use Rattle.live_query.proofs.Endings.{ends_as}
 use Rattle.live_query.proofs.Openers.{moved, search_at}
-use Rattle.live_query.proofs.Marks.{entry_same}
 use Rattle.live_query.proofs.Places.{Chosen, all_at, all_from, choose, map_at, maps_same, totals_same}
+use Rattle.live_query.proofs.PutsKept.{AreBehind, all_claimed, bound_right, came, once, placed_all, placed_as}
 use Rattle.live_query.proofs.RunQueues.{ascending_ordered, entered_in, in_filter, is_left, least_from, least_some, left_of, left_or_taken, once_entered, ordered_filter, round_covers}
-
--- a call that came by some worker may be named by whatever else holds of it
-came_too : {X : Type 0} {team : List RecordedWorker} {list : OwnRecord → List X} {P Q : X → Type 0} (c : CameBy team list P)
-    → Q c.made → CameBy team list Q
-came_too c also = record { place = c.place; member = c.member; at = c.at; made = c.made; has = c.has; such = also }
 
 module _ {a : Question} {ix : IndexParts} {m : ℕ} {best : Best} {team : List Resting} {runs : List Run} {roots : ℕ}
     (outset : Outset a ix m best team runs roots) {before cells : List Draining} (turned : Turned team runs roots before cells)
@@ -112,17 +102,24 @@ module _ {a : Question} {ix : IndexParts} {m : ℕ} {best : Best} {team : List R
       let e = all.each i y at in
       e.later.known.shows.phase ∙ all_at (λ (c : Draining). c.worker.phase ≡ Done) cells i e.cell done e.at
 
-  same_claims : (c : ℕ) → total (claimed_by c) ys ≡ total (claimed_by c) outset.filled.records
-  same_claims c =
-      totals_same (claimed_by c) (claimed_by c) ys outset.filled.records
-      (all.count ∙ cells_count ∙ sym as_many ∙ sym outset.filled.count)
-      (λ i y x at_y at_x.
-      let e = all.each i y at_y in
-      let same = same_Some e.way.record_of x (sym e.way.at_record ∙ at_x) in
-      ap (λ os. total (Rattle.search_machine.specs.OwnRecord.claims_of c) os) e.later.claims ∙ ap (claimed_by c) same)
-
-  once : ClaimedOnce ys
-  once c = let e = same_claims c in let b = outset.filled.once c in omega arith
+  -- the records have the claims and puts of the fill part
+  behind : AreBehind outset.filled n ys
+  behind = record {
+    fits = fits;
+    count = all.count ∙ cells_count ∙ sym as_many;
+    each = λ i y at.
+        let e = all.each i y at in
+        record {
+          from = e.way.from;
+          record_of = e.way.record_of;
+          at = e.way.at;
+          at_record = e.way.at_record;
+          has = e.way.has;
+          claims = e.later.claims;
+          puts = e.later.puts;
+        };
+    stands = stands;
+  }
 
   in_range : (i : ℕ) (y : RecordedWorker) (v : ℕ) → slice_get ys i ≡ Some y → In v y.own.reads → Between g v
   in_range i y v at read =
@@ -139,47 +136,6 @@ module _ {a : Question} {ix : IndexParts} {m : ℕ} {best : Best} {team : List R
       = subst (OwnPhase g y.own i y.worker.rest y.worker.list) (worker_done i y at) (stands i y at).phase in
       let x = round_covers i m j low in
       subst (WasClosed y.own) x.2 (drains.closed x.0 x.1)
-
-  placed_all : (i : ℕ) (y : RecordedWorker) (p : PutMade) → slice_get ys i ≡ Some y → In p y.own.puts
-      → is_refused p.reply ≡ false
-  placed_all i y p at put =
-      let e = all.each i y at in
-      e.way.has.tied.placed p (subst (λ ps. In p ps) e.later.puts put)
-
-  -- a marked leaf was put, and a leaf that was put is marked
-  abbrev PutBy : ℕ → Type 0
-  PutBy l = CameBy ys (λ r. r.puts) (λ (p : PutMade). p.entry.leaf ≡ l)
-
-  marked_put : (l : ℕ) → IsMarked (marks_of team) l → PutBy l
-  marked_put l marked =
-      let c = get_map (λ (c : Resting). c.hand.marks) team marked.0 marked.1 marked.2 in
-      let low = slice_get_within team marked.0 c.0 c.1 in
-      let y = get_some ys marked.0 (let b = all.count in let d = cells_count in omega arith) in
-      let e = all.each marked.0 y.0 y.1 in
-      let same = same_Some e.way.from c.0 (sym e.way.at ∙ c.1) in
-      let marks : marked.1 ≡ e.way.has.hand.marks
-      = sym c.2 ∙ ap (λ (c : Resting). c.hand.marks) (sym same) ∙ ap (λ (k : Kept). k.marks) e.way.has.rests in
-      let w = e.way.has.tied.marked l (ap (λ ms. slice_get ms l) (sym marks) ∙ marked.3) in
-      record {
-        place = marked.0;
-        member = y.0;
-        at = y.1;
-        made = w.0;
-        has = subst (λ ps. In w.0 ps) (sym e.later.puts) w.1;
-        such = w.2;
-      }
-
-  put_marked : (i : ℕ) (y : RecordedWorker) (p : PutMade) → slice_get ys i ≡ Some y → In p y.own.puts
-      → IsMarked (marks_of team) p.entry.leaf
-  put_marked i y p at put =
-      let e = all.each i y at in
-      let old = subst (λ ps. In p ps) e.later.puts put in
-      let marked = e.way.has.tied.put p.entry.leaf (p, old, refl) in (
-        i,
-        e.way.from.hand.marks,
-        map_at (λ (c : Resting). c.hand.marks) team i e.way.from e.way.at,
-        ap (λ (k : Kept). slice_get k.marks p.entry.leaf) e.way.has.rests ∙ marked,
-      )
 
   module _ (j : ℕ) (low : j < m) where
     abbrev run : Run
@@ -208,7 +164,7 @@ module _ {a : Question} {ix : IndexParts} {m : ℕ} {best : Best} {team : List R
     }
 
     entry_right : (e : Entry) → In e run.entries → e.bound ≡ g.bound e.leaf
-    entry_right e i = ((is_run.exactly e).0 i).0.bound
+    entry_right = bound_right behind j run.entries is_run.exactly
 
     from_run : (e : Entry) → In e line.taken → In e run.entries
     from_run e i =
@@ -240,61 +196,10 @@ module _ {a : Question} {ix : IndexParts} {m : ℕ} {best : Best} {team : List R
     either e (inl waits) = (in_filter (is_left line.taken) run.entries e waits).0
     either e (inr taken) = from_run e taken
 
-    came : (e : Entry) → In e queue.waiting ⊎ In e queue.taken → CameByPut ys j e
-    came e h =
-        let r = (is_run.exactly e).0 (either e h) in
-        let p = marked_put e.leaf r.0.marked in
-        let right = (stands p.place p.member p.at).puts p.made p.has in
-        came_too p (
-          right.queue ∙ ap (queue_of g) p.such ∙ r.1,
-          right.entry ∙ ap (entry_of g) p.such ∙ entry_same (entry_of g e.leaf) e (sym r.0.bound) refl,
-        )
-
-    -- where the leaf is of the run, its put placed it here
-    placed_here : (l : ℕ) → 0 < entered l run.entries → 0 < total (placed_by j l) ys
-    placed_here l inside =
-        let f = Rattle.search_machine.proofs.Ending.entered_some l run.entries inside in
-        let r = (is_run.exactly f.0).0 f.1 in
-        let p = marked_put f.0.leaf r.0.marked in
-        let right = (stands p.place p.member p.at).puts p.made p.has in
-        let at_queue : p.made.queue ≡ j = right.queue ∙ ap (queue_of g) p.such ∙ r.1 in
-        let leaf : p.made.entry.leaf ≡ l = p.such ∙ sym f.2 in
-        let counted = cond-true (eqb p.made.queue j && not (is_refused p.made.reply)) (one_if_same l p.made.entry.leaf) 0
-        (and_from (eqb p.made.queue j) (not (is_refused p.made.reply)) (eq-eqb p.made.queue j at_queue)
-        (ap not (placed_all p.place p.member p.made p.at p.has))) in
-        let one = ap (one_if_same l) leaf ∙ same_counts l in
-        let x = in_total (placed_of j l) p.made p.member.own.puts p.has in
-        let y = total_at (placed_by j l) ys p.place p.member p.at in
-        omega arith
-
-    -- and a leaf that was placed here is of the run
-    placed_inside : (l : ℕ) → 0 < total (placed_by j l) ys → 0 < entered l run.entries
-    placed_inside l placed =
-        let y = total_some (placed_by j l) ys placed in
-        let p = total_in (placed_of j l) y.1.own.puts y.3 in
-        let which = placed_is j l p.0 p.2 in
-        let right = (stands y.0 y.1 y.2).puts p.0 p.1 in
-        let real = below_real g fits y.1.own p.0.entry.leaf right.below in
-        let inside = (is_run.exactly (entry_of g p.0.entry.leaf)).1 (
-          record { real = real; bound = refl; marked = put_marked y.0 y.1 p.0 y.2 p.1 },
-          sym right.queue ∙ which.0,
-        ) in
-        subst (λ k. 0 < entered k run.entries) (sym which.1)
-        (entered_in (entry_of g p.0.entry.leaf) run.entries inside)
-
     put_counts : (l : ℕ) → waits l queue + takes l queue ≡ total (placed_by j l) ys
     put_counts l =
-        let either_way = left_or_taken l run.entries line.taken (once_here l) (once_taken l) from_run in
-        let most = once_here l in
-        let a = placed_put g fits ys stands once j l in
-        let b = puts_once g fits ys stands once l in
-        ⊎_elim
-        (λ (inside : 0 < entered l run.entries). let p = placed_here l inside in omega arith)
-        (λ (outside : entered l run.entries ≤ 0). ⊎_elim
-        (λ (p : 0 < total (placed_by j l) ys). let inside = placed_inside l p in absurd (omega arith))
-        (λ (p : total (placed_by j l) ys ≤ 0). omega arith)
-        (cases_lt 0 (total (placed_by j l) ys)))
-        (cases_lt 0 (entered l run.entries))
+        left_or_taken l run.entries line.taken (once_here l) (once_taken l) from_run
+        ∙ placed_as behind j run.entries is_run.exactly once_here l
 
     popped_counts : (l : ℕ) → takes l queue ≡ total (popped_by j l) ys
     popped_counts l =
@@ -379,7 +284,7 @@ module _ {a : Question} {ix : IndexParts} {m : ℕ} {best : Best} {team : List R
       ordered = ordered_filter (is_left line.taken) run.entries (ascending_ordered run.entries is_run.ascending);
       placed = refl;
       capacity = refl;
-      came = came;
+      came = λ e h. came behind j run.entries is_run.exactly e (either e h);
       put = put_counts;
       popped = popped_counts;
       shut = shut;
@@ -400,14 +305,10 @@ module _ {a : Question} {ix : IndexParts} {m : ℕ} {best : Best} {team : List R
     members = all.count ∙ cells_count;
     stands = stands;
     done = worker_done;
-    claims = once;
+    claims = once behind;
     all_claimed = λ i y c at ended low.
-        let e = all.each i y at in
-        let s = same_claims c in
         let roots = length-map ix.nodes leaf_numbers in
-        let x = outset.filled.all_claimed i e.way.record_of c e.way.at_record
-        (subst (λ os. In None os) e.later.claims ended) (omega arith) in
-        omega arith;
+        all_claimed behind i y c at ended (omega arith);
     reads = in_range;
     queue_count = queues.count;
     queues = λ j q at. let s = queues.each j q at in
@@ -417,7 +318,7 @@ module _ {a : Question} {ix : IndexParts} {m : ℕ} {best : Best} {team : List R
   closes_straight : ClosesStraight g ys queues.items
   closes_straight = record {
     closes = closes;
-    placed = placed_all;
+    placed = placed_all behind;
     order = λ j q at. let s = queues.each j q at in
         subst (λ (q : PlainQueue). Ordered q.taken) (sym s.same)
         (ascending_ordered (line_at closed j).taken (is_line j s.low).ascending);

@@ -14,6 +14,7 @@ pub mod Holding
 pub mod Marked
 pub mod Parts
 pub mod LockParts
+pub mod FilledQueues
 -- A searcher that takes another hand.
 pub mod Searchers
 -- The definitions of the crates below that the public clauses cite.

@@ -1,4 +1,4 @@
--- What the hand of a worker over locked queues holds, and what a call did to it.
+-- What the hand of a worker over locked queues holds in the drain part, and what a call did to it.
 use Rattle.std.specs.Prelude.{◌≡◌, ℕ, ◌≤◌, ◌∷◌, ◌++◌, ◌⊎◌, List, [], Option, None, Some, length, slice_get, slice_set}
 use Rattle.best_word.specs.Passes.{Best}
 use Rattle.turn_lock.specs.History.{entry}
@@ -13,8 +13,8 @@ use Rattle.search_machine.specs.declared.calls.Call.{Call}
 use Rattle.search_machine.specs.declared.calls.Call.TheVariants.{Claim, Read, Offer, Put, Pop}
 use Rattle.search_machine.specs.declared.calls.Reply.{Reply}
 use Rattle.search_machine.specs.declared.calls.Reply.TheVariants.{Claimed, Seen, Offered, PutTold, PopTold}
+use Rattle.series_core.specs.declared.queue_words.PutReply.TheVariants.{Filled}
 use Rattle.queue_histories.specs.Histories.{History}
-use Rattle.live_query.specs.RootClaims.{DidClaim, Drawn, Roots}
 use Rattle.live_query.specs.FillHands.{InRange}
 
 -- a lock round a queue, and a pass of one
@@ -30,13 +30,11 @@ pub record AreOwn (locks : List QueueLock) (passes : List QueuePass) : Type 0 wh
   pub each : (m : ℕ) (k : QueueLock) (p : QueuePass) → slice_get locks m ≡ Some k
       → slice_get passes m ≡ Some p → IsPassOf k p
 
--- the root children that are claimed and its draws of them, the bound word and what no limit is below, the locks, and its pass of
--- each
+-- the bound word and what no limit is below, the number of root children, the locks, and its pass of each
 pub record LockKept : Type 0 where
-  pub roots : Roots
-  pub drawn : Drawn
   pub best : Best
   pub floor : ℕ
+  pub roots : ℕ
   pub locks : List QueueLock
   pub passes : List QueuePass
 
@@ -68,16 +66,16 @@ Answers _ _ = ⊥
 abbrev pub NamesNone : LockKept → ℕ → LockKept → Type 0
 NamesNone h m k = (length h.passes ≤ m) × (k ≡ h)
 
--- what a call with its reply did to the hand: a claim was made of its draws, a put and a pop were made at a queue
+-- what a call with its reply did to the hand: a pop was made at a queue, and no other call leaves anything
 abbrev pub LockDid : LockKept → Call → Reply → LockKept → Type 0
-LockDid h Claim (Claimed o) k = (d : Drawn) × DidClaim h.roots h.drawn o d × (k ≡ record h { drawn = d })
+LockDid h Claim (Claimed None) k = k ≡ h
 LockDid h Read (Seen v) k = InRange h.floor h.best v × (k ≡ h)
 LockDid h (Offer x) (Offered v) k = InRange h.floor h.best v × (k ≡ h)
-LockDid h (Put m e) (PutTold reply) k = NamesNone h m k ⊎ Called h m (ToPut e) (PutAnswer reply) k
+LockDid h (Put m e) (PutTold (Filled c)) k = (c ≡ 0) × (k ≡ h)
 LockDid h (Pop m v) (PopTold reply) k = NamesNone h m k ⊎ Called h m (ToPop v) (PopAnswer reply) k
 LockDid h _ _ k = ⊥
 
--- the hand over these locks with these draws and passes
-abbrev pub lock_over : Roots → Drawn → Best → ℕ → List QueueLock → List QueuePass → LockKept
-lock_over roots drawn best floor locks passes =
-    record { roots = roots; drawn = drawn; best = best; floor = floor; locks = locks; passes = passes }
+-- the hand over these locks with these passes
+abbrev pub lock_over : Best → ℕ → ℕ → List QueueLock → List QueuePass → LockKept
+lock_over best floor roots locks passes =
+    record { best = best; floor = floor; roots = roots; locks = locks; passes = passes }

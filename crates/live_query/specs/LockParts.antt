@@ -1,24 +1,17 @@
--- Searchers over locked queues before, in and after a part, and the histories of the queues.
+-- Searchers over locked queues, the passes of the locks, and the histories of the queues.
 use Rattle.std.specs.Prelude.{◌≡◌, ℕ, ◌+◌, ◌<◌, ◌∷◌, List, [], Option, None, Vec, Some, length, map, slice_get}
 use Rattle.std.specs.Global.{Global}
-use Rattle.best_word.specs.Passes.{Best}
 use Rattle.leaf_queues.specs.PlainQueue.{PlainQueue}
 use Rattle.turn_lock.specs.History.{calls_by}
 use Rattle.turn_lock.specs.Passes.{IsNewPass, callers_of, opening_of}
 use Rattle.queue_histories.specs.Histories.{History, Leads}
 use Rattle.queue_histories.specs.Callers.{CalledBelow}
-use Rattle.search_machine.specs.Ground.{Fits}
-use Rattle.search_machine.specs.Workers.{Worker}
-use Rattle.query_core.specs.Questions.{last_of}
-use Rattle.query_core.specs.Turning.{search_of}
-use Rattle.query_core.specs.Working.{Working, Shows}
-use Rattle.live_query.specs.declared.part.Part.{Part}
+use Rattle.query_core.specs.Working.{Working}
 use Rattle.live_query.specs.declared.searcher.Searcher.{Searcher}
-use Rattle.live_query.specs.Holding.{Held}
-use Rattle.live_query.specs.RootClaims.{IsOwn, Roots}
-use Rattle.live_query.specs.Parts.{Between, EachOn}
-use Rattle.live_query.specs.LockHands.{LockKept, QueueLock, QueuePass, calls_at, calls_of, lock_over}
-use Rattle.live_query.specs.LockKnowing.{CallsOf, EndsPart, InPart, LocksOn}
+use Rattle.live_query.specs.Parts.{EachOn, Resting}
+use Rattle.live_query.specs.Resting.{Kept}
+use Rattle.live_query.specs.LockHands.{LockKept, QueueLock, QueuePass, calls_of, lock_over}
+use Rattle.live_query.specs.LockKnowing.{LocksOn}
 
 -- a row of passes
 abbrev pub Row : Type 0
@@ -68,7 +61,7 @@ pub record WentBy (callers : ℕ) (calls : ℕ → History) (q r : PlainQueue) :
   pub callers_only : CalledBelow callers log
   pub own : (i : ℕ) → i < callers → calls_by i log ≡ calls i
 
--- a searcher in a part over locked queues
+-- a searcher that drains locked queues
 abbrev pub Locking : Type 0
 Locking = Searcher Working LockKept
 
@@ -76,67 +69,18 @@ Locking = Searcher Working LockKept
 abbrev pub AllLocksOn : List Locking → List Locking → Type 0
 AllLocksOn old new = EachOn LocksOn old new
 
--- the searcher that keeps this of its hand
-abbrev pub held_of : LockKept → Held
-held_of h = record { drawn = h.drawn; best = h.best; floor = h.floor }
-
-abbrev pub holding : Locking → Between
-holding c = record { worker = c.worker; hand = held_of c.hand; number = c.number; turn = c.turn }
-
--- the hand of a searcher with the new passes of number i of these locks
-pub record HasNew (roots : Roots) (locks : List QueueLock) (i : ℕ) (c : Held) (h : LockKept) : Type 0 where
+-- the hand of a searcher with the new passes of number i of these locks, where there are `roots` root children
+pub record HasNew (roots : ℕ) (locks : List QueueLock) (i : ℕ) (c : Kept) (h : LockKept) : Type 0 where
   pub passes : List QueuePass
-  pub is : h ≡ lock_over roots c.drawn c.best c.floor locks passes
+  pub is : h ≡ lock_over c.best c.floor roots locks passes
   pub count : length passes ≡ length locks
   pub fresh : (m : ℕ) (k : QueueLock) (p : QueuePass) → slice_get locks m ≡ Some k → slice_get passes m ≡ Some p
       → IsNewPass k i p
 
 -- each searcher with its hand over these locks
-pub record AreEquipped (roots : Roots) (locks : List QueueLock) (team : List Between) (cells : List Locking) : Type 0 where
+pub record AreEquipped (roots : ℕ) (locks : List QueueLock) (team : List Resting) (cells : List Locking) : Type 0 where
   pub count : length cells ≡ length team
-  pub workers : (i : ℕ) (c : Between) (d : Locking) → slice_get team i ≡ Some c → slice_get cells i ≡ Some d
+  pub workers : (i : ℕ) (c : Resting) (d : Locking) → slice_get team i ≡ Some c → slice_get cells i ≡ Some d
       → d.worker ≡ c.worker
-  pub hands : (i : ℕ) (c : Between) (d : Locking) → slice_get team i ≡ Some c → slice_get cells i ≡ Some d
+  pub hands : (i : ℕ) (c : Resting) (d : Locking) → slice_get team i ≡ Some c → slice_get cells i ≡ Some d
       → HasNew roots locks i c.hand d.hand
-
--- a searcher over `queues` queues that has not called at them yet
-pub record IsServed (roots : Roots) (best : Best) (queues : ℕ) (c : Between) : Type 0 where
-  pub shown : Worker
-  pub shows : Shows c.worker shown
-  pub fits : Fits (search_of c.worker 1)
-  pub count : roots.count ≡ length c.worker.index.roots
-  pub size : 0 < roots.size
-  pub last : c.hand.floor ≡ last_of c.worker.question
-  pub queues_are : queues ≡ c.worker.queues
-  pub own : IsOwn roots c.hand.drawn
-  pub word : c.hand.best ≡ best
-
--- a searcher after a part, with its hand as it began and as it ended
-pub record WentOn (part : Part) (of : Roots) (queues : ℕ) (c d : Between) (k : LockKept) : Type 0 where
-  pub first : LockKept
-  pub roots : first.roots ≡ of
-  pub begins : held_of first ≡ c.hand
-  pub count : length first.passes ≡ queues
-  pub fresh : (m : ℕ) → calls_at first m ≡ []
-  pub on : LocksOn c.worker first d.worker k
-  pub rests : d.hand ≡ held_of k
-  pub in_part : InPart part d.worker.phase
-  pub ends : EndsPart part d.worker.phase
-  pub calls : CallsOf part k
-
--- the calls of the hand at place i at queue m, where there is one
-abbrev pub calls_by_hand : Option LockKept → ℕ → History
-calls_by_hand None m = []
-calls_by_hand (Some h) m = calls_at h m
-
--- searchers and queues before and after a part
-pub record Went (part : Part) (roots : Roots) (old : List Between) (before : List PlainQueue) (new : List Between) (later : List PlainQueue)
-    : Type 0 where
-  pub hands : List LockKept
-  pub count : length hands ≡ length old
-  pub same : length new ≡ length old
-  pub each : (i : ℕ) (c d : Between) (k : LockKept) → slice_get old i ≡ Some c → slice_get new i ≡ Some d
-      → slice_get hands i ≡ Some k → WentOn part roots (length before) c d k
-  pub queue_count : length later ≡ length before
-  pub queues : (m : ℕ) (q r : PlainQueue) → slice_get before m ≡ Some q → slice_get later m ≡ Some r
-      → WentBy (length old) (λ i. calls_by_hand (slice_get hands i) m) q r

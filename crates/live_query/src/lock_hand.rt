@@ -1,10 +1,9 @@
-//! What a worker over locked queues shares: root children to claim, the bound word, and the queues, each under a lock of its own.
-//! It has one pass of each lock, and each put and pop is one call at the queue that it names.
+//! What a worker over locked queues shares in the drain part: the bound word, and the queues, each under a lock of its own.
+//! It has one pass of each lock, and each pop is one call at the queue that it names. The claims are closed, and the queues hold
+//! all that was put: no claim and no put takes a step.
 ghost use Rattle.std.specs.Prelude.{◌≡◌, ◌<◌, length};
-ghost use Rattle.live_query.specs.RootClaims.{IsOwn};
 ghost use Rattle.live_query.specs.LockHands.{Answers, AreOwn, Called, lock_over};
 
-use crate::root_claims::{Drawing, RootClaims};
 use best_word::{BestWord, WordPass};
 use leaf_queues::{Call, Queue, Reply};
 use query_core::Shared;
@@ -17,74 +16,60 @@ use turn_lock::{TurnLock, TurnPass};
 #[derive(Drop)]
 pub struct LockHand<'a, W> {
     rt: &'a W,
-    claims: &'a RootClaims,
     word: &'a BestWord,
-    drawing: Drawing,
     seen: WordPass,
+    roots: u64,
     locks: &'a [TurnLock<Queue>],
     passes: Vec<TurnPass<Queue>>,
 }
 
 impl<'a, W> Model for LockHand<'a, W> {
     ghost use Rattle.std.specs.Prelude.{◌≡◌};
-    ghost use Rattle.live_query.specs.RootClaims.{IsOwn};
     ghost use Rattle.live_query.specs.LockHands.{LockKept, AreOwn};
 
     ghost Value = { LockKept };
 
     ghost view = { λ h. record {
-      roots = h.claims.now;
-      drawn = h.drawing;
       best = h.word.now;
       floor = h.seen.floor;
+      roots = h.roots;
       locks = h.locks.now;
       passes = h.passes.items;
     } };
 
-    ghost invariant = { λ h. IsOwn h.claims.now h.drawing × (h.seen.best ≡ h.word.now) × AreOwn h.locks.now h.passes.items };
+    ghost invariant = { λ h. (h.seen.best ≡ h.word.now) × AreOwn h.locks.now h.passes.items };
 }
 
 impl<'a, W> LockHand<'a, W> {
-    /// A hand over these locks with these draws and passes.
+    /// A hand over these locks with these passes.
     pub fn new(
         rt: &'a W,
-        claims: &'a RootClaims,
         word: &'a BestWord,
-        drawing: Drawing,
         seen: WordPass,
+        roots: u64,
         locks: &'a [TurnLock<Queue>],
         passes: Vec<TurnPass<Queue>>,
     ) -> LockHand<'a, W>
-        requires drawing { IsOwn claims.now drawing }
         requires seen { seen.best ≡ word.now }
         requires own { AreOwn locks.now passes.items }
-        ensures { result ≡ lock_over claims.now drawing word.now seen.floor locks.now passes.items }
+        ensures { result ≡ lock_over word.now seen.floor roots locks.now passes.items }
     {
         LockHand {
             rt,
-            claims,
             word,
-            drawing,
             seen,
+            roots,
             locks,
             passes,
         }
     }
 
-    /// Its draws, its pass of the bound word, and its passes of the locks.
-    pub fn into_parts(self) -> (Drawing, WordPass, Vec<TurnPass<Queue>>)
-        ensures drawn { result.0 ≡ self.entry.drawn }
-        ensures seen { (result.1.best ≡ self.entry.best) × (result.1.floor ≡ self.entry.floor) }
-        ensures passes { result.2.items ≡ self.entry.passes }
-        ensures own { AreOwn self.entry.locks result.2.items }
+    /// Its passes of the locks.
+    pub fn into_passes(self) -> Vec<TurnPass<Queue>>
+        ensures passes { result.items ≡ self.entry.passes }
+        ensures own { AreOwn self.entry.locks result.items }
     {
-        let LockHand {
-            drawing,
-            seen,
-            passes,
-            ..
-        } = self;
-        (drawing, seen, passes)
+        self.passes
     }
 }
 
@@ -105,12 +90,13 @@ impl<'a, W: Wait> Shared for LockHand<'a, W> {
 
     ghost floor = { λ h. h.floor };
 
-    ghost roots = { λ h. h.roots.count };
+    ghost roots = { λ h. h.roots };
 
     ghost did = { LockDid };
 
+    /// The claims are closed: a claim takes no step.
     fn claim(&mut self) -> Option<u64> {
-        self.claims.claim(&mut self.drawing)
+        None
     }
 
     fn read(&mut self) -> u64 {
@@ -121,16 +107,9 @@ impl<'a, W: Wait> Shared for LockHand<'a, W> {
         self.word.offer(&mut self.seen, v)
     }
 
-    /// A put that names no queue takes no step.
-    fn put(&mut self, queue: u32, entry: Entry) -> PutReply {
-        let queue = queue as usize;
-        if queue >= self.passes.len() {
-            return PutReply::Filled(0);
-        }
-        match self.call(queue, Call::Put(entry)) {
-            Reply::Put(reply) => reply,
-            Reply::Pop(_) => unreachable!(),
-        }
+    /// The queues hold all that was put: a put takes no step.
+    fn put(&mut self, _queue: u32, _entry: Entry) -> PutReply {
+        PutReply::Filled(0)
     }
 
     /// A pop that names no queue takes no step.

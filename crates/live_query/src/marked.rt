@@ -36,8 +36,8 @@ pub(crate) fn seal_marked<'a, R: Rows>(
     Runs::seal(alloc, entries, search.queues, team.len() as u32)
 }
 
-// The entries of all leaves that some searcher put.
-fn marked_entries<'a, R: Rows>(
+/// The entries of all leaves that some searcher put.
+pub(crate) fn marked_entries<'a, R: Rows>(
     alloc: Global,
     search: &Search<'a, R>,
     team: &[Searcher<Worker<'a, R>, Rested>],

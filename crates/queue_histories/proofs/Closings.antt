@@ -25,7 +25,7 @@ use Rattle.queue_histories.proofs.Callers.{by_team}
 use Rattle.queue_histories.proofs.Joins.{past_of, shaped_empty}
 
 -- a caller's call of a history is a call of the history
-of_history : (i : ℕ) (y : Made Call Reply) (log : History) → In y (calls_by i log) → In y log
+pub of_history : (i : ℕ) (y : Made Call Reply) (log : History) → In y (calls_by i log) → In y log
 of_history i y [] = λ h. h
 of_history i y (x ∷ log) =
     cond_both (x.caller == i) (x ∷ calls_by i log) (calls_by i log)
@@ -37,7 +37,7 @@ of_history i y (x ∷ log) =
     (λ _ h. inr (of_history i y log h))
 
 -- and a call of the history is its caller's
-of_caller : (y : Made Call Reply) (log : History) → In y log → In y (calls_by y.caller log)
+pub of_caller : (y : Made Call Reply) (log : History) → In y log → In y (calls_by y.caller log)
 of_caller y [] h = h
 of_caller y (x ∷ log) h =
     cond_both (x.caller == y.caller) (x ∷ calls_by y.caller log) (calls_by y.caller log) (In y)

@@ -4,7 +4,7 @@ use Rattle.std.proofs.Crossing.{crosses}
 use Rattle.query_core.proofs.Sends.{worker_sends}
 use Rattle.live_query.proofs.LockSends.{lock_hand_sends}
 use Rattle.live_query.proofs.searcher.Searcher.TheSendSync.{the_send}
-use Rattle.live_query.proofs.locking.work_row.Goals as goal
+use Rattle.live_query.proofs.locking.drain_row.Goals as goal
 
 pub for_each_mut-requires-send-T : goal.for_each_mut-requires-send-T
 for_each_mut-requires-send-T g c κs within =

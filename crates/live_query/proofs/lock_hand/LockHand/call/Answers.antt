@@ -10,13 +10,12 @@ use Rattle.live_query.proofs.lock_hand.LockHand.call.Goals as goal
 
 pub invariant_of-self : goal.invariant_of-self
 invariant_of-self g c =
-    let own = c.self.invariant.2 in
+    let own = c.self.invariant.1 in
     let passes = c.self.inside.passes in
     let lock = c.index-locks-queue.result in
     let seen : length passes.items ≡ length c.args.self.now.passes = ap (λ (h : LockKept). length h.passes) c.self.view_is in
     let low : c.args.queue < length c.self.inside.locks.now = omega (arith, c.requires, seen, own.count) in (
       c.self.invariant.0,
-      c.self.invariant.1,
       own_set c.self.inside.locks.now passes.items c.args.queue lock c.call.new.pass own
           (slice_get-get_or c.self.inside.locks.now c.args.queue lock low ∙ ap Some (sym c.index-locks-queue.is))
           c.call.ensures.pass,

@@ -7,9 +7,6 @@ pub returns-then-eq-clause-goes_on : goal.returns-then-eq-clause-goes_on
 returns-then-eq-clause-goes_on g c =
     locks_then _ _ _ _ _ _ c.loop.invariant.goes_on c.take_turn.ensures.goes_on
 
-pub returns-then-eq-clause-pops : goal.returns-then-eq-clause-pops
-returns-then-eq-clause-pops g c = c.take_turn.ensures.pops c.loop.invariant.drains c.loop.invariant.pops
-
 pub loop-preserved : goal.loop-preserved
 loop-preserved g c =
     let was = c.loop.invariant in
@@ -18,7 +15,6 @@ loop-preserved g c =
       is_finite = tt;
       serves = c.take_turn.ensures.serves;
       running = search rules;
-      drains = c.take_turn.ensures.drains was.drains;
-      pops = c.take_turn.ensures.pops was.drains was.pops;
+      drains = c.take_turn.ensures.drains;
       goes_on = locks_then _ _ _ _ _ _ was.goes_on c.take_turn.ensures.goes_on;
     }

@@ -2,7 +2,7 @@
 use Rattle.std.proofs.Common.{◌≡◌, ◌≢◌, false}
 use Rattle.search_machine.specs.declared.phase.Phase.TheVariants.{Done}
 use Rattle.search_machine.specs.Workers.{fills}
-use Rattle.live_query.specs.LockKnowing.{LockServes, LocksOn, PopsAlone}
+use Rattle.live_query.specs.LockKnowing.{LockServes, LocksOn}
 use Rattle.live_query.proofs.locking.Searcher+Worker+R+LockHand+W.drain.Given as goal
 
 abbrev pub invariant-loop : goal.invariant-loop
@@ -12,6 +12,5 @@ invariant-loop g l = record {
   serves : LockServes l.self.worker l.self.hand;
   running : l.self.worker.phase ≢ Done;
   drains : fills l.self.worker.phase ≡ false;
-  pops : PopsAlone l.self.hand;
   goes_on : LocksOn l.fn.self.worker l.fn.self.hand l.self.worker l.self.hand;
 }

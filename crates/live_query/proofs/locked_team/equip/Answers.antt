@@ -2,17 +2,16 @@
 use Rattle.std.proofs.Common.{◌≡◌, ◌+◌, ℕ, List, [], ◌∷◌, ◌++◌, length, refl, sym, ap, ◌∙◌, subst, length-append, arith}
 use Rattle.std.proofs.lemmas.Option.{slice_get_within}
 use Rattle.best_word.specs.Passes.{Best}
-use Rattle.live_query.specs.Holding.{Held}
 use Rattle.live_query.specs.LockHands.{LockKept, lock_over}
-use Rattle.live_query.specs.RootClaims.{IsOwn}
 use Rattle.live_query.specs.LockParts.{AreDealt, AreEquipped, Locking}
-use Rattle.live_query.specs.Parts.{Between}
+use Rattle.live_query.specs.Parts.{Resting}
+use Rattle.live_query.specs.Resting.{Kept}
 use Rattle.live_query.specs.Searchers.{with_hand}
 use Rattle.live_query.proofs.GoingOn.{hand_taken}
 use Rattle.live_query.proofs.LockGather.{equipped_more}
 use Rattle.live_query.proofs.LockRows.{dealt_less, front_new, fronts_own, rows_some}
 use Rattle.live_query.proofs.Places.{all_next, at_next, cut_later}
-use Rattle.live_query.proofs.locked_part.equip.Goals as goal
+use Rattle.live_query.proofs.locked_team.equip.Goals as goal
 
 pub take_fronts-requires : goal.take_fronts-requires
 take_fronts-requires g c =
@@ -26,12 +25,6 @@ take_fronts-requires g c =
           omega (arith, some, row.ok.0);
     }
 
-pub new-requires-clause-drawing : goal.new-requires-clause-drawing
-new-requires-clause-drawing g c =
-    subst (λ (h : Held). IsOwn c.args.claims.now h.drawn) (sym (c.hand.view_is ∙ c.let_go-hand.ensures.hand))
-    (all_next c.loop-searcher.yielded c.in-Some.ensures.steps.0 c.loop-searcher.invariant.whole
-    (λ (s : Between). IsOwn c.args.claims.now s.hand.drawn) c.requires.claims)
-
 pub new-requires-clause-own : goal.new-requires-clause-own
 new-requires-clause-own g c =
     fronts_own c.args.locks.now (length c.loop-searcher.yielded) c.loop-searcher.rows.items c.in_ok-passes.passes.items
@@ -40,16 +33,16 @@ new-requires-clause-own g c =
 pub loop-searcher-preserved : goal.loop-searcher-preserved
 loop-searcher-preserved g c =
     let was = c.loop-searcher.invariant in
-    let done : List Between = c.loop-searcher.yielded in
-    let searcher : Between = c.in-Some.searcher in
+    let done : List Resting = c.loop-searcher.yielded in
+    let searcher : Resting = c.in-Some.searcher in
     let count : length done + 1 ≡ length (done ++ searcher ∷ []) = omega (arith, length-append done (searcher ∷ [])) in
     let locks = c.args.locks.now in
     let old = c.loop-searcher.rows.items in
     let passes = c.in_ok-passes.passes.items in
     let new = c.take_fronts.new.rows.items in
     let word : searcher.hand.best ≡ c.args.word.now
-    = all_next done c.in-Some.ensures.steps.0 was.whole (λ (s : Between). s.hand.best ≡ c.args.word.now) c.requires.word in
-    let over : Best → Held → LockKept = λ b h. lock_over c.args.claims.now h.drawn b h.floor locks passes in
+    = all_next done c.in-Some.ensures.steps.0 was.whole (λ (s : Resting). s.hand.best ≡ c.args.word.now) c.requires.word in
+    let over : Best → Kept → LockKept = λ b k. lock_over b k.floor c.args.roots locks passes in
     let cell : Locking = c.take.result in
     let taken : cell ≡ with_hand searcher c.new.result
     = hand_taken searcher c.let_go-hand.ensures.rest c.take.ensures refl in
@@ -59,8 +52,8 @@ loop-searcher-preserved g c =
       room = omega (arith, c.push_reserved.ensures.capacity, was.room);
       dealt = subst (λ (n : ℕ). AreDealt locks n new) count
           (dealt_less locks (length done) old passes new was.dealt c.in_ok-passes.ensures);
-      equipped = subst (AreEquipped c.args.claims.now locks (done ++ searcher ∷ [])) (sym c.push_reserved.ensures.items)
-          (equipped_more c.args.claims.now locks done c.loop-searcher.ready.items searcher cell was.equipped
+      equipped = subst (AreEquipped c.args.roots locks (done ++ searcher ∷ [])) (sym c.push_reserved.ensures.items)
+          (equipped_more c.args.roots locks done c.loop-searcher.ready.items searcher cell was.equipped
           (ap (λ (d : Locking). d.worker) taken) (record {
             passes = passes;
             is = ap (λ (d : Locking). d.hand) taken ∙ c.new.ensures

@@ -2,7 +2,7 @@
 use Rattle.std.proofs.Common.{◌≡◌, ◌≤◌, ◌++◌, length, vec_capacity, vec_len}
 use Rattle.std.specs.Vec.Iter.{into_iter_items}
 use Rattle.live_query.specs.LockParts.{AreDealt, AreEquipped}
-use Rattle.live_query.proofs.locked_part.equip.Given as goal
+use Rattle.live_query.proofs.locked_team.equip.Given as goal
 
 abbrev pub invariant-loop-searcher : goal.invariant-loop-searcher
 invariant-loop-searcher g l = record {
@@ -10,5 +10,5 @@ invariant-loop-searcher g l = record {
   len : vec_len l.ready ≡ length l.yielded;
   room : length l.fn.team.items ≤ vec_capacity l.ready;
   dealt : AreDealt l.locks (length l.yielded) l.rows.items;
-  equipped : AreEquipped l.claims l.locks l.yielded l.ready.items;
+  equipped : AreEquipped l.roots l.locks l.yielded l.ready.items;
 }
