@@ -4,6 +4,7 @@ use Rattle.std.specs.Borrow.{Bor}
 use Rattle.std.specs.List.{All}
 use Rattle.outside.specs.declared.faults.NoMemory.{NoMemory}
 use Rattle.command_words.specs.declared.options.Options.{Options}
+use Rattle.claim_word.specs.Passes.{Claim, fresh_pass}
 use Rattle.series_core.specs.Answer.{answer}
 use Rattle.series_core.specs.Collection.{Collection}
 use Rattle.series_core.specs.declared.best.TheConstants.{MAX_BEST}
@@ -16,6 +17,7 @@ use Rattle.search_run.specs.declared.tree.Tree.{Tree}
 use Rattle.search_run.specs.declared.finding.Asking.{Asking}
 use Rattle.search_run.specs.declared.batch.Batch.{Batch}
 use Rattle.search_run.specs.declared.batch.Found.{Found}
+use Rattle.search_run.specs.declared.dealing.Share.{Share}
 use Rattle.search_run.specs.declared.output.answers.Telling.{Telling}
 use Rattle.search_run.specs.declared.output.answers.Telling.TheVariants.{Nearest, Apart}
 use Rattle.search_run.specs.Texts.{AppendsPieces, query_text}
@@ -44,13 +46,14 @@ pub record IsBatch {R : Type 0} (collection : R → Collection) (b : Batch R) : 
   pub length : b.queries.now.points ≡ (collection b.rows.now).points
   pub asking : IsAsking b.asking
 
--- this number is that of a query
-abbrev pub HasQuery : {R : Type 0} → Batch R → Found → Type 0
-HasQuery b found = found.number < length b.queries.now.series
-
 -- what was found for a query is the answer to it
 abbrev pub AreRight : {R : Type 0} → (R → Collection) → Batch R → List Found → Type 0
 AreRight collection b = All (λ f. IfSome f.pairs (λ pairs. pairs ≡ answer_to collection b f.number))
+
+-- a worker that has drawn no query of these and found nothing
+pub record IsFresh (claims : Claim) (share : Share) : Type 0 where
+  pub pass : share.pass ≡ fresh_pass claims
+  pub found : share.found.items ≡ []
 
 -- the k nearest may be asked for: the tree is one of the collection, and the query is as long as its series
 pub record CanAsk (c : Collection) (tree : Tree) (query : List ℤ) (a : Asking) : Type 0 where

@@ -1,8 +1,8 @@
 //! The queries of a run and what they are asked of. Answers are found one after the other, or ahead, side by side.
 //! Its one rule: what is found ahead stands beside the number of its query, and is the answer to that query.
 
-ghost use Rattle.std.specs.Prelude.{◌≡◌, ◌<◌, ◌≤◌, All, IfOk, IfSome, length};
-ghost use Rattle.search_run.specs.Batches.{AreRight, HasQuery, IsBatch, IsTeam, answer_to};
+ghost use Rattle.std.specs.Prelude.{◌≡◌, ◌<◌, IfOk, IfSome, length};
+ghost use Rattle.search_run.specs.Batches.{AreRight, IsBatch, IsTeam, answer_to};
 
 use crate::crew::Crew;
 use crate::finding::{Asking, nearest};
@@ -12,11 +12,7 @@ use outside::NoMemory;
 use query_core::Outcome;
 use series_core::{Flat, PairList, Rows};
 use std::alloc::Global;
-use std::thread;
 use std::thread::Threads;
-
-/// How many queries are answered ahead at most, where queries are answered side by side.
-const AHEAD: u32 = 2048;
 
 /// From how many values of all series on a query is long enough for a team.
 const LONG: u64 = 1_000_000_000;
@@ -85,7 +81,7 @@ impl<R: Rows> Batch<'_, R> {
     }
 
     /// The answer to query i, by one worker.
-    fn alone(&self, alloc: Global, i: u32) -> Result<PairList, NoMemory>
+    pub(crate) fn alone(&self, alloc: Global, i: u32) -> Result<PairList, NoMemory>
         requires batch { IsBatch R.collection self.now }
         requires below { i < length self.now.queries.now.series }
         ensures { IfOk result (λ pairs. pairs ≡ answer_to R.collection self.now i) }
@@ -110,60 +106,9 @@ impl<R: Rows> Batch<'_, R> {
         let outcome = team(self.rows, self.tree, query, self.asking)?;
         Ok(outcome.pairs)
     }
-
-    /// Finds the answer to one query of a stretch, where memory suffices.
-    fn find(&self, alloc: Global, found: &mut Found)
-        requires batch { IsBatch R.collection self.now }
-        requires below { found.old.number < length self.now.queries.now.series }
-        ensures { IfSome found.new.pairs (λ pairs. pairs ≡ answer_to R.collection self.now found.new.number) }
-    {
-        found.pairs = self.alone(alloc, found.number).ok();
-    }
-
-    /// The queries from `first` on that are answered side by side, the last of them first; nothing is found yet.
-    fn stretch(&self, alloc: Global, first: u32) -> Result<Vec<Found>, NoMemory>
-        requires below { first < length self.now.queries.now.series }
-        ensures { IfOk result (λ found. All (HasQuery self.now) found.items) }
-    {
-        let size = (self.queries.count() - first).min(AHEAD);
-        let mut stretch = Vec::with_capacity(alloc, size as usize)?;
-        for back in 0..size {
-            stretch.push(Found {
-                number: first + (size - 1 - back),
-                pairs: None,
-            })?;
-        }
-        Ok(stretch)
-    }
 }
 
 impl<R: Rows + Sync> Batch<'_, R> {
-    /// The answers to queries from `first` on, found side by side, each by one worker.
-    fn side_by_side<T: Threads + Sync>(
-        &self,
-        rt: &T,
-        alloc: Global,
-        first: u32,
-    ) -> Result<Vec<Found>, NoMemory>
-        requires batch { IsBatch R.collection self.now }
-        requires below { first < length self.now.queries.now.series }
-        ensures { IfOk result (λ found. AreRight R.collection self.now found.items) }
-    {
-        let mut stretch = self.stretch(alloc, first)?;
-        self.find_each(rt, alloc, stretch.as_mut_slice());
-        Ok(stretch)
-    }
-
-    /// Finds the answer to each query of a stretch, where memory suffices.
-    fn find_each<T: Threads + Sync>(&self, rt: &T, alloc: Global, stretch: &mut [Found])
-        requires batch { IsBatch R.collection self.now }
-        requires queries { All (HasQuery self.now) stretch.old }
-        ensures { AreRight R.collection self.now stretch.new }
-    {
-        let workers = self.asking.workers as usize;
-        thread::for_each_mut(rt, stretch, workers, &|_, found| self.find(alloc, found));
-    }
-
     /// The answer to query i: from what was found ahead, or by a search now, which may find further answers ahead.
     pub fn answer<
         T: Threads + Sync,

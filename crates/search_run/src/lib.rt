@@ -5,6 +5,7 @@
 mod batch;
 mod commands;
 mod crew;
+mod dealing;
 mod finding;
 mod input;
 mod laws;
