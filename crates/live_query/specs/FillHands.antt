@@ -1,4 +1,4 @@
--- What the hand of a worker without locks holds in the fill part, what a call did to it, and when it is tied to an own record.
+-- What the hand of a worker holds in the fill part, what a call did to it, and when it is tied to an own record.
 use Rattle.std.specs.Prelude.{◌≡◌, ℕ, ◌<◌, ◌≤◌, ◌⊎◌, List, [], Some, Bool, true, false, length, slice_get, slice_set}
 use Rattle.list_totals.specs.Standing.{In}
 use Rattle.best_word.specs.Passes.{Best}

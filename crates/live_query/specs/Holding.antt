@@ -1,4 +1,4 @@
--- What a searcher keeps before the parts of a search, and over locked queues between them.
+-- What a searcher keeps before the parts of a search.
 use Rattle.std.specs.Prelude.{ℕ}
 use Rattle.claim_word.specs.Passes.{fresh_pass}
 use Rattle.best_word.specs.Passes.{Best}

@@ -29,7 +29,7 @@ use Rattle.live_query.specs.FillHands.{FillKept, FillTied}
 use Rattle.live_query.specs.DrainHands.{DrainKept, drain_over}
 use Rattle.live_query.specs.Knowing.{FillsOn, DrainsOn}
 
--- a searcher that holds its draws; and without locks one between the parts, in the fill part, and in the drain part
+-- a searcher that holds its draws; one between the parts, and in the fill part; and without locks one in the drain part
 abbrev pub Between : Type 0
 Between = Searcher Working Held
 

@@ -1,5 +1,6 @@
-//! What a worker without locks shares in the fill part: root children to claim, the bound word, and marks of what it put.
-//! No queue is there yet: a put is a mark, and the leaves that any worker has marked are sealed into runs after the part.
+//! What a worker shares in the fill part: root children to claim, the bound word, and marks of what it put.
+//! No queue is there yet: a put is a mark, and the leaves that any worker has marked are put into queues, or sealed into runs, after the
+//! part.
 ghost use Rattle.std.specs.Prelude.{◌≡◌};
 ghost use Rattle.live_query.specs.RootClaims.{IsOwn};
 

@@ -1,4 +1,4 @@
-//! The fill part without locks: the searchers claim root children and mark what they put, and the claims are closed.
+//! The fill part, which takes no lock: the searchers claim root children and mark what they put, and the claims are closed.
 ghost use Rattle.std.specs.Prelude.{◌≡◌, ◌≤◌, false, All, IfOk, length, map, replicate};
 ghost use Rattle.live_query.specs.RootClaims.{IsOwn};
 ghost use Rattle.live_query.specs.Parts.{AllFilled, Opens, filling, resting};

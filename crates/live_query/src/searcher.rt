@@ -55,7 +55,7 @@ impl<W> Searcher<W, ()> {
     }
 }
 
-/// What a searcher keeps before the parts, and over locked queues between them.
+/// What a searcher keeps before the parts.
 #[derive(Drop)]
 pub struct Holding {
     /// Its draws of the root children.
@@ -64,7 +64,7 @@ pub struct Holding {
     pub seen: WordPass,
 }
 
-/// What a searcher without locks keeps between the parts: its pass of the bound word, and for each leaf whether it put the leaf.
+/// What a searcher keeps between the parts: its pass of the bound word, and for each leaf whether it put the leaf.
 #[derive(Drop)]
 pub struct Rested {
     /// Its pass of the bound word.
