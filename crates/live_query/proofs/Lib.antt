@@ -28,5 +28,6 @@ pub mod Fronts
 pub mod LockRows
 pub mod LockColumns
 pub mod LockGather
+pub mod PortionsDealt
 pub mod QueuesFilled
 pub mod LockedClose

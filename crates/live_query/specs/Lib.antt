@@ -8,6 +8,8 @@ pub mod LockHands
 pub mod Knowing
 pub mod LockKnowing
 pub mod Efforts
+-- The limits of portions that the workers share.
+pub mod PortionRows
 -- What the fill part leaves, the runs that are sealed, and what the drain part makes of them.
 pub mod Resting
 pub mod Holding

@@ -91,6 +91,10 @@ impl<'a> Shared for DrainHand<'a> {
         self.word.read(&mut self.seen)
     }
 
+    fn read_within(&mut self, most: u64) -> u64 {
+        self.word.read(&mut self.seen).min(most)
+    }
+
     fn offer(&mut self, v: u64) -> u64 {
         self.word.offer(&mut self.seen, v)
     }

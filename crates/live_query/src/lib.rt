@@ -20,6 +20,7 @@ mod locking;
 mod locks;
 mod marked;
 mod opening;
+mod portions;
 mod root_claims;
 mod sealed;
 mod search;

@@ -6,7 +6,9 @@ ghost use Rattle.search_machine.specs.Basics.{start_of};
 ghost use Rattle.query_core.specs.Questions.{search_over};
 ghost use Rattle.live_query.specs.RootClaims.{Drawn};
 ghost use Rattle.live_query.specs.Parts.{Opens};
+ghost use Rattle.live_query.specs.PortionRows.{AreRows};
 
+use crate::portions::share_limits;
 use crate::root_claims::{Drawing, RootClaims};
 use crate::search::Search;
 use crate::searcher::{Holding, Searcher};
@@ -29,15 +31,19 @@ pub(crate) struct Opened<'a, R: Rows> {
     pub team: Vec<Searcher<Worker<'a, R>, Holding>>,
 }
 
-/// Opens a search by 1 to 64 workers over 1 to 64 queues.
+/// Opens a search by 1 to 64 workers over 1 to 64 queues, who share these limits of portions.
 pub(crate) fn open<'a, R: Rows>(
     alloc: Global,
     search: &Search<'a, R>,
     workers: u32,
+    limits: &'a [BestWord],
+    passes: Vec<Vec<WordPass>>,
 ) -> Result<Opened<'a, R>, NoMemory>
     requires fits { IndexFits search.now.task.now.collection search.now.task.now.layout search.now.index.now }
     requires workers { (1 ≤ workers) × (workers ≤ 64) }
     requires queues { (1 ≤ search.now.queues) × (search.now.queues ≤ 64) }
+    requires passes { let g = search_over search.now.task.now search.now.index.now 1 search.now.queues in
+        AreRows g limits.now workers passes.items }
     ensures start { IfOk result (λ o. o.start ≡ start_of (search_over search.now.task.now search.now.index.now 1 1)) }
     ensures count { IfOk result (λ o. length o.team.items ≡ workers) }
     ensures opens { IfOk result (λ o.
@@ -46,7 +52,7 @@ pub(crate) fn open<'a, R: Rows>(
     search_law(search.task, search.index);
     let (start, list) = search.task.opening(alloc, search.index)?;
     let (word, seen) = BestWord::begin(alloc, search.task, limit_of(start), workers)?;
-    let hired = hire(
+    let mut hired = hire(
         alloc,
         search.task,
         search.index,
@@ -55,6 +61,7 @@ pub(crate) fn open<'a, R: Rows>(
         start,
         list,
     )?;
+    share_limits(alloc, search, limits, passes, &mut hired)?;
     let (claims, drawings) = RootClaims::begin(alloc, search.index.root_count(), workers)?;
     let team = open_team(alloc, hired, seen, drawings)?;
     Ok(Opened {

@@ -9,6 +9,7 @@ use crate::concluding::outcome_of;
 use crate::drain_part::drain_part;
 use crate::fill_part::fill_part;
 use crate::opening::{Opened, open};
+use crate::portions::begin_limits;
 use crate::search::Search;
 use outside::{Gate, NoMemory};
 use query_core::{Outcome, Task};
@@ -42,7 +43,8 @@ pub fn nearest_sealed<T: Threads + Sync, R: Rows + Sync, G: Gate + Sync>(
         index,
         queues,
     };
-    let opened = open(alloc, &search, workers)?;
+    let (limits, passes) = begin_limits(alloc, &search, workers)?;
+    let opened = open(alloc, &search, workers, &limits, passes)?;
     let Opened {
         start,
         word,

@@ -1,8 +1,10 @@
-//! Searches by several workers: worked rows, rows that are watched, gates, workers that are held, and random small collections.
+//! Searches by several workers: worked rows, rows that are watched, gates, workers that are held, limits that they share, and random
+//! small collections.
 mod forms;
 mod gates;
 mod held;
 mod plain;
 mod points;
+mod shared_limits;
 mod watched;
 mod worked;

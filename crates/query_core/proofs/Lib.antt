@@ -25,4 +25,6 @@ pub mod LeavesNear
 pub mod LeavesMet
 pub mod BelowMeans
 pub mod Different
+pub mod Portions
+pub mod LimitsKept
 pub mod Sends

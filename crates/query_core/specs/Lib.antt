@@ -3,6 +3,8 @@ pub mod Questions
 -- A worker, and what one turn of it does.
 pub mod Working
 pub mod Turning
+-- Portions of the leaves, and the limits that workers share for them.
+pub mod Portions
 -- What one thread holds, and why a schedule gives no outcome.
 pub mod OneThread
 pub mod Replays

@@ -13,10 +13,12 @@ mod first_leaf;
 mod first_limit;
 mod index_laws;
 mod leaf_scan;
+mod limits;
 mod near_leaves;
 mod one_thread;
 mod opening;
 mod playing;
+mod portion_laws;
 mod scan;
 mod shared;
 mod stage;
@@ -32,9 +34,11 @@ pub use alone::one_worker;
 pub use answer::one_worker_answer;
 pub use conclusion::conclude;
 pub use index_laws::{index_law, search_law};
+pub use limits::Limits;
 pub use one_thread::OneThread;
 pub use opening::{empty_queues, hire, limit_of};
 pub use playing::{ReplayError, replay};
+pub use portion_laws::{portions_example, portions_law};
 pub use search_machine::examples::{
     late_example, one_worker_example, shut_example, straight_example,
 };

@@ -103,6 +103,11 @@ impl<'a, R: Rows> Shared for OneThread<'a, R> {
         self.word
     }
 
+    /// It is the bound word: the machine's turn knows no other limit.
+    fn read_within(&mut self, _most: u64) -> u64 {
+        self.word
+    }
+
     fn offer(&mut self, v: u64) -> u64 {
         let before = self.word;
         self.word = before.min(v);

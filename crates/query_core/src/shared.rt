@@ -31,6 +31,14 @@ pub trait Shared {
         ensures floor { floor self.new ≡ floor self.old }
         ensures roots { roots self.new ≡ roots self.old };
 
+    /// The bound word, or `most` where that is less: it too may be taken for a limit.
+    fn read_within(&mut self, most: u64) -> u64
+        requires { floor self.old ≤ most }
+        ensures did { did self.old Call.Read (Reply.Seen result) self.new }
+        ensures low { floor self.old ≤ result }
+        ensures floor { floor self.new ≡ floor self.old }
+        ensures roots { roots self.new ≡ roots self.old };
+
     /// Makes the bound word no more than `v`, and answers what it was.
     fn offer(&mut self, v: u64) -> u64
         requires { floor self.old ≤ v }

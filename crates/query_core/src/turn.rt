@@ -3,10 +3,12 @@ ghost use Rattle.std.specs.Prelude.{◌≡◌, ◌≢◌, ℕ, suc, ◌<◌, ◌
 ghost use Rattle.search_machine.specs.Ground.{worst};
 ghost use Rattle.search_machine.specs.Workers.{Worker as Shown, onward, scanned_by};
 ghost use Rattle.query_core.specs.Questions.{last_of, view_in};
+ghost use Rattle.query_core.specs.Portions.{portion_of};
 ghost use Rattle.query_core.specs.Walks.{IsEntry};
 ghost use Rattle.query_core.specs.Turning.{Acts, Turns, search_of, taken_by};
 ghost use Rattle.query_core.specs.Working.{IsOf, OnwardInRange, Shows, is_marked};
 
+use crate::limits::{most_of, note_scan};
 use crate::scan::distance_of_worst;
 use crate::shared::Shared;
 use crate::stage::Stage;
@@ -139,7 +141,8 @@ impl<'a, R: Rows> Worker<'a, R> {
         requires floor { S.floor hand.old ≡ last_of self.old.question }
         ensures { Acts S.floor S.roots S.did hand.old hand.new self.old self.new result }
     {
-        let limit = hand.read();
+        let most = self.most();
+        let limit = hand.read_within(most);
         self.stage = Stage::Pop(place, limit);
         Reply::Seen(limit)
     }
@@ -192,6 +195,24 @@ impl<'a, R: Rows> Worker<'a, R> {
         distance_of_worst(&self.list)
     }
 
+    // What is no less than the limits of all portions; `NONE` where it knows none.
+    fn most(&mut self) -> u64
+        ensures same { self.new ≡ self.old }
+        ensures low { last_of self.old.question ≤ result }
+    {
+        most_of(&mut self.limits)
+    }
+
+    // The portion to which a leaf belongs.
+    fn portion_of(&self, leaf: u32) -> u32
+        ensures { result ≡ portion_of (search_of self.now 1) leaf }
+    {
+        match self.start {
+            Some(start) if start == leaf => 0,
+            _ => leaf % self.queues,
+        }
+    }
+
     // Scans a leaf that it has not scanned with this limit; a number that is no leaf, and a leaf that it has scanned, are
     // passed over.
     fn take(&mut self, leaf: u32, limit: u64, next: Onward)
@@ -216,9 +237,12 @@ impl<'a, R: Rows> Worker<'a, R> {
         ensures scanned { (workers : ℕ) (m : Shown) → Shows self.old m
             → Shows self.new (scanned_by (search_of self.old workers) m leaf limit next) }
     {
+        let portion = self.portion_of(leaf);
+        let rank = self.task.k().div_ceil(self.queues);
         self.task
             .scan_boxed(self.index, leaf, limit, &mut self.list);
         self.marks[leaf as usize] = true;
+        note_scan(&mut self.limits, portion, rank, &self.list);
         self.stage = Stage::after_scan(distance_of_worst(&self.list), limit, next);
     }
 }

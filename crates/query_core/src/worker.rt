@@ -1,13 +1,16 @@
 //! The worker: its phase, its walk, its list, and one mark a leaf that it scanned.
-ghost use Rattle.std.specs.Prelude.{◌≡◌, ◌<◌, ◌≤◌, ◌↔◌, IsTrue, not, IfOk, IfSome};
+ghost use Rattle.std.specs.Prelude.{◌≡◌, ◌%◌, ◌<◌, ◌≤◌, ◌↔◌, IsTrue, true, not, IfOk, IfSome};
 ghost use Rattle.std.specs.Option.{option_map};
 ghost use Rattle.subtree_build.specs.Fits.{Fits as IndexFits};
 ghost use Rattle.search_machine.specs.Basics.{start_of};
 ghost use Rattle.search_machine.specs.declared.phase.Phase.TheVariants.{Done};
 ghost use Rattle.search_machine.specs.Workers.{fills};
 ghost use Rattle.query_core.specs.Questions.{search_over};
+ghost use Rattle.query_core.specs.Portions.{AreLimits};
+ghost use Rattle.query_core.specs.Turning.{search_of};
 ghost use Rattle.query_core.specs.Working.{AreOpeningMarks, HoldsSeries, IsOf, Shows, opened_list, opens_as};
 
+use crate::limits::Limits;
 use crate::stage::Stage;
 use crate::task::Task;
 use crate::walk::Walk;
@@ -19,7 +22,8 @@ use std::marker::Model;
 use subtree_build::Index;
 
 /// A worker of a search (the MESSI paper, Peng, Fatourou, Palpanas, ICDE 2020). It is seen as its question and index, its
-/// number, the number of queues, its phase, the leaves that it has still to look at, its list, and its marks.
+/// number, the number of queues, its phase, the leaves that it has still to look at, its list, and its marks. The limits of portions, which
+/// several workers share, change only what a read is answered.
 #[derive(Drop)]
 pub struct Worker<'a, R: Rows> {
     pub(crate) task: &'a Task<'a, R>,
@@ -31,13 +35,17 @@ pub struct Worker<'a, R: Rows> {
     pub(crate) walk: Walk<'a>,
     pub(crate) list: KBest,
     pub(crate) marks: Vec<bool>,
+    // those of the portions, where workers share them
+    pub(crate) limits: Option<Limits<'a>>,
 }
 
 impl<'a, R: Rows> Model for Worker<'a, R> {
     ghost use Rattle.std.specs.Coded.{codes};
     ghost use Rattle.subtree_build.specs.contracts.node.Node as node;
     ghost use Rattle.search_machine.specs.Workers.{without};
+    ghost use Rattle.query_core.specs.Questions.{search_over};
     ghost use Rattle.query_core.specs.Working.{Working, IsWorking, phase_of, working};
+    ghost use Rattle.query_core.specs.Portions.{Keeps};
 
     ghost Value = { Working };
 
@@ -47,7 +55,8 @@ impl<'a, R: Rows> Model for Worker<'a, R> {
         (without w.start w.walk.leaves) w.list.pairs w.marks.items };
 
     ghost invariant = { λ w. IsWorking w.start w.walk w.list w.stage (working w.task.now w.index.now w.number w.queues (phase_of w.stage)
-        (without w.start w.walk.leaves) w.list.pairs w.marks.items) };
+        (without w.start w.walk.leaves) w.list.pairs w.marks.items)
+        × Keeps (search_over w.task.now w.index.now 1 w.queues) w.marks.items w.limits };
 }
 
 impl<'a, R: Rows> Worker<'a, R> {
@@ -89,7 +98,18 @@ impl<'a, R: Rows> Worker<'a, R> {
             walk,
             list,
             marks,
+            limits: None,
         })
+    }
+
+    /// Lets the worker share these limits of portions. It is as it opened, and its first queue is its first portion.
+    pub fn share(&mut self, limits: Limits<'a>)
+        requires opens { Shows self.old (opens_as (search_of self.old 1) self.old.number) }
+        requires limits { AreLimits (search_of self.old 1) limits }
+        requires home { (limits.home ≡ self.old.number % self.old.queues) × (limits.at_home ≡ true) }
+        ensures same { self.new ≡ self.old }
+    {
+        self.limits = Some(limits);
     }
 
     /// Whether its fill part has ended: a claim of its own was answered None.

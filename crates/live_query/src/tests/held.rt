@@ -14,7 +14,7 @@ const LOOKS: u32 = 1_000_000_000;
 
 /// A worker is held before this turn of its own until the other has come to that turn.
 #[derive(Clone, Copy, Debug)]
-struct Hold {
+pub(super) struct Hold {
     worker: u32,
     before: u64,
     until: u64,
@@ -22,14 +22,14 @@ struct Hold {
 
 /// A gate of two workers that counts the turns to which each has come, and holds them.
 #[derive(Drop)]
-struct Holding {
+pub(super) struct Holding {
     holds: [Hold; 3],
     turns: [AtomicU64; 2],
     ran_out: AtomicU64,
 }
 
 impl Holding {
-    fn at(holds: [Hold; 3]) -> Holding {
+    pub(super) fn at(holds: [Hold; 3]) -> Holding {
         Holding {
             holds,
             turns: [AtomicU64::new(0), AtomicU64::new(0)],
@@ -38,7 +38,7 @@ impl Holding {
     }
 
     /// How many turns the worker has come to.
-    fn come(&self, worker: usize) -> u64 {
+    pub(super) fn come(&self, worker: usize) -> u64 {
         match self.turns.get(worker) {
             Some(turns) => turns.load(Ordering::SeqCst),
             None => 0,
@@ -53,6 +53,11 @@ impl Holding {
             }
         }
         self.ran_out.fetch_add(1, Ordering::SeqCst);
+    }
+
+    /// How many workers waited in vain.
+    pub(super) fn in_vain(&self) -> u64 {
+        self.ran_out.load(Ordering::SeqCst)
     }
 }
 
@@ -72,7 +77,8 @@ impl Gate for Holding {
     }
 }
 
-fn waits(worker: u32, before: u64, until: u64) -> Hold {
+/// The worker waits before this turn of its own until the other has come to that turn.
+pub(super) fn waits(worker: u32, before: u64, until: u64) -> Hold {
     Hold {
         worker,
         before,
@@ -149,7 +155,7 @@ fn a_worker_that_stands_at_a_queue_changes_no_answer(rt: HostRuntime) -> Result<
             let gate = Holding::at(case.holds);
             let outcome = searched(&rt, alloc, &task, &index, &gate, form)?;
             assert_eq!(rt;
-                gate.ran_out.load(Ordering::SeqCst),
+                gate.in_vain(),
                 0,
                 "a held worker waited for the other, {form:?}, {case:?}"
             );

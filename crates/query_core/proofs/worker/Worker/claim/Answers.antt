@@ -10,7 +10,7 @@ use Rattle.query_core.proofs.worker.Worker.claim.Goals as goal
 pub returns-in-Some : goal.returns-in-Some
 returns-in-Some g c =
     let inside = c.self.inside in
-    let kept = c.self.invariant in
+    let kept = c.self.invariant.0 in
     let root = c.in-Some.root in
     let real : root < length inside.index.now.nodes =
     omega (

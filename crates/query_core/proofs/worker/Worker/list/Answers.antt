@@ -7,7 +7,7 @@ use Rattle.query_core.proofs.worker.Worker.list.Goals as goal
 pub returns-clause-series : goal.returns-clause-series
 returns-clause-series g c =
     let inside = c.self.inside in
-    let found = c.self.invariant.found in
+    let found = c.self.invariant.0.found in
     subst (λ (w : Working). HoldsSeries w.question w.list) c.self.view_is
     (record {
       ascending = found.ascending;

@@ -10,7 +10,7 @@ returns-in-Some g c =
     _ c.args.self.now c.read-limit.result _ c.self.inside.start c.self.inside.walk.leaves c.next.new.self.leaves
     c.view.result.now c.self.inside.walk.index c.self.view_is c.requires.phase c.requires.floor c.read-limit.ensures.low
     c.read-limit.ensures.did (c.read-limit.ensures.floor, c.read-limit.ensures.roots) refl c.view.ensures.view
-    c.self.invariant.walk_index c.far.ensures c.in-Some.ensures.next
+    c.self.invariant.0.walk_index c.far.ensures c.in-Some.ensures.next
 
 pub returns-in-None : goal.returns-in-None
 returns-in-None g c =
@@ -18,4 +18,4 @@ returns-in-None g c =
     _ c.args.self.now c.read-limit.result _ c.self.inside.start c.self.inside.walk.leaves c.next.new.self.leaves
     c.view.result.now c.self.inside.walk.index c.self.view_is c.requires.phase c.requires.floor c.read-limit.ensures.low
     c.read-limit.ensures.did (c.read-limit.ensures.floor, c.read-limit.ensures.roots) refl c.view.ensures.view
-    c.self.invariant.walk_index c.far.ensures c.in-None.ensures.next
+    c.self.invariant.0.walk_index c.far.ensures c.in-None.ensures.next

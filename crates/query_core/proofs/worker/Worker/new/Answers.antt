@@ -25,22 +25,24 @@ invariant_of-result g c =
     c.args.number c.leaf_count.result c.in_ok-marks.marks.items c.leaf_count.ensures.count c.in_ok-marks.ensures in
     let searched : CanBeSearched a ix =
     record { question = c.k-k.ensures.question; index = c.leaf_count.ensures.is_index; fits = c.requires.fits } in
-    let fits = search_fits a ix 1 c.args.queues searched (omega arith) c.requires.queues.0 in
-    record {
-      searched = searched;
-      number_limit = c.requires.number;
-      some_queue = c.requires.queues.0;
-      few_queues = c.requires.queues.1;
-      start_is = opener_start a ix c.args.queues c.args.start c.leaf_of-start.result c.requires.start
-          c.leaf_of-start.ensures;
-      walk_index = ap (λ (w : Walked). w.index) c.new-walk.ensures;
-      wanted = ap (λ (b : Best). b.k) c.requires.list;
-      found = subst (λ (ps : List Pair). IsFound search c.in_ok-marks.marks.items ps)
-          (sym (ap (λ (b : Best). b.pairs) c.requires.list))
-          (opener_found search fits c.args.number c.in_ok-marks.marks.items marks);
-      marks = marks.count;
-      range = tt;
-    }
+    let fits = search_fits a ix 1 c.args.queues searched (omega arith) c.requires.queues.0 in (
+      record {
+        searched = searched;
+        number_limit = c.requires.number;
+        some_queue = c.requires.queues.0;
+        few_queues = c.requires.queues.1;
+        start_is = opener_start a ix c.args.queues c.args.start c.leaf_of-start.result c.requires.start
+            c.leaf_of-start.ensures;
+        walk_index = ap (λ (w : Walked). w.index) c.new-walk.ensures;
+        wanted = ap (λ (b : Best). b.k) c.requires.list;
+        found = subst (λ (ps : List Pair). IsFound search c.in_ok-marks.marks.items ps)
+            (sym (ap (λ (b : Best). b.pairs) c.requires.list))
+            (opener_found search fits c.args.number c.in_ok-marks.marks.items marks);
+        marks = marks.count;
+        range = tt;
+      },
+      tt,
+    )
 
 pub returns-clause-opens : goal.returns-clause-opens
 returns-clause-opens g c =

@@ -7,7 +7,7 @@ use Rattle.query_core.proofs.worker.Worker.take.Goals as goal
 
 pub returns-then-not-has_scanned-clause-taken : goal.returns-then-not-has_scanned-clause-taken
 returns-then-not-has_scanned-clause-taken g c workers m shows =
-    let kept = c.self.invariant in
+    let kept = c.self.invariant.0 in
     let old = c.args.self.now in
     let leaf : c.args.leaf < length old.index.leaves =
     subst (λ w. c.args.leaf < length w.index.leaves) c.self.view_is

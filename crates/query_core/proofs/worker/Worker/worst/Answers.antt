@@ -9,7 +9,7 @@ use Rattle.query_core.proofs.worker.Worker.worst.Goals as goal
 pub returns-clause-low : goal.returns-clause-low
 returns-clause-low g c =
     let inside = c.self.inside in
-    let kept = c.self.invariant in
+    let kept = c.self.invariant.0 in
     let a = inside.task.now in
     let ix = inside.index.now in
     let low =

@@ -1,0 +1,14 @@
+-- The words of the portions so far, with their rows.
+use Rattle.std.proofs.Common.{◌≡◌, ◌≤◌, vec_capacity, vec_len}
+use Rattle.query_core.specs.Questions.{search_over}
+use Rattle.live_query.specs.PortionRows.{AreRows}
+use Rattle.live_query.proofs.portions.begin_limits.Given as goal
+
+abbrev pub invariant-loop-number : goal.invariant-loop-number
+invariant-loop-number g l = record {
+  len : vec_len l.words ≡ l.number;
+  long : vec_len l.rows ≡ l.number;
+  room : l.portions ≤ vec_capacity l.words;
+  space : l.portions ≤ vec_capacity l.rows;
+  rows : AreRows (search_over l.search.task.now l.search.index.now 1 l.search.queues) l.words.items l.workers l.rows.items;
+}
