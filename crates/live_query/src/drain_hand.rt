@@ -87,11 +87,7 @@ impl<'a> Shared for DrainHand<'a> {
         None
     }
 
-    fn read(&mut self) -> u64 {
-        self.word.read(&mut self.seen)
-    }
-
-    fn read_within(&mut self, most: u64) -> u64 {
+    fn read(&mut self, most: u64) -> u64 {
         self.word.read(&mut self.seen).min(most)
     }
 

@@ -100,11 +100,7 @@ impl<'a> Shared for FillHand<'a> {
         self.claims.claim(&mut self.drawing)
     }
 
-    fn read(&mut self) -> u64 {
-        self.word.read(&mut self.seen)
-    }
-
-    fn read_within(&mut self, most: u64) -> u64 {
+    fn read(&mut self, most: u64) -> u64 {
         self.word.read(&mut self.seen).min(most)
     }
 

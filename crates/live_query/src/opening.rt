@@ -1,4 +1,5 @@
 //! What a search opens with in both of its forms: the bound word, the root children to claim, and a searcher for each worker.
+ghost use Rattle.live_query.specs.PortionRows.{AreRows};
 ghost use Rattle.std.specs.Prelude.{◌≡◌, ◌≤◌, ℕ, All, IfOk, length, map, vec_len};
 ghost use Rattle.subtree_build.specs.Fits.{Fits as IndexFits};
 ghost use Rattle.best_word.specs.Passes.{Best, fresh_pass as fresh_seen};
@@ -6,7 +7,6 @@ ghost use Rattle.search_machine.specs.Basics.{start_of};
 ghost use Rattle.query_core.specs.Questions.{search_over};
 ghost use Rattle.live_query.specs.RootClaims.{Drawn};
 ghost use Rattle.live_query.specs.Parts.{Opens};
-ghost use Rattle.live_query.specs.PortionRows.{AreRows};
 
 use crate::portions::share_limits;
 use crate::root_claims::{Drawing, RootClaims};

@@ -6,8 +6,8 @@ ghost use Rattle.best_word.specs.Passes.{Best};
 ghost use Rattle.search_machine.specs.Ground.{Ground};
 ghost use Rattle.query_core.specs.Portions.{portion_last};
 ghost use Rattle.query_core.specs.Questions.{search_over};
-ghost use Rattle.query_core.specs.Teams.{AreHired};
 ghost use Rattle.live_query.specs.PortionRows.{AreRows, AreTaken, PassRow};
+ghost use Rattle.query_core.specs.Teams.{AreHired};
 
 use crate::search::Search;
 use best_word::{BestWord, Floor, WordPass};
@@ -94,10 +94,8 @@ pub(crate) fn share_limits<'a, R: Rows>(
 // A pass from each row.
 fn take_passes(alloc: Global, rows: &mut Vec<Vec<WordPass>>) -> Result<Vec<WordPass>, NoMemory>
     requires some { (c : ℕ) (row : PassRow) → slice_get rows.old.items c ≡ Some row → 0 < vec_len row }
-    ensures passes { (g : Ground) (words : List Best) (n : ℕ) → AreRows g words (suc n) rows.old.items
-        → IfOk result (λ passes. AreTaken g words passes.items) }
-    ensures rows { (g : Ground) (words : List Best) (n : ℕ) → AreRows g words (suc n) rows.old.items
-        → IfOk result (λ _. AreRows g words n rows.new.items) }
+    ensures dealt { (g : Ground) (words : List Best) (n : ℕ) → AreRows g words (suc n) rows.old.items
+        → IfOk result (λ passes. AreTaken g words passes.items × AreRows g words n rows.new.items) }
 {
     let mut passes = Vec::with_capacity(alloc, rows.len())?;
     for portion in 0..rows.len() {

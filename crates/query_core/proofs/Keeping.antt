@@ -11,6 +11,7 @@ use Rattle.query_core.specs.Portions.{CanLimit, Keeps, Limited, portion_of, port
 use Rattle.query_core.specs.Questions.{leaf_series, search_over, view_in}
 use Rattle.query_core.specs.declared.stage.Stage.{Stage}
 use Rattle.query_core.specs.Walks.{Walked}
+use Rattle.query_core.specs.Turning.{search_of}
 use Rattle.query_core.specs.Working.{Working, IsFound, IsWorking, StageInRange, is_marked, phase_of}
 use Rattle.query_core.proofs.Found.{found_scanned}
 use Rattle.query_core.proofs.OfIndex.{search_fits}
@@ -19,6 +20,11 @@ use Rattle.query_core.proofs.LimitsKept.{can_limit}
 -- a leaf of a worker that is seen as another one
 pub leaf_of_same : (w old : Working) (l : ℕ) → w ≡ old → l < length old.index.leaves → l < length w.index.leaves
 leaf_of_same w old l same real = subst (λ (o : Working). l < length o.index.leaves) (sym same) real
+
+-- and so of its portion
+pub portion_of_same : (w old : Working) (l portion : ℕ) → w ≡ old → portion ≡ portion_of (search_of old 1) l
+    → portion ≡ portion_of (search_of w 1) l
+portion_of_same w old l portion same of = subst (λ (o : Working). portion ≡ portion_of (search_of o 1) l) (sym same) of
 
 -- after a scan of a leaf without a mark, the list holds what was found in leaves with marks
 pub scan_finds : (start : Option ℕ) (walk : Walked) (best : Best) (stage : Stage) (w : Working) (l v : ℕ) (ps : List Pair)

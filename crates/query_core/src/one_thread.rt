@@ -99,12 +99,8 @@ impl<'a, R: Rows> Shared for OneThread<'a, R> {
         }
     }
 
-    fn read(&mut self) -> u64 {
-        self.word
-    }
-
     /// It is the bound word: the machine's turn knows no other limit.
-    fn read_within(&mut self, _most: u64) -> u64 {
+    fn read(&mut self, _most: u64) -> u64 {
         self.word
     }
 

@@ -14,7 +14,7 @@ use crate::shared::Shared;
 use crate::stage::Stage;
 use crate::worker::Worker;
 use search_machine::{Onward, Phase, Reply};
-use series_core::{Entry, PopReply, PutReply, Rows, far};
+use series_core::{Entry, NONE, PopReply, PutReply, Rows, far};
 
 /// Whether a worker has more turns.
 #[derive(Clone, Copy, PartialEq, Eq, Debug)]
@@ -90,7 +90,7 @@ impl<'a, R: Rows> Worker<'a, R> {
         requires floor { S.floor hand.old ≡ last_of self.old.question }
         ensures { Acts S.floor S.roots S.did hand.old hand.new self.old self.new result }
     {
-        let limit = hand.read();
+        let limit = hand.read(self.no_limit());
         match self.walk.next(self.task.view(), far(limit), self.start) {
             Some(entry) => {
                 self.stage = Stage::Give(entry);
@@ -124,7 +124,7 @@ impl<'a, R: Rows> Worker<'a, R> {
         requires floor { S.floor hand.old ≡ last_of self.old.question }
         ensures { Acts S.floor S.roots S.did hand.old hand.new self.old self.new result }
     {
-        let limit = hand.read();
+        let limit = hand.read(self.no_limit());
         if entry.bound <= far(limit) {
             self.take(entry.leaf, limit, Onward::Look);
             Reply::Seen(limit)
@@ -142,7 +142,7 @@ impl<'a, R: Rows> Worker<'a, R> {
         ensures { Acts S.floor S.roots S.did hand.old hand.new self.old self.new result }
     {
         let most = self.most();
-        let limit = hand.read_within(most);
+        let limit = hand.read(most);
         self.stage = Stage::Pop(place, limit);
         Reply::Seen(limit)
     }
@@ -193,6 +193,15 @@ impl<'a, R: Rows> Worker<'a, R> {
         ensures low { last_of self.now.question ≤ result }
     {
         distance_of_worst(&self.list)
+    }
+
+    // `NONE`, which is no less than the last distance.
+    fn no_limit(&self) -> u64
+        ensures low { last_of self.now.question ≤ result }
+    {
+        // for the fact that the worker's index can be searched for its question
+        let _k = self.task.k();
+        NONE
     }
 
     // What is no less than the limits of all portions; `NONE` where it knows none.

@@ -8,10 +8,26 @@ use Rattle.search_machine.proofs.Places.{get_some}
 use Rattle.query_core.specs.Portions.{AreLimits, Limited}
 use Rattle.query_core.specs.Questions.{search_over}
 use Rattle.query_core.specs.Turning.{search_of}
-use Rattle.query_core.specs.Working.{Shows, Working, opens_as}
+use Rattle.query_core.specs.Working.{IsOf, Shows, Working, opens_as}
 use Rattle.live_query.proofs.Openers.{search_at}
 use Rattle.live_query.proofs.PortionsDealt.{limits_dealt}
+use Rattle.live_query.proofs.portions.share_limits.Given.{Over}
 use Rattle.live_query.proofs.portions.share_limits.Goals as goal
+
+-- the worker at the place of the loop is that with which the call began
+worker_at : (g : Over) (c : goal.After-new g) → slice_get c.args.workers.now.items c.loop-i.i ≡ Some c.index_mut.result.now
+worker_at g c =
+    let was = c.loop-i.invariant in
+    let i = c.loop-i.i in
+    let w : Working = c.index_mut.result.now in
+    let low : i < length c.loop-i.workers.items = omega (arith, c.loop-i-test.true, c.len-i-end.ensures, was.len, c.loop-i.workers.ok.0) in
+    ap (λ (ws : List Working). slice_get ws i) (sym was.same)
+    ∙ slice_get-get_or c.loop-i.workers.items i w low ∙ ap Some (sym c.index_mut.ensures.value)
+
+-- and so has its place
+place_at : (g : Over) (c : goal.After-new g)
+    → IsOf c.args.search.now.task.now c.args.search.now.index.now c.args.search.now.queues c.loop-i.i c.index_mut.result.now
+place_at g c = c.requires.hired.places c.loop-i.i c.index_mut.result.now (worker_at g c)
 
 pub take_passes-requires : goal.take_passes-requires
 take_passes-requires g c = record {
@@ -27,54 +43,30 @@ take_passes-requires g c = record {
 
 pub share-requires-clause-opens : goal.share-requires-clause-opens
 share-requires-clause-opens g c =
-    let was = c.loop-i.invariant in
-    let a = c.args.search.now in
-    let i = c.loop-i.i in
     let w : Working = c.index_mut.result.now in
-    let low : i < length c.loop-i.workers.items = omega (arith, c.loop-i-test.true, c.len-i-end.ensures, was.len, c.loop-i.workers.ok.0) in
-    let at : slice_get c.args.workers.now.items i ≡ Some w
-    = ap (λ (ws : List Working). slice_get ws i) (sym was.same)
-    ∙ slice_get-get_or c.loop-i.workers.items i w low ∙ ap Some (sym c.index_mut.ensures.value) in
-    let place = c.requires.hired.places i w at in
-    let g0 = search_over a.task.now a.index.now 1 a.queues in
-    let same : search_of w 1 ≡ g0 = search_at a.task.now a.index.now a.queues i w place in
+    let place = place_at g c in
+    let same = search_at c.args.search.now.task.now c.args.search.now.index.now c.args.search.now.queues c.loop-i.i w place in
     subst (λ (n : ℕ). Shows w (opens_as (search_of w 1) n)) (sym place.number)
-    (subst (λ (s : Ground). Shows w (opens_as s i)) (sym same) (c.requires.hired.opens i w at))
+    (subst (λ (s : Ground). Shows w (opens_as s c.loop-i.i)) (sym same) (c.requires.hired.opens c.loop-i.i w (worker_at g c)))
 
 pub share-requires-clause-limits : goal.share-requires-clause-limits
 share-requires-clause-limits g c =
-    let was = c.loop-i.invariant in
     let a = c.args.search.now in
     let i = c.loop-i.i in
-    let w : Working = c.index_mut.result.now in
-    let low : i < length c.loop-i.workers.items = omega (arith, c.loop-i-test.true, c.len-i-end.ensures, was.len, c.loop-i.workers.ok.0) in
-    let at : slice_get c.args.workers.now.items i ≡ Some w
-    = ap (λ (ws : List Working). slice_get ws i) (sym was.same)
-    ∙ slice_get-get_or c.loop-i.workers.items i w low ∙ ap Some (sym c.index_mut.ensures.value) in
-    let place = c.requires.hired.places i w at in
     let g0 = search_over a.task.now a.index.now 1 a.queues in
-    let same : search_of w 1 ≡ g0 = search_at a.task.now a.index.now a.queues i w place in
-    let words = c.args.words.now in
-    let passes = c.in_ok-passes.passes.items in
     let left : ℕ = vec_len c.args.workers.now - i - 1 in
-    let are = was.left (suc left) (omega (arith, c.loop-i-test.true, c.len-i-end.ensures, was.len)) in
-    subst (λ (s : Ground). AreLimits s c.new.result) (sym same)
+    let are = c.loop-i.invariant.left (suc left) (omega (arith, c.loop-i-test.true, c.len-i-end.ensures, c.loop-i.invariant.len)) in
+    subst (λ (s : Ground). AreLimits s c.new.result)
+    (sym (search_at a.task.now a.index.now a.queues i c.index_mut.result.now (place_at g c)))
     (subst (AreLimits g0) (sym c.new.ensures)
-    (limits_dealt g0 words passes i c.requires.queues.0 (omega (arith, c.if-words-search.false))
-    (c.in_ok-passes.ensures.passes g0 words left are)))
+    (limits_dealt g0 c.args.words.now c.in_ok-passes.passes.items i c.requires.queues.0 (omega (arith, c.if-words-search.false))
+    (c.in_ok-passes.ensures.dealt g0 c.args.words.now left are).0))
 
 pub share-requires-clause-home : goal.share-requires-clause-home
 share-requires-clause-home g c =
-    let was = c.loop-i.invariant in
-    let a = c.args.search.now in
-    let i = c.loop-i.i in
     let w : Working = c.index_mut.result.now in
-    let low : i < length c.loop-i.workers.items = omega (arith, c.loop-i-test.true, c.len-i-end.ensures, was.len, c.loop-i.workers.ok.0) in
-    let at : slice_get c.args.workers.now.items i ≡ Some w
-    = ap (λ (ws : List Working). slice_get ws i) (sym was.same)
-    ∙ slice_get-get_or c.loop-i.workers.items i w low ∙ ap Some (sym c.index_mut.ensures.value) in
-    let place = c.requires.hired.places i w at in (
-      ap (λ (l : Limited). l.home) c.new.ensures ∙ ap (λ (n : ℕ). n % a.queues) (sym place.number)
+    let place = place_at g c in (
+      ap (λ (l : Limited). l.home) c.new.ensures ∙ ap (λ (n : ℕ). n % c.args.search.now.queues) (sym place.number)
           ∙ ap (λ (q : ℕ). w.number % q) (sym place.queues),
       ap (λ (l : Limited). l.at_home) c.new.ensures,
     )
@@ -83,12 +75,11 @@ pub loop-i-preserved : goal.loop-i-preserved
 loop-i-preserved g c =
     let was = c.loop-i.invariant in
     let a = c.args.search.now in
-    let i = c.loop-i.i in
-    let w : Working = c.index_mut.result.now in
     let g0 = search_over a.task.now a.index.now 1 a.queues in
     record {
-      same = ap (set c.loop-i.workers.items i) (c.share.ensures.same ∙ c.index_mut.ensures.value)
-          ∙ set-get_or c.loop-i.workers.items i w ∙ was.same;
+      same = ap (set c.loop-i.workers.items c.loop-i.i) (c.share.ensures.same ∙ c.index_mut.ensures.value)
+          ∙ set-get_or c.loop-i.workers.items c.loop-i.i c.index_mut.result.now ∙ was.same;
       len = was.len;
-      left = λ n all. c.in_ok-passes.ensures.rows g0 c.args.words.now n (was.left (suc n) (omega (arith, all)));
+      left = λ n all.
+          (c.in_ok-passes.ensures.dealt g0 c.args.words.now n (was.left (suc n) (omega (arith, all)))).1;
     }

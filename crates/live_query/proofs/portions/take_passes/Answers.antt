@@ -56,40 +56,25 @@ loop-portion-preserved c =
           (sym (was.behind (length c.loop-portion.passes.items) (omega (arith, place))) ∙ ap (slice_get rows) place ∙ at) c.in-Some.ensures.items));
     }
 
-pub returns-clause-passes : goal.returns-clause-passes
-returns-clause-passes c g words n are =
-    let was = c.loop-portion.invariant in
-    let rows = c.loop-portion.rows in
-    let passes = c.loop-portion.passes in
-    taken_all g words n c.args.rows.now.items rows.items passes.items are (was.taken g words n are)
-    (omega (
-      arith,
-      c.loop-portion-test.false,
-      c.len-portion-end.ensures,
-      c.loop-portion.auto.portion-end,
-      was.len,
-      was.count,
-      passes.ok.0,
-      c.args.rows.now.ok.0,
-      rows.ok.0,
-    ))
-    (omega (arith, was.len, rows.ok.0, c.args.rows.now.ok.0))
-
-pub returns-clause-rows : goal.returns-clause-rows
-returns-clause-rows c g words n are =
-    let was = c.loop-portion.invariant in
-    let rows = c.loop-portion.rows in
-    let passes = c.loop-portion.passes in
-    rows_left g words n c.args.rows.now.items rows.items passes.items are (was.taken g words n are)
-    (omega (
-      arith,
-      c.loop-portion-test.false,
-      c.len-portion-end.ensures,
-      c.loop-portion.auto.portion-end,
-      was.len,
-      was.count,
-      passes.ok.0,
-      c.args.rows.now.ok.0,
-      rows.ok.0,
-    ))
-    (omega (arith, was.len, rows.ok.0, c.args.rows.now.ok.0))
+pub returns : goal.returns
+returns c = record {
+  dealt = λ g words n are.
+      let was = c.loop-portion.invariant in
+      let rows = c.loop-portion.rows in
+      let passes = c.loop-portion.passes in
+      let all : length passes.items ≡ length c.args.rows.now.items = omega (
+        arith,
+        c.loop-portion-test.false,
+        c.len-portion-end.ensures,
+        c.loop-portion.auto.portion-end,
+        was.len,
+        was.count,
+        passes.ok.0,
+        c.args.rows.now.ok.0,
+        rows.ok.0,
+      ) in
+      let same : length rows.items ≡ length c.args.rows.now.items = omega (arith, was.len, rows.ok.0, c.args.rows.now.ok.0) in (
+        taken_all g words n c.args.rows.now.items rows.items passes.items are (was.taken g words n are) all same,
+        rows_left g words n c.args.rows.now.items rows.items passes.items are (was.taken g words n are) all same,
+      );
+}

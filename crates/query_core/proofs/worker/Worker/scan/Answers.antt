@@ -5,7 +5,7 @@ use Rattle.query_core.specs.Portions.{portion_of, portion_rank}
 use Rattle.query_core.specs.Questions.{search_over, view_in}
 use Rattle.query_core.specs.Turning.{search_of}
 use Rattle.query_core.specs.Working.{OnwardInRange, Working, is_marked, phase_of}
-use Rattle.query_core.proofs.Keeping.{leaf_of_same, scan_keeps, scan_offers}
+use Rattle.query_core.proofs.Keeping.{leaf_of_same, portion_of_same, scan_keeps, scan_offers}
 use Rattle.query_core.proofs.OfIndex.{search_fits}
 use Rattle.query_core.proofs.LimitsKept.{keeps_scanned}
 use Rattle.query_core.proofs.Portions.{rank_some}
@@ -25,18 +25,14 @@ note_scan-requires-clause-rank g c =
 pub note_scan-requires-clause-limits : goal.note_scan-requires-clause-limits
 note_scan-requires-clause-limits g c =
     let inside = c.self.inside in
-    let back = sym c.self.view_is in
-    let search = search_over inside.task.now inside.index.now 1 inside.queues in
-    let of : c.portion_of-portion.result ≡ portion_of search c.args.leaf
-    = subst (λ (w : Working). c.portion_of-portion.result ≡ portion_of (search_of w 1) c.args.leaf) back c.portion_of-portion.ensures in
-    let wanted : c.div_ceil-rank.result ≡ portion_rank search
-    = c.div_ceil-rank.ensures ∙ ap (λ (n : ℕ). div_ceil n inside.queues) c.k.ensures.k in (
-      search,
+    let real = leaf_of_same _ c.args.self.now c.args.leaf c.self.view_is c.requires.leaf in
+    let new = subst (λ w. is_marked w.marks c.args.leaf ≡ false) (sym c.self.view_is) c.requires.new in
+    let of = portion_of_same _ c.args.self.now c.args.leaf c.portion_of-portion.result c.self.view_is c.portion_of-portion.ensures in
+    let wanted = c.div_ceil-rank.ensures ∙ ap (λ (n : ℕ). div_ceil n inside.queues) c.k.ensures.k in (
+      search_over inside.task.now inside.index.now 1 inside.queues,
       scan_offers inside.start inside.walk inside.list inside.stage _ c.args.leaf c.args.limit c.scan_boxed.new.list.pairs
-          c.self.invariant.0 (leaf_of_same _ c.args.self.now c.args.leaf c.self.view_is c.requires.leaf)
-          (subst (λ w. is_marked w.marks c.args.leaf ≡ false) back c.requires.new)
-          (c.scan_boxed.ensures.pairs inside.index.now 1 inside.queues) c.portion_of-portion.result c.div_ceil-rank.result
-          inside.limits c.self.invariant.1 of wanted,
+          c.self.invariant.0 real new (c.scan_boxed.ensures.pairs inside.index.now 1 inside.queues) c.portion_of-portion.result
+          c.div_ceil-rank.result inside.limits c.self.invariant.1 of wanted,
     )
 
 pub invariant_of-self : goal.invariant_of-self
@@ -44,10 +40,8 @@ invariant_of-self g c =
     let inside = c.self.inside in
     let back = sym c.self.view_is in
     let search = search_over inside.task.now inside.index.now 1 inside.queues in
-    let of : c.portion_of-portion.result ≡ portion_of search c.args.leaf
-    = subst (λ (w : Working). c.portion_of-portion.result ≡ portion_of (search_of w 1) c.args.leaf) back c.portion_of-portion.ensures in
-    let wanted : c.div_ceil-rank.result ≡ portion_rank search
-    = c.div_ceil-rank.ensures ∙ ap (λ (n : ℕ). div_ceil n inside.queues) c.k.ensures.k in
+    let of = portion_of_same _ c.args.self.now c.args.leaf c.portion_of-portion.result c.self.view_is c.portion_of-portion.ensures in
+    let wanted = c.div_ceil-rank.ensures ∙ ap (λ (n : ℕ). div_ceil n inside.queues) c.k.ensures.k in
     let kept = c.self.invariant.0 in
     let pairs = c.scan_boxed.ensures.pairs inside.index.now 1 inside.queues in
     let leaf = leaf_of_same _ c.args.self.now c.args.leaf c.self.view_is c.requires.leaf in
