@@ -94,8 +94,8 @@ pub(crate) fn share_limits<'a, R: Rows>(
 // A pass from each row.
 fn take_passes(alloc: Global, rows: &mut Vec<Vec<WordPass>>) -> Result<Vec<WordPass>, NoMemory>
     requires some { (c : ℕ) (row : PassRow) → slice_get rows.old.items c ≡ Some row → 0 < vec_len row }
-    ensures dealt { (g : Ground) (ws : List Best) (n : ℕ) → AreRows g ws (suc n) rows.old.items
-        → IfOk result (λ passes. AreTaken g ws passes.items × AreRows g ws n rows.new.items) }
+    ensures dealt { (g : Ground) (words : List Best) (n : ℕ) → AreRows g words (suc n) rows.old.items
+        → IfOk result (λ passes. AreTaken g words passes.items × AreRows g words n rows.new.items) }
 {
     let mut passes = Vec::with_capacity(alloc, rows.len())?;
     for portion in 0..rows.len() {

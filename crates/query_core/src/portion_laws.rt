@@ -11,7 +11,7 @@ ghost use Rattle.query_core.specs.Working.{IsFound};
 /// portion, the pair at the portions' rank of what was found there is no nearer than the portion's last distance.
 pub fn portions_law()
     ensures all { (g : Ground) (v : ℕ) → Fits g → ((c : ℕ) → c < g.queues → portion_last g c ≤ v) → last g ≤ v }
-    ensures found { (g : Ground) (c : ℕ) (ms : List Bool) (ps : List Pair) → Fits g → StayAt g c ms → IsFound g ms ps
+    ensures found { (g : Ground) (c : ℕ) (marks : List Bool) (ps : List Pair) → Fits g → StayAt g c marks → IsFound g marks ps
         → portion_last g c ≤ distance_at (portion_rank g - 1) ps }
 {}
 
