@@ -1,6 +1,6 @@
 -- What the fill part left says of all records behind it, which have the same claims and puts: each root child was claimed once (`once`), no
 -- put was refused (`placed_all`), and a list of the marked leaves of a queue has each leaf as often as puts placed it there (`placed_as`).
-use Rattle.std.proofs.Common.{◌≡◌, ℕ, ◌<◌, ◌≤◌, ◌%◌, ◌↔◌, List, None, Some, Bool, false, length, eqb, sym, refl, ap, ◌∙◌, subst, ⊎_elim, arith}
+use Rattle.std.proofs.Common.{◌≡◌, ℕ, ◌<◌, ◌≤◌, ◌%◌, ◌↔◌, List, None, Some, All, Bool, false, length, eqb, sym, refl, ap, ◌∙◌, subst, ⊎_elim, arith}
 use Rattle.std.specs.Prelude.{not, slice_get, ◌&&◌}
 use Rattle.std.proofs.lemmas.Bool.{and_from, cases_lt, cond-true, eq-eqb}
 use Rattle.std.proofs.lemmas.Option.{same_Some, slice_get_within}
@@ -25,7 +25,7 @@ use Rattle.live_query.specs.Marked.{IsMarked, IsMarkedEntry}
 use Rattle.live_query.specs.Parts.{AllFilled, HasFilled, Resting, marks_of}
 use Rattle.live_query.specs.Resting.{Kept}
 use Rattle.live_query.proofs.Marks.{entry_same}
-use Rattle.live_query.proofs.Places.{map_at, totals_same}
+use Rattle.live_query.proofs.Places.{all_from, map_at, totals_same}
 use Rattle.live_query.proofs.RunQueues.{entered_in}
 
 -- a call that came by some worker may be named by whatever else holds of it
@@ -41,6 +41,13 @@ has_at {team = team} filled i c at =
     let low : i < length filled.records = let b = slice_get_within team i c at in let e = filled.count in omega arith in
     let x = get_some filled.records i low in
     (x.0, x.1, filled.each i c x.0 at x.1)
+
+-- each searcher is of this search
+pub filled_over : (a : Question) (ix : IndexParts) (m : ℕ) (best : Best) (team : List Resting) → AllFilled a ix m best team
+    → All (λ (c : Resting). (c.worker.question ≡ a) × (c.worker.index ≡ ix)) team
+filled_over a ix m best team filled =
+    all_from (λ (c : Resting). (c.worker.question ≡ a) × (c.worker.index ≡ ix)) team
+    (λ i c at. let has = has_at filled i c at in (has.2.place.question, has.2.place.index))
 
 -- a record behind that of searcher i after the fill part: it has the same claims and puts
 pub record IsBehind {a : Question} {ix : IndexParts} {m : ℕ} {best : Best} {team : List Resting} (filled : AllFilled a ix m best team)

@@ -1,6 +1,6 @@
 //! Queues between the parts of a search over locked queues: the leaves that the searchers put wait in them.
 //! Each leaf is put once, whoever marked it, and before a lock is round its queue.
-ghost use Rattle.std.specs.Prelude.{◌≡◌, ℕ, ◌<◌, ◌≤◌, IfOk, Some, length, slice_get, vec_len};
+ghost use Rattle.std.specs.Prelude.{◌≡◌, ℕ, ◌<◌, ◌≤◌, All, IfOk, Some, length, slice_get, vec_len};
 ghost use Rattle.leaf_queues.specs.PlainQueue.{PlainQueue};
 ghost use Rattle.query_core.specs.Questions.{CanBeSearched};
 ghost use Rattle.live_query.specs.FilledQueues.{AreFilled, IsFilledBy};
@@ -21,6 +21,7 @@ pub(crate) fn filled_queues<'a, R: Rows>(
     team: &[Searcher<Worker<'a, R>, Rested>],
 ) -> Result<Vec<Queue>, NoMemory>
     requires searches { CanBeSearched search.now.task.now search.now.index.now }
+    requires over { All (λ c. (c.worker.question ≡ search.now.task.now) × (c.worker.index ≡ search.now.index.now)) team.now }
     requires queues { (1 ≤ search.now.queues) × (search.now.queues ≤ 64) }
     ensures count { IfOk result (λ qs. length qs.items ≡ search.now.queues) }
     ensures filled { let a = search.now.task.now in

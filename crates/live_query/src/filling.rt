@@ -30,7 +30,7 @@ fn take_turn<R: Rows>(worker: &mut Worker<'_, R>, hand: &mut FillHand<'_>)
 }
 
 impl<'a, 'b, R: Rows> Searcher<Worker<'a, R>, FillHand<'b>> {
-    /// Takes turns until its fill part has ended, each once the gate has let it through.
+    /// Takes turns until its fill part has ended, each once the gate has let it through; then it reckons the bounds of its share.
     #[tactic(auto, using(crate::proofs::GoingOn::fills_then, crate::proofs::GoingOn::fills_stays))]
     fn fill<G: Gate>(&mut self, gate: &G)
         requires serves { FillServes self.old.worker self.old.hand }
@@ -45,6 +45,7 @@ impl<'a, 'b, R: Rows> Searcher<Worker<'a, R>, FillHand<'b>> {
             self.turn = self.turn.saturating_add(1);
             take_turn(&mut self.worker, &mut self.hand);
         }
+        self.worker.reckon();
     }
 }
 

@@ -1,10 +1,10 @@
 //! Sealing between the parts: the leaves that the searchers put become runs, one for each queue.
 //! Each leaf is sealed once, whoever put it.
-ghost use Rattle.std.specs.Prelude.{◌≡◌, ◌≤◌, true, false, All, IfOk, length, replicate};
+ghost use Rattle.std.specs.Prelude.{◌≡◌, ◌<◌, ◌≤◌, true, false, All, IfOk, length, replicate};
 ghost use Rattle.sealed_runs.specs.Entries.{LeavesDiffer};
 ghost use Rattle.sealed_runs.specs.Sealing.{fresh_visits};
 ghost use Rattle.sealed_runs.specs.Visits.{IsPass};
-ghost use Rattle.query_core.specs.Questions.{CanBeSearched};
+ghost use Rattle.query_core.specs.Questions.{CanBeSearched, leaf_bound, view_in};
 ghost use Rattle.live_query.specs.Marked.{IsMarked};
 ghost use Rattle.live_query.specs.Parts.{AreEntriesOf, AreRunsOf, marks_of};
 
@@ -24,6 +24,7 @@ pub(crate) fn seal_marked<'a, R: Rows>(
 ) -> Result<(Runs, Vec<RunPass>), NoMemory>
     requires searches { CanBeSearched search.now.task.now search.now.index.now }
     requires queues { (1 ≤ search.now.queues) × (search.now.queues ≤ 64) }
+    requires over { All (λ c. (c.worker.question ≡ search.now.task.now) × (c.worker.index ≡ search.now.index.now)) team.now }
     requires team { (1 ≤ length team.now) × (length team.now ≤ 64) }
     ensures count { IfOk result (λ r. length r.0.runs ≡ search.now.queues) }
     ensures callers { IfOk result (λ r. r.0.callers ≡ length team.now) }
@@ -43,17 +44,37 @@ pub(crate) fn marked_entries<'a, R: Rows>(
     team: &[Searcher<Worker<'a, R>, Rested>],
 ) -> Result<Vec<Entry>, NoMemory>
     requires searches { CanBeSearched search.now.task.now search.now.index.now }
+    requires over { All (λ c. (c.worker.question ≡ search.now.task.now) × (c.worker.index ≡ search.now.index.now)) team.now }
     ensures { IfOk result (λ es. AreEntriesOf search.now.task.now search.now.index.now team.now es.items) }
 {
     let leaves = search.index.leaf_count();
     let mut entries = Vec::with_capacity(alloc, leaves as usize)?;
     for leaf in 0..leaves {
         if was_put(team, leaf) {
-            let bound = search.task.view().bound_word(search.index.leaf_word(leaf));
+            let bound = bound_in(search, team, leaf);
             entries.push_reserved(Entry { bound, leaf });
         }
     }
     Ok(entries)
+}
+
+// The bound of a leaf: that of the worker in whose share it is.
+fn bound_in<'a, R: Rows>(
+    search: &Search<'a, R>,
+    team: &[Searcher<Worker<'a, R>, Rested>],
+    leaf: u32,
+) -> u64
+    requires searches { CanBeSearched search.now.task.now search.now.index.now }
+    requires over { All (λ c. (c.worker.question ≡ search.now.task.now) × (c.worker.index ≡ search.now.index.now)) team.now }
+    requires leaf { leaf < length search.now.index.now.leaves }
+    ensures { result ≡ leaf_bound (view_in search.now.task.now) search.now.index.now leaf }
+{
+    for searcher in team {
+        if let Some(bound) = searcher.worker.bound_of(leaf) {
+            return bound;
+        }
+    }
+    search.task.view().bound_word(search.index.leaf_word(leaf))
 }
 
 // Whether some searcher put the leaf.

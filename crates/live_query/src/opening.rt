@@ -62,6 +62,7 @@ pub(crate) fn open<'a, R: Rows>(
         list,
     )?;
     share_limits(alloc, search, limits, passes, &mut hired)?;
+    take_shares(alloc, &mut hired)?;
     let (claims, drawings) = RootClaims::begin(alloc, search.index.root_count(), workers)?;
     let team = open_team(alloc, hired, seen, drawings)?;
     Ok(Opened {
@@ -70,6 +71,18 @@ pub(crate) fn open<'a, R: Rows>(
         claims,
         team,
     })
+}
+
+// Room for the bounds of each worker's share of the leaves.
+fn take_shares<'a, R: Rows>(alloc: Global, workers: &mut Vec<Worker<'a, R>>) -> Result<(), NoMemory>
+    requires few { vec_len workers.old ≤ 64 }
+    ensures same { IfOk result (λ _. workers.new.items ≡ workers.old.items) }
+{
+    let count = workers.len();
+    for i in 0..count {
+        workers[i].take_share(alloc, count as u32)?;
+    }
+    Ok(())
 }
 
 // A searcher for each of at most 64 workers, numbered in their order, with its draws and its pass of the bound word.

@@ -27,4 +27,5 @@ pub mod BelowMeans
 pub mod Different
 pub mod Portions
 pub mod LimitsKept
+pub mod BoundShares
 pub mod Sends

@@ -5,6 +5,7 @@ pub mod Working
 pub mod Turning
 -- Portions of the leaves, and the limits that workers share for them.
 pub mod Portions
+pub mod BoundShares
 -- What one thread holds, and why a schedule gives no outcome.
 pub mod OneThread
 pub mod Replays

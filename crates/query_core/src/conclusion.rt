@@ -9,7 +9,7 @@ ghost use Rattle.search_machine.specs.Outcome.{fates_from, first_place, is_start
 ghost use Rattle.search_machine.specs.Sound.{scans};
 ghost use Rattle.search_machine.specs.Workers.{Worker as Shown};
 ghost use Rattle.query_core.specs.Fates.{AreMarked, FatesUnqueued, HaveSearched, fate_unqueued, leaf_of};
-ghost use Rattle.query_core.specs.Questions.{search_over};
+ghost use Rattle.query_core.specs.Questions.{CanBeSearched, leaf_bound, search_over, view_in};
 ghost use Rattle.query_core.specs.Teams.{AreOver, AreShown, EndsIn, HaveLeaf, all_lists};
 
 use crate::index_laws::search_law;
@@ -129,8 +129,23 @@ fn unqueued_fate<R: Rows>(
     }
     match first_to_scan(workers, leaf) {
         Some(i) => Fate::Late(i),
-        None => Fate::Bound(task.view().bound_word(index.leaf_word(leaf))),
+        None => Fate::Bound(bound_of(task, index, workers, leaf)),
     }
+}
+
+// The bound of a leaf: a worker has reckoned it, or it is reckoned anew.
+fn bound_of<R: Rows>(task: &Task<'_, R>, index: &Index, workers: &[Worker<'_, R>], leaf: u32) -> u64
+    requires searches { CanBeSearched task.now index.now }
+    requires over { AreOver task.now index.now workers.now }
+    requires leaf { leaf < length index.now.leaves }
+    ensures { result ≡ leaf_bound (view_in task.now) index.now leaf }
+{
+    for worker in workers {
+        if let Some(bound) = worker.bound_of(leaf) {
+            return bound;
+        }
+    }
+    task.view().bound_word(index.leaf_word(leaf))
 }
 
 // The first worker that scanned the leaf.

@@ -6,6 +6,7 @@
 mod all_rows;
 mod alone;
 mod answer;
+mod bound_share;
 mod by_leaves;
 mod conclusion;
 mod ended;

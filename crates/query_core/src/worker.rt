@@ -5,11 +5,12 @@ ghost use Rattle.subtree_build.specs.Fits.{Fits as IndexFits};
 ghost use Rattle.search_machine.specs.Basics.{start_of};
 ghost use Rattle.search_machine.specs.declared.phase.Phase.TheVariants.{Done};
 ghost use Rattle.search_machine.specs.Workers.{fills};
-ghost use Rattle.query_core.specs.Questions.{search_over};
+ghost use Rattle.query_core.specs.Questions.{leaf_bound, search_over, view_in};
 ghost use Rattle.query_core.specs.Portions.{AreLimits};
 ghost use Rattle.query_core.specs.Turning.{search_of};
 ghost use Rattle.query_core.specs.Working.{AreOpeningMarks, HoldsSeries, IsOf, Shows, opened_list, opens_as};
 
+use crate::bound_share::BoundShare;
 use crate::limits::Limits;
 use crate::stage::Stage;
 use crate::task::Task;
@@ -35,6 +36,7 @@ pub struct Worker<'a, R: Rows> {
     pub(crate) walk: Walk<'a>,
     pub(crate) list: KBest,
     pub(crate) marks: Vec<bool>,
+    pub(crate) share: BoundShare,
     // those of the portions, where workers share them
     pub(crate) limits: Option<Limits<'a>>,
 }
@@ -43,7 +45,8 @@ impl<'a, R: Rows> Model for Worker<'a, R> {
     ghost use Rattle.std.specs.Coded.{codes};
     ghost use Rattle.subtree_build.specs.contracts.node.Node as node;
     ghost use Rattle.search_machine.specs.Workers.{without};
-    ghost use Rattle.query_core.specs.Questions.{search_over};
+    ghost use Rattle.query_core.specs.BoundShares.{AreBounds};
+    ghost use Rattle.query_core.specs.Questions.{search_over, view_in};
     ghost use Rattle.query_core.specs.Working.{Working, IsWorking, phase_of, working};
     ghost use Rattle.query_core.specs.Portions.{Keeps};
 
@@ -56,7 +59,8 @@ impl<'a, R: Rows> Model for Worker<'a, R> {
 
     ghost invariant = { λ w. IsWorking w.start w.walk w.list w.stage (working w.task.now w.index.now w.number w.queues (phase_of w.stage)
         (without w.start w.walk.leaves) w.list.pairs w.marks.items)
-        × Keeps (search_over w.task.now w.index.now 1 w.queues) w.marks.items w.limits };
+        × Keeps (search_over w.task.now w.index.now 1 w.queues) w.marks.items w.limits
+        × AreBounds (view_in w.task.now) w.index.now w.share };
 }
 
 impl<'a, R: Rows> Worker<'a, R> {
@@ -98,6 +102,7 @@ impl<'a, R: Rows> Worker<'a, R> {
             walk,
             list,
             marks,
+            share: BoundShare::none(alloc),
             limits: None,
         })
     }
@@ -110,6 +115,34 @@ impl<'a, R: Rows> Worker<'a, R> {
         ensures same { self.new ≡ self.old }
     {
         self.limits = Some(limits);
+    }
+
+    /// Takes the room for the bounds of its share of the leaves, where each of so many workers has one.
+    pub fn take_share(&mut self, alloc: Global, workers: u32) -> Result<(), NoMemory>
+        requires workers { 1 ≤ workers }
+        ensures same { self.new ≡ self.old }
+    {
+        let leaves = self.index.leaf_count();
+        let size = (leaves / workers).saturating_add(1);
+        let first = self.number.saturating_mul(size).min(leaves);
+        self.share = BoundShare::with_room(alloc, first, first.saturating_add(size).min(leaves))?;
+        Ok(())
+    }
+
+    /// Reckons the bounds of its share.
+    pub fn reckon(&mut self)
+        ensures same { self.new ≡ self.old }
+    {
+        // for the fact that the worker's index can be searched for its question
+        let _k = self.task.k();
+        self.share.reckon(self.task.view(), self.index);
+    }
+
+    /// The lower bound of a leaf, where it reckoned it.
+    pub fn bound_of(&self, leaf: u32) -> Option<u64>
+        ensures { IfSome result (λ b. b ≡ leaf_bound (view_in self.now.question) self.now.index leaf) }
+    {
+        self.share.get(leaf)
     }
 
     /// Whether its fill part has ended: a claim of its own was answered None.

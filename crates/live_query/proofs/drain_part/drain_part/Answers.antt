@@ -1,11 +1,12 @@
 -- What the searchers are before the drain part, and what the closed runs say after it.
-use Rattle.std.proofs.Common.{List, arith, length, refl, subst}
+use Rattle.std.proofs.Common.{◌≡◌, All, List, arith, length, refl, subst, sym}
 use Rattle.sealed_runs.specs.Entries.{run_at}
 use Rattle.query_core.specs.Questions.{view_in}
 use Rattle.live_query.specs.Marked.{IsRunOf}
 use Rattle.live_query.specs.Parts.{Resting, marks_of}
 use Rattle.live_query.proofs.DrainGather.{Outset, Turned, all_busy, all_drain, all_draining, all_over, all_runs, all_word}
 use Rattle.live_query.proofs.SealedClose.{ends_right}
+use Rattle.live_query.proofs.PutsKept.{filled_over}
 use Rattle.live_query.proofs.drain_part.drain_part.Given as given
 use Rattle.live_query.proofs.drain_part.drain_part.Goals as goal
 use Rattle.live_query.proofs.drain_part.drain_part.Goals.{After-from-roots, After-drain_together}
@@ -21,6 +22,12 @@ outset g c = record {
   count = c.in_ok-runs.ensures.count;
   all_roots = omega (arith, c.from-roots.ensures, c.root_count.ensures.count);
 }
+
+pub seal_marked-requires-clause-over : goal.seal_marked-requires-clause-over
+seal_marked-requires-clause-over g c =
+    let a = c.args.search.now in
+    subst (All (λ (s : Resting). (s.worker.question ≡ a.task.now) × (s.worker.index ≡ a.index.now))) (sym c.deref.ensures.value)
+    (filled_over a.task.now a.index.now a.queues c.args.word.now c.args.team.items c.requires.filled)
 
 pub equip-requires-clause-word : goal.equip-requires-clause-word
 equip-requires-clause-word g c = all_word (outset g (goal.at.equip-requires-clause-word g c).After-from-roots)

@@ -1,5 +1,5 @@
 -- What the searchers are before the drain part, and what the closed locks say after it.
-use Rattle.std.proofs.Common.{◌≡◌, ℕ, List, ap, length, map, refl, subst, sym, ◌∙◌, arith}
+use Rattle.std.proofs.Common.{◌≡◌, ℕ, All, List, ap, length, map, refl, subst, sym, ◌∙◌, arith}
 use Rattle.leaf_queues.specs.PlainQueue.{PlainQueue}
 use Rattle.search_machine.specs.Outcome.{line_of}
 use Rattle.live_query.specs.FilledQueues.{AreFilled}
@@ -9,6 +9,7 @@ use Rattle.live_query.specs.Parts.{Resting}
 use Rattle.live_query.proofs.LockGather.{Queued, Ready, Worked, all_drain, all_locks, all_over, all_run, all_serve, all_words, numbered, team_rows}
 use Rattle.live_query.proofs.LockedClose.{ends_right}
 use Rattle.live_query.proofs.Places.{all_at}
+use Rattle.live_query.proofs.PutsKept.{filled_over}
 use Rattle.live_query.proofs.locked_part.locked_part.Given as given
 use Rattle.live_query.proofs.locked_part.locked_part.Goals as goal
 use Rattle.live_query.proofs.locked_part.locked_part.Goals.{After-from-roots, In_ok-team, In_ok-workers}
@@ -24,6 +25,12 @@ queued g c = record {
   count = c.in_ok-queues.ensures.count;
   all_roots = omega (arith, c.from-roots.ensures, c.root_count.ensures.count);
 }
+
+pub filled_queues-requires-clause-over : goal.filled_queues-requires-clause-over
+filled_queues-requires-clause-over g c =
+    let a = c.args.search.now in
+    subst (All (λ (s : Resting). (s.worker.question ≡ a.task.now) × (s.worker.index ≡ a.index.now))) (sym c.deref.ensures.value)
+    (filled_over a.task.now a.index.now a.queues c.args.word.now c.args.team.items c.requires.filled)
 
 pub equip-requires-clause-word : goal.equip-requires-clause-word
 equip-requires-clause-word g c = all_words (queued g (goal.at.equip-requires-clause-word g c).After-from-roots)

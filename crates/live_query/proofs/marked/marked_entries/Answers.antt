@@ -1,22 +1,13 @@
 -- The next leaf has its entry where some searcher put it.
-use Rattle.std.proofs.Common.{◌≡◌, ℕ, ◌+◌, List, Vec, Global, ap, length, refl, subst, sym, ◌∙◌, vec_capacity, vec_len, arith}
+use Rattle.std.proofs.Common.{◌≡◌, ℕ, ◌+◌, Vec, Global, ap, length, refl, subst, sym, ◌∙◌, vec_capacity, vec_len, arith}
 use Rattle.series_core.specs.declared.queue_words.Entry.{Entry}
-use Rattle.isax_word.specs.declared.word.Part.{Part}
-use Rattle.lower_bound.specs.Bound.{View, word_bound}
-use Rattle.subtree_build.proofs.LeafWords.{leaf_has_segments}
+use Rattle.lower_bound.specs.Bound.{View}
 use Rattle.query_core.specs.Questions.{view_in}
 use Rattle.live_query.specs.Marked.{AreMarked}
 use Rattle.live_query.specs.Parts.{marks_of}
 use Rattle.live_query.proofs.Marks.{entries_more, entries_skip}
 use Rattle.live_query.proofs.marked.marked_entries.Goals as goal
 use Rattle.live_query.proofs.marked.marked_entries.Goals.{then-was_put, else-was_put}
-
-pub bound_word-bound-requires : goal.bound_word-bound-requires
-bound_word-bound-requires g c =
-    ap (λ (word : List Part). length word) c.leaf_word.ensures
-    ∙ leaf_has_segments c.args.search.now.index.now c.requires.searches.index c.loop-leaf.leaf (omega arith)
-    ∙ c.requires.searches.fits.segments
-    ∙ ap (λ (view : View). view.layout.cuts.segments) (sym c.view.ensures.view)
 
 pub loop-leaf-preserved : goal.loop-leaf-preserved
 loop-leaf-preserved g c =
@@ -34,9 +25,7 @@ loop-leaf-preserved g c =
                 (sym items)
                 (entries_more view c.args.search.now.index.now (marks_of c.args.team.now) c.loop-leaf.leaf
                 c.loop-leaf.entries.items was.marked _ refl
-                (w.bound_word-bound.ensures.value
-                ∙ ap (λ (v : View). word_bound v w.leaf_word.result.now) w.view.ensures.view
-                ∙ ap (word_bound view) w.leaf_word.ensures)
+                w.bound_in-bound.ensures
                 (c.was_put.ensures.yes w.if-was_put.true));
           }
       | else-was_put w ↦ record {

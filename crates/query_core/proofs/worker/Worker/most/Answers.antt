@@ -19,8 +19,11 @@ invariant_of-self g c =
     let keeps = c.self.invariant.1 in
     let search = search_over inside.task.now inside.index.now 1 inside.queues in
     let fits = search_fits inside.task.now inside.index.now 1 inside.queues kept.searched (omega arith) kept.some_queue in
-    let read = c.most_of.ensures.read search (kept_limits search inside.marks.items inside.limits keeps) in
-    (kept, keeps_read search fits inside.marks.items inside.limits c.most_of.new.limits c.most_of.result keeps read)
+    let read = c.most_of.ensures.read search (kept_limits search inside.marks.items inside.limits keeps) in (
+      kept,
+      keeps_read search fits inside.marks.items inside.limits c.most_of.new.limits c.most_of.result keeps read,
+      c.self.invariant.2,
+    )
 
 pub returns-clause-low : goal.returns-clause-low
 returns-clause-low g c =

@@ -2,9 +2,10 @@ use Rattle.std.proofs.Common.{◌≡◌, List, [], refl, sym, ap, ◌∙◌, sub
 use Rattle.series_core.specs.Best.{Best}
 use Rattle.series_core.specs.declared.pair.Pair.{Pair}
 use Rattle.search_machine.specs.Workers.{without}
-use Rattle.query_core.specs.Questions.{CanBeSearched, search_over}
+use Rattle.query_core.specs.Questions.{CanBeSearched, search_over, view_in}
 use Rattle.query_core.specs.Walks.{Walked}
 use Rattle.query_core.specs.Working.{IsFound}
+use Rattle.query_core.proofs.BoundShares.{no_bounds}
 use Rattle.query_core.proofs.OfIndex.{search_fits}
 use Rattle.query_core.proofs.Openers.{opener_found, opener_leaf, opener_marks, opener_shows, opener_start}
 use Rattle.query_core.proofs.TurnLaws.{none_without}
@@ -42,6 +43,7 @@ invariant_of-result g c =
         range = tt;
       },
       tt,
+      no_bounds (view_in a) ix c.none.result 0 0 c.none.ensures (omega arith),
     )
 
 pub returns-clause-opens : goal.returns-clause-opens

@@ -56,6 +56,7 @@ invariant_of-self g c =
           (c.note_scan.ensures.scanned search
           (scan_offers inside.start inside.walk inside.list inside.stage _ c.args.leaf c.args.limit c.scan_boxed.new.list.pairs
           kept leaf new pairs c.portion_of-portion.result c.div_ceil-rank.result inside.limits c.self.invariant.1 of wanted)),
+      c.self.invariant.2,
     )
 
 pub returns-clause-scanned : goal.returns-clause-scanned

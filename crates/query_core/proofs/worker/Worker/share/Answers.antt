@@ -23,4 +23,5 @@ invariant_of-self g c =
             subst (λ (n : ℕ). StayAt search n inside.marks.items) (sym home)
             (opened_stay search inside.number _ shows kept.marks),
       ),
+      c.self.invariant.2,
     )
