@@ -4,6 +4,7 @@ pub mod TeamTurns
 pub mod TeamOpening
 pub mod FatesWritten
 pub mod ListsMerged
+pub mod NextPair
 pub mod TeamEnds
 pub mod TeamPlays
 pub mod Found

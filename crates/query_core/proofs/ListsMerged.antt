@@ -5,8 +5,9 @@ use Rattle.std.proofs.lemmas.Bool.Decides.{nat_tests}
 use Rattle.std.proofs.lemmas.Option.{none-some, same_Some}
 use Rattle.std.specs.Option.{option_map}
 use Rattle.std.specs.Prelude.{nat_lt, slice_get}
+use Rattle.series_core.proofs.Sorting.{ascending_smallest}
 use Rattle.series_core.proofs.Smallest.{ascending-append_swap, smallest-append}
-use Rattle.series_core.specs.Pairs.{smallest}
+use Rattle.series_core.specs.Pairs.{ascending, smallest}
 use Rattle.series_core.specs.declared.pair.Pair.{Pair}
 use Rattle.search_machine.specs.Workers.{Worker}
 use Rattle.search_machine.specs.Outcome.{all_pairs, first_place}
@@ -45,6 +46,10 @@ lists_push [] w = append-nil w.list
 lists_push (v ∷ ws) w =
     ap (λ (ps : List Pair). v.list ++ ps) (lists_push ws w)
     ∙ sym (append_assoc v.list (all_lists ws) w.list)
+
+-- what is the k smallest of some pairs ascends
+pub held_ascends : (k : ℕ) (qs held : List Pair) → held ≡ smallest k qs → ascending held ≡ held
+held_ascends k qs held e = ap ascending e ∙ ascending_smallest k qs ∙ sym e
 
 -- one list more is merged
 pub merge_next : (k : ℕ) (ws : List Working) (i : ℕ) (w : Working) (held : List Pair)

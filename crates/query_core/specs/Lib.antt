@@ -15,6 +15,7 @@ pub mod Scanning
 pub mod NearLeaves
 pub mod Teams
 pub mod Fates
+pub mod Merging
 -- The definitions of the crates below that the public clauses cite.
 pub use Rattle.search_machine.specs.Ground
 pub use Rattle.search_machine.specs.Machine

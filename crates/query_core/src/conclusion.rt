@@ -13,11 +13,12 @@ ghost use Rattle.query_core.specs.Questions.{CanBeSearched, leaf_bound, search_o
 ghost use Rattle.query_core.specs.Teams.{AreOver, AreShown, EndsIn, HaveLeaf, all_lists};
 
 use crate::index_laws::search_law;
+use crate::merging::merge;
 use crate::task::Task;
 use crate::worker::Worker;
 use outside::NoMemory;
 use search_machine::{Fate, FateList, LineList, Outcome, QueueLine, Start};
-use series_core::{Entry, KBest, PairList, Rows};
+use series_core::{Entry, PairList, Rows};
 use std::alloc::Global;
 use subtree_build::Index;
 
@@ -59,13 +60,11 @@ fn merged<R: Rows>(
 ) -> Result<PairList, NoMemory>
     ensures { IfOk result (λ ps. ps ≡ smallest task.now.k (all_lists workers.now)) }
 {
-    let mut best = KBest::new(alloc, task.k())?;
+    let mut pairs = Vec::new(alloc);
     for worker in workers {
-        best.merge(worker.list());
+        pairs = merge(alloc, task.k() as usize, worker.list().pairs(), &pairs)?;
     }
-    Ok(PairList {
-        items: best.pairs().to_vec(alloc)?,
-    })
+    Ok(PairList { items: pairs })
 }
 
 // The fate of each leaf.

@@ -15,6 +15,7 @@ mod first_limit;
 mod index_laws;
 mod leaf_scan;
 mod limits;
+mod merging;
 mod near_leaves;
 mod one_thread;
 mod opening;

@@ -4,7 +4,5 @@ use Rattle.query_core.specs.Teams.{all_lists}
 use Rattle.query_core.proofs.conclusion.merged.Given as goal
 
 abbrev pub invariant-loop-worker : goal.invariant-loop-worker
-invariant-loop-worker g l = record {
-  k : l.best.k ≡ l.task.k;
-  pairs : l.best.pairs ≡ smallest l.task.k (all_lists (take l.worker-index l.workers));
-}
+invariant-loop-worker g l =
+    l.pairs.items ≡ smallest l.task.k (all_lists (take l.worker-index l.workers))
