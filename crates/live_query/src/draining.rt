@@ -11,8 +11,8 @@ use crate::searcher::Searcher;
 use outside::Gate;
 use query_core::{Turn, Worker};
 use series_core::Rows;
-use std::thread;
 use std::thread::Threads;
+use thread_row::for_each_mut;
 
 /// A worker with its hand of the drain part.
 pub type Draining<'a, 'b, R> = Searcher<Worker<'a, R>, DrainHand<'b>>;
@@ -65,8 +65,7 @@ fn drain_row<'a, 'b, T: Threads + Sync, R: Rows + Sync, G: Gate + Sync>(
     ensures done { All (λ c. c.worker.phase ≡ Done) team.new }
     ensures goes_on { AllDrainOn team.old team.new }
 {
-    let workers = team.len();
-    thread::for_each_mut(rt, team, workers, &|_, searcher| searcher.drain(gate));
+    for_each_mut(rt, team, &|_, searcher| searcher.drain(gate));
 }
 
 /// All drain, each in a thread of its own; a worker alone starts none.

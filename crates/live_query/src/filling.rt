@@ -10,8 +10,8 @@ use crate::searcher::Searcher;
 use outside::Gate;
 use query_core::Worker;
 use series_core::Rows;
-use std::thread;
 use std::thread::Threads;
+use thread_row::for_each_mut;
 
 /// A worker with its hand of the fill part.
 pub type Filling<'a, 'b, R> = Searcher<Worker<'a, R>, FillHand<'b>>;
@@ -63,8 +63,7 @@ fn fill_row<'a, 'b, T: Threads + Sync, R: Rows + Sync, G: Gate + Sync>(
     ensures filled { All (λ c. fills c.worker.phase ≡ false) team.new }
     ensures goes_on { AllFillOn team.old team.new }
 {
-    let workers = team.len();
-    thread::for_each_mut(rt, team, workers, &|_, searcher| searcher.fill(gate));
+    for_each_mut(rt, team, &|_, searcher| searcher.fill(gate));
 }
 
 /// All fill, each in a thread of its own; a worker alone starts none.

@@ -12,8 +12,8 @@ use outside::Gate;
 use query_core::{Turn, Worker};
 use series_core::Rows;
 use std::sync::Wait;
-use std::thread;
 use std::thread::Threads;
+use thread_row::for_each_mut;
 
 /// A worker with its hand over locked queues.
 pub type Locking<'a, 'b, R, W> = Searcher<Worker<'a, R>, LockHand<'b, W>>;
@@ -66,8 +66,7 @@ fn drain_row<'a, 'b, T: Threads + Wait + Sync, R: Rows + Sync, G: Gate + Sync>(
     ensures done { All (λ c. c.worker.phase ≡ Done) team.new }
     ensures goes_on { AllLocksOn team.old team.new }
 {
-    let workers = team.len();
-    thread::for_each_mut(rt, team, workers, &|_, searcher| searcher.drain(rt, gate));
+    for_each_mut(rt, team, &|_, searcher| searcher.drain(rt, gate));
 }
 
 /// All drain, each in a thread of its own; a worker alone starts none.

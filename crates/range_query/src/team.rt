@@ -10,8 +10,8 @@ use claim_word::Claims;
 use outside::{Gate, NoMemory};
 use series_core::{Pair, Rows};
 use std::alloc::Global;
-use std::thread;
 use std::thread::Threads;
+use thread_row::for_each_mut;
 use worker_team::TeamWorker;
 
 /// Finds the pairs within the radius below the root children of a group.
@@ -100,11 +100,9 @@ pub(crate) fn draw_together<T: Threads + Sync, R: Rows + Sync, G: Gate + Sync>(
         let done = IsDone asked search.now.index.now search.now.size in
         All (λ w. IfSome w.made (λ found. done w.pass found.items)) team.new.items }
 {
-    let workers = team.len();
-    thread::for_each_mut(
+    for_each_mut(
         rt,
         team.as_mut_slice(),
-        workers,
         &|_, worker| work(alloc, search, claims, gate, worker),
     );
 }

@@ -9,8 +9,8 @@ use claim_word::{ClaimPass, Claims};
 use outside::NoMemory;
 use series_core::Rows;
 use std::alloc::Global;
-use std::thread;
 use std::thread::Threads;
+use thread_row::for_each_mut;
 
 /// How many queries are answered ahead at most.
 const AHEAD: u32 = 2048;
@@ -106,11 +106,9 @@ impl<R: Rows + Sync> Batch<'_, R> {
         requires fresh { All (IsFresh claims.now) shares.old }
         ensures { All (λ s. AreRight R.collection self.now s.found.items) shares.new }
     {
-        let workers = self.asking.workers as usize;
-        thread::for_each_mut(
+        for_each_mut(
             rt,
             shares,
-            workers,
             &|_, share| self.draw_all(alloc, claims, first, share),
         );
     }
