@@ -70,6 +70,7 @@ filling roots queues leaves c = record {
   };
   number = c.number;
   turn = c.turn;
+  apart = tt;
 }
 
 -- the searcher that lets its draws go
@@ -79,6 +80,7 @@ resting c = record {
   hand = record { best = c.hand.best; floor = c.hand.floor; marks = c.hand.marks };
   number = c.number;
   turn = c.turn;
+  apart = tt;
 }
 
 -- the searcher with fresh visits of these runs, where there are `roots` root children
@@ -88,6 +90,7 @@ draining runs roots c = record {
   hand = drain_over c.hand.best c.hand.floor roots runs (fresh_visits runs);
   number = c.number;
   turn = c.turn;
+  apart = tt;
 }
 
 -- the marks of all searchers

@@ -8,6 +8,7 @@ ghost use Rattle.query_core.specs.Questions.{search_over};
 ghost use Rattle.live_query.specs.RootClaims.{Drawn};
 ghost use Rattle.live_query.specs.Parts.{Opens};
 
+use crate::apart::Apart;
 use crate::portions::share_limits;
 use crate::root_claims::{Drawing, RootClaims};
 use crate::search::Search;
@@ -116,6 +117,7 @@ fn open_team<'a, R: Rows>(
             },
             number: team.len() as u32,
             turn: 0,
+            apart: Apart::new(),
         });
     }
     Ok(team)

@@ -2,6 +2,7 @@
 ghost use Rattle.std.specs.Prelude.{◌≡◌, ◌↔◌, Some, true, slice_get};
 ghost use Rattle.live_query.specs.Searchers.{with_hand};
 
+use crate::apart::Apart;
 use crate::root_claims::Drawing;
 use best_word::WordPass;
 use std::marker::Model;
@@ -17,6 +18,8 @@ pub struct Searcher<W, H> {
     pub number: u32,
     /// How many turns it has taken, over both parts.
     pub turn: u64,
+    /// What keeps it apart from the next in a row.
+    pub apart: Apart,
 }
 
 impl<W, H> Searcher<W, H> {
@@ -30,12 +33,14 @@ impl<W, H> Searcher<W, H> {
             hand,
             number,
             turn,
+            apart,
         } = self;
         let rest = Searcher {
             worker,
             hand: (),
             number,
             turn,
+            apart,
         };
         (hand, rest)
     }
@@ -51,6 +56,7 @@ impl<W> Searcher<W, ()> {
             hand,
             number: self.number,
             turn: self.turn,
+            apart: self.apart,
         }
     }
 }
