@@ -1,10 +1,11 @@
 #!/usr/bin/python3
 """Draws each query over its nearest series, from two series files and the answers that isearch printed.
 
-docs/plot.py DATA QUERIES ANSWERS OUT.png [--raw LENGTH] [--first COUNT]
+docs/plot.py DATA QUERIES ANSWERS OUT.png [--raw LENGTH] [--step STEP] [--first COUNT]
 
 ANSWERS has what `isearch nearest` or `isearch range` wrote for DATA and QUERIES. With --raw both files have values alone, of
-series of LENGTH values. With --first only the first COUNT queries are drawn. Packages (Debian): python3-matplotlib python3-numpy
+series of LENGTH values. With --step DATA is one long series of values alone, and ANSWERS are of `isearch windows` by that step. With
+--first only the first COUNT queries are drawn. Packages (Debian): python3-matplotlib python3-numpy
 """
 import argparse
 import struct
@@ -28,6 +29,14 @@ def read_series(name, raw):
     if len(content) != start + 2 * length * count:
         sys.exit(f"{name}: {len(content)} bytes, and not those of {count} series of {length} values")
     return np.frombuffer(content, "<i2", length * count, start).reshape(count, length)
+
+
+def read_windows(name, length, step):
+    """The windows of a long series of values alone, as an array with a row a window."""
+    values = np.fromfile(name, "<i2")
+    if len(values) < length:
+        sys.exit(f"{name}: {len(values)} values, and not one window of {length}")
+    return np.lib.stride_tricks.sliding_window_view(values, length)[::step]
 
 
 def body_of(name, content):
@@ -70,9 +79,11 @@ def main():
     for word in ("DATA", "QUERIES", "ANSWERS", "OUT"):
         parser.add_argument(word)
     parser.add_argument("--raw", type=int, metavar="LENGTH")
+    parser.add_argument("--step", type=int, metavar="STEP")
     parser.add_argument("--first", type=int, metavar="COUNT")
     words = parser.parse_args()
-    data, queries = read_series(words.DATA, words.raw), read_series(words.QUERIES, words.raw)
+    queries = read_series(words.QUERIES, words.raw)
+    data = read_windows(words.DATA, queries.shape[1], words.step) if words.step else read_series(words.DATA, words.raw)
     found = read_answers(words.ANSWERS)[: words.first]
     if not found:
         sys.exit(f"{words.ANSWERS}: no line begins with 'query'")

@@ -27,6 +27,12 @@ static void walk(int16_t *to, size_t points) {
     }
 }
 
+// Sums of steps from -3 to 3 around 20000, as a log of a temperature has them.
+static void level(int16_t *to, size_t points) {
+    int value = 20000;
+    for (size_t k = 0; k < points; k++) to[k] = (int16_t)(value += (int)drawn(7) - 3);
+}
+
 // What rings after noise: a filter of the second order of random damping, and of a random pitch, in radians a value, from 0.05 on.
 static void ringing(int16_t *to, size_t points, double range) {
     double pitch = 0.05 + range * drawn(1000000) / 1e6, damping = 0.9 + 0.099 * drawn(1000000) / 1e6;
@@ -45,6 +51,23 @@ static void resonance(int16_t *to, size_t points) { ringing(to, points, 1.05); }
 // Rings so high that four values in a row have a mean near 0: 64 means leave more than half of the rows.
 static void shrill(int16_t *to, size_t points) { ringing(to, points, 2.5); }
 
+// What stands for traces of tremors: a noise that swells at an onset and dies away, behind two filters of the second order, one behind
+// the other. The loudest just fit.
+static void tremor(int16_t *to, size_t points) {
+    static const double pitch[2] = {1.0, 1.5};
+    double height = exp(log(30) * drawn(1000000) / 1e6), fall = 20 + drawn(101), onset = drawn((uint32_t)points), state[2][2] = {{0}};
+    for (size_t k = 0; k < points + 200; k++) {
+        double since = (double)k - 200 - onset, next = drawn(2001) / 1000.0 - 1;
+        if (since >= 0) next *= 1 + height * exp(-since / fall);
+        for (int f = 0; f < 2; f++) {
+            next += 2 * 0.9 * cos(pitch[f]) * state[f][0] - 0.81 * state[f][1];
+            state[f][1] = state[f][0];
+            state[f][0] = next;
+        }
+        if (k >= 200) to[k - 200] = held(220 * next);
+    }
+}
+
 static void noise(int16_t *to, size_t points) {
     for (size_t k = 0; k < points; k++) to[k] = (int16_t)((int)drawn(65536) - 32768);
 }
@@ -54,7 +77,7 @@ static void written(const char *name, const int16_t *values, size_t count) {
     if (!f || fwrite(values, 2, count, f) != count || fclose(f)) exit(1);
 }
 
-// Windows of a recording, by a step of 64 values. Returns how many there are, at most so many.
+// Windows of a recording, by a step. Returns how many there are, at most so many.
 static size_t windows(const char *sound, int16_t *to, size_t rows, size_t points, size_t step) {
     FILE *f = fopen(sound, "rb");
     if (!f) exit(1);
@@ -75,14 +98,18 @@ int main(int words, char **word) {
     size_t rows = strtoul(word[4], 0, 10), points = strtoul(word[5], 0, 10), count = strtoul(word[6], 0, 10);
     int16_t *values = malloc(2 * (rows + count) * points), *queries = values + rows * points;
     if (!values) return 1;
-    if (!strcmp(kind, "sound")) {
-        rows = windows(word[7], values, rows, points, 64);
+    if (!strcmp(kind, "sound") || !strcmp(kind, "heart")) {
+        if (words < 9) return 2;
+        int sound = !strcmp(kind, "sound");
+        rows = windows(word[7], values, rows, points, sound ? 64 : 1);
         queries = malloc(2 * count * points);
-        count = windows(word[8], queries, count, points, 44100);
+        count = windows(word[8], queries, count, points, sound ? 44100 : 100);
     } else {
         void (*make)(int16_t *, size_t) = !strcmp(kind, "resonances") ? resonance
             : !strcmp(kind, "shrill") ? shrill
+            : !strcmp(kind, "tremor") ? tremor
             : !strcmp(kind, "noise") ? noise
+            : !strcmp(kind, "level") ? level
                                      : walk;
         for (size_t i = 0; i < rows + count; i++) make(values + i * points, points);
     }

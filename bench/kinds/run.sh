@@ -1,6 +1,6 @@
 #!/usr/bin/env bash
 # Times searches by one worker over data of several kinds, and plain C scans beside it: run.sh [KIND..]. The kind `sound` wants
-# SOUND and QUERIES in the environment, two files of 16-bit values, low byte first.
+# SOUND and QUERIES in the environment, two files of 16-bit values, low byte first; `heart` and `music` take theirs from `recordings`.
 here="$(cd "$(dirname "${BASH_SOURCE[0]}")" && pwd)"
 source "$here/../scratch.sh"
 build_timed \
@@ -28,7 +28,13 @@ kind() {
             printf "    the best scan takes %.2f times as long\n", best / own }' "$work/times" | sort -r
 }
 
-[ $# -gt 0 ] || set -- walks long members resonances shrill noise short ${SOUND:+sound}
+# A kind over two recordings that Debian has: recorded heart|music KIND ROWS.
+recorded() {
+    "$here/../recordings" "$1" "$work/sound" "$work/asked"
+    SOUND="$work/sound" QUERIES="$work/asked" kind "$2" "$3" 256 20 10
+}
+
+[ $# -gt 0 ] || set -- walks long members resonances shrill tremor noise short ${SOUND:+sound}
 for wanted in "$@"; do
     case "$wanted" in
         walks) kind walks 500000 256 20 10 ;;
@@ -36,6 +42,9 @@ for wanted in "$@"; do
         members) kind members 500000 256 100 1 ;;
         resonances) kind resonances 100000 256 20 10 ;;
         shrill) kind shrill 100000 256 20 10 ;;
+        tremor) kind tremor 100000 256 20 10 ;;
+        heart) recorded heart heart 86000 ;;
+        music) recorded music sound 400000 ;;
         sound) kind sound 400000 256 20 10 ;;
         noise) kind noise 200000 256 10 10 ;;
         short) kind walks 16777216 8 20 10 ;;

@@ -23,9 +23,9 @@ use Rattle.search_machine.specs.declared.outcome.Fate.TheVariants.{Start as Star
 use Rattle.search_machine.specs.declared.outcome.Outcome.{Outcome}
 use Rattle.search_machine.specs.declared.outcome.QueueLine.{QueueLine}
 use Rattle.search_machine.proofs.Places.{total_at}
-use Rattle.query_core.specs.Questions.{Question, IsQuestion, leaf_bound, search_over, view_in}
-use Rattle.query_core.proofs.BelowRoots.{leaf_has_word}
-use Rattle.query_core.proofs.OfIndex.{last_is}
+use Rattle.search_task.specs.Questions.{Question, IsQuestion, leaf_bound, search_over, view_in}
+use Rattle.search_task.proofs.BelowRoots.{leaf_has_word}
+use Rattle.search_task.proofs.OfIndex.{last_is}
 use Rattle.certificate.specs.declared.block.LeafLine.{LeafLine}
 use Rattle.certificate.specs.Printed.{Certifies, IsRightlySaid, entries_taken, leaves_said, outcome_said, said_of, times_taken}
 

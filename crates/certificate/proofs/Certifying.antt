@@ -28,10 +28,10 @@ use Rattle.subtree_build.specs.declared.leaf.TreeLeaf.{TreeLeaf}
 use Rattle.search_machine.specs.Basics.{EntryRight, start_of}
 use Rattle.search_machine.specs.Ground.{Ground, opening_of, pairs_of as ground_pairs, start_limit}
 use Rattle.search_machine.specs.declared.outcome.Start.{Start}
-use Rattle.query_core.specs.Questions.{IsQuestion, Question, search_over, view_in}
-use Rattle.query_core.proofs.BelowRoots.{leaf_has_word}
-use Rattle.query_core.proofs.OfIndex.{distance_small}
-use Rattle.query_core.proofs.StartLeaf.{start_is_leaf}
+use Rattle.search_task.specs.Questions.{IsQuestion, Question, search_over, view_in}
+use Rattle.search_task.proofs.BelowRoots.{leaf_has_word}
+use Rattle.search_task.proofs.OfIndex.{distance_small}
+use Rattle.search_task.proofs.StartLeaf.{start_is_leaf}
 use Rattle.certificate.specs.declared.block.Block.{Block}
 use Rattle.certificate.specs.declared.block.LeafLine.{LeafLine}
 use Rattle.certificate.specs.declared.block.Said.{Said}

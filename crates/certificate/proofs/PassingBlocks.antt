@@ -18,7 +18,7 @@ use Rattle.series_core.proofs.Parts.{above_has, ascending_take}
 use Rattle.series_core.proofs.Plain.{answer-smallest, ascending_has, length-ascending, strict_from}
 use Rattle.subtree_build.specs.Index.{IndexParts}
 use Rattle.lower_bound.specs.Bound.{view_of, word_bound}
-use Rattle.query_core.specs.Questions.{Question, leaf_bound, search_over, view_in}
+use Rattle.search_task.specs.Questions.{Question, leaf_bound, search_over, view_in}
 use Rattle.certificate.specs.declared.block.Block.{Block}
 use Rattle.certificate.specs.declared.block.Said.{Said}
 use Rattle.certificate.specs.declared.block.Said.TheVariants.{Scanned, Bound}

@@ -6,7 +6,7 @@ use Rattle.series_core.specs.Collection.{Collection, IsCollection}
 use Rattle.series_core.specs.declared.pair.Pair.{Pair}
 use Rattle.segment_sums.specs.Division.{IsDivision}
 use Rattle.isax_word.specs.declared.layout.Layout.{Layout}
-use Rattle.query_core.specs.Questions.{Question}
+use Rattle.search_task.specs.Questions.{Question}
 use Rattle.certificate.specs.declared.block.Block.{Block}
 use Rattle.certificate.specs.Printed.{Certifies, search_in}
 

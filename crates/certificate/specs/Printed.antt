@@ -17,7 +17,7 @@ use Rattle.search_machine.specs.declared.outcome.Fate.TheVariants.{Bound as Boun
 use Rattle.search_machine.specs.declared.outcome.Outcome.{Outcome}
 use Rattle.search_machine.specs.declared.outcome.QueueLine.{QueueLine}
 use Rattle.search_machine.specs.declared.outcome.Start.{Start}
-use Rattle.query_core.specs.Questions.{IsQuestion, Question, search_over}
+use Rattle.search_task.specs.Questions.{IsQuestion, Question, search_over}
 use Rattle.certificate.specs.Spelling.{start_line, queue_lines, leaf_lines}
 use Rattle.certificate.specs.declared.block.Block.{Block}
 use Rattle.certificate.specs.declared.block.LeafLine.{LeafLine}

@@ -25,6 +25,3 @@ pub use laws::certificates_hold;
 pub use line_text::{LineText, ROOM};
 pub use printing::print;
 pub use text::read;
-
-#[cfg(test)]
-mod tests;

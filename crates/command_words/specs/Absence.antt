@@ -2,6 +2,7 @@
 use Rattle.std.specs.Prelude.{◌≡◌, IfSome, false, None, codes}
 use Rattle.breakpoints.specs.declared.table.Table.TheVariants.{Flat}
 use Rattle.command_words.specs.CommandName.{has_argument}
+use Rattle.command_words.specs.declared.limits.TheConstants.{USUAL_LEAF, USUAL_QUEUES, USUAL_WORKERS}
 use Rattle.command_words.specs.declared.name.CommandName.{CommandName}
 use Rattle.command_words.specs.declared.options.Options.{Options}
 
@@ -9,9 +10,9 @@ use Rattle.command_words.specs.declared.options.Options.{Options}
 pub record HoldsAbsence (name : CommandName) (o : Options) : Type 0 where
   pub k : has_argument name (codes "k") ≡ false → o.k ≡ 1
   pub segments : has_argument name (codes "segments") ≡ false → o.segments ≡ None
-  pub leaf : has_argument name (codes "leaf") ≡ false → o.leaf ≡ 1000
-  pub workers : has_argument name (codes "workers") ≡ false → o.workers ≡ 4
-  pub queues : has_argument name (codes "queues") ≡ false → o.queues ≡ 2
+  pub leaf : has_argument name (codes "leaf") ≡ false → o.leaf ≡ USUAL_LEAF
+  pub workers : has_argument name (codes "workers") ≡ false → o.workers ≡ USUAL_WORKERS
+  pub queues : has_argument name (codes "queues") ≡ false → o.queues ≡ USUAL_QUEUES
   pub table : has_argument name (codes "breaks") ≡ false → o.table ≡ Flat
   pub raw : has_argument name (codes "raw") ≡ false → o.raw ≡ None
   pub certificate : has_argument name (codes "certificate") ≡ false → o.certificate ≡ false
@@ -22,5 +23,5 @@ pub record HoldsAbsence (name : CommandName) (o : Options) : Type 0 where
 -- where an index is named, the options that a saved index has settled hold their values for
 -- absence, and no certificate is asked for
 abbrev pub IndexStandsAlone : Options → Type 0
-IndexStandsAlone o = IfSome o.index (λ _. (o.segments ≡ None) × (o.leaf ≡ 1000)
+IndexStandsAlone o = IfSome o.index (λ _. (o.segments ≡ None) × (o.leaf ≡ USUAL_LEAF)
     × (o.table ≡ Flat) × (o.certificate ≡ false))

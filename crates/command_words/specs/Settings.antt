@@ -8,6 +8,7 @@ use Rattle.command_words.specs.declared.command.Command.{Command}
 use Rattle.command_words.specs.declared.command.Command.TheVariants.{Nearest, Range, Verify, Trial}
 use Rattle.command_words.specs.declared.command.Command.TheVariants.{Convert, Save}
 use Rattle.command_words.specs.declared.command.Command.TheVariants.{Windows, Discord}
+use Rattle.command_words.specs.declared.limits.TheConstants.{MOST_NEAREST, MOST_POINTS, MOST_QUERIES, MOST_RADIUS, MOST_SERIES, MOST_VALUES}
 use Rattle.command_words.specs.declared.name.CommandName.{CommandName}
 use Rattle.command_words.specs.declared.name.CommandName.TheVariants as name
 use Rattle.command_words.specs.declared.options.Options.{Options}
@@ -54,19 +55,19 @@ HasWords rows (Nearest series queries options) = HasText (codes "DATA") rows ser
     × HasText (codes "QUERIES") rows queries × (has_stray_option rows ≡ false)
 HasWords rows (Range series queries radius options) = HasText (codes "DATA") rows series
     × HasText (codes "QUERIES") rows queries
-    × HasNumber (codes "RADIUS") 0 281474976710656 rows radius
+    × HasNumber (codes "RADIUS") 0 MOST_RADIUS rows radius
 HasWords rows (Verify series queries certificate options) = HasText (codes "DATA") rows series
     × HasText (codes "QUERIES") rows queries × HasText (codes "CERTIFICATE") rows certificate
 HasWords rows (Trial seed count length queries options) =
     HasNumber (codes "SEED") 0 18446744073709551615 rows seed
-    × HasNumber (codes "COUNT") 0 16777216 rows count
-    × HasNumber (codes "LENGTH") 1 65536 rows length
-    × HasNumber (codes "QUERIES") 0 1000 rows queries × (count * length ≤ 134217728)
+    × HasNumber (codes "COUNT") 0 MOST_SERIES rows count
+    × HasNumber (codes "LENGTH") 1 MOST_POINTS rows length
+    × HasNumber (codes "QUERIES") 0 MOST_QUERIES rows queries × (count * length ≤ MOST_VALUES)
 HasWords rows (Convert series options) = HasText (codes "DATA") rows series
 HasWords rows (Save series options) = HasText (codes "DATA") rows series
 HasWords rows (Windows series queries step options) = HasText (codes "SERIES") rows series
     × HasText (codes "QUERIES") rows queries
-    × HasNumber (codes "STEP") 1 16777216 rows step × (windows_needed options ≤ 1024)
+    × HasNumber (codes "STEP") 1 MOST_SERIES rows step × (windows_needed options ≤ MOST_NEAREST)
 HasWords rows (Discord series options) = HasText (codes "DATA") rows series
 
 -- the matches have all that the command holds

@@ -6,7 +6,7 @@ use thiserror::Error;
 /// Why words come to no command.
 #[derive(Clone, Copy, Debug, PartialEq, Eq, Error)]
 pub enum WordsError {
-    /// The words have no settings.
+    /// The words ask for no command.
     #[error("usage")]
     Usage,
     /// Memory ran out.

@@ -10,6 +10,9 @@ ghost use Rattle.command_words.specs.declared.command.Command.{Command};
 use crate::command::Command;
 use crate::error::WordsError;
 use crate::given::{given, is_flag_set, long_number_at, number_at, text_at};
+use crate::limits::{
+    MOST_NEAREST, MOST_POINTS, MOST_QUERIES, MOST_RADIUS, MOST_SERIES, MOST_VALUES,
+};
 use crate::matching::matches_of;
 use crate::name::CommandName;
 use crate::options::{Options, options_of};
@@ -34,10 +37,10 @@ fn trial(matches: &ArgMatches<'_>, options: Options) -> Result<Command, WordsErr
     ensures usage { result ≡ Err WordsError.Usage → FitsNone CommandName.Trial (rows matches.now) }
 {
     let seed = long_number_at(matches, "SEED", 0, u64::MAX).ok_or(WordsError::Usage)?;
-    let count = number_at(matches, "COUNT", 0, 16777216).ok_or(WordsError::Usage)?;
-    let length = number_at(matches, "LENGTH", 1, 65536).ok_or(WordsError::Usage)?;
-    let queries = number_at(matches, "QUERIES", 0, 1000).ok_or(WordsError::Usage)?;
-    if u64::from(count) * u64::from(length) > 134217728 {
+    let count = number_at(matches, "COUNT", 0, MOST_SERIES).ok_or(WordsError::Usage)?;
+    let length = number_at(matches, "LENGTH", 1, MOST_POINTS).ok_or(WordsError::Usage)?;
+    let queries = number_at(matches, "QUERIES", 0, MOST_QUERIES).ok_or(WordsError::Usage)?;
+    if u64::from(count) * u64::from(length) > MOST_VALUES {
         return Err(WordsError::Usage);
     }
     Ok(Command::Trial {
@@ -56,13 +59,13 @@ fn windows(alloc: Global, matches: &ArgMatches<'_>, options: Options) -> Result<
     ensures ok { IfOk result (FitsAs CommandName.Windows (rows matches.now)) }
     ensures usage { result ≡ Err WordsError.Usage → FitsNone CommandName.Windows (rows matches.now) }
 {
-    if options.windows_needed() > 1024 {
+    if options.windows_needed() > MOST_NEAREST {
         return Err(WordsError::Usage);
     }
     Ok(Command::Windows {
         series: text_at(alloc, matches, "SERIES")?,
         queries: text_at(alloc, matches, "QUERIES")?,
-        step: number_at(matches, "STEP", 1, 16777216).ok_or(WordsError::Usage)?,
+        step: number_at(matches, "STEP", 1, MOST_SERIES).ok_or(WordsError::Usage)?,
         options,
     })
 }
@@ -87,7 +90,7 @@ fn command_given(
         CommandName::Range => Ok(Command::Range {
             series: text_at(alloc, matches, "DATA")?,
             queries: text_at(alloc, matches, "QUERIES")?,
-            radius: long_number_at(matches, "RADIUS", 0, 281474976710656).ok_or(WordsError::Usage)?,
+            radius: long_number_at(matches, "RADIUS", 0, MOST_RADIUS).ok_or(WordsError::Usage)?,
             options,
         }),
         CommandName::Verify => Ok(Command::Verify {

@@ -12,6 +12,3 @@ mod team;
 
 pub use discords::{Discord, DiscordList};
 pub use farthest::discord;
-
-#[cfg(test)]
-mod tests;

@@ -9,8 +9,8 @@ use crate::recent::{Known, RECENT, Recent};
 use best_word::Floor;
 use isax_word::Layout;
 use mean_bound::{MeanView, Means};
+use nearest_answer::{Task, one_worker_answer};
 use outside::NoMemory;
-use query_core::{Task, one_worker_answer};
 use series_core::{NONE, Pair, Rows};
 use simd_distance::distance_within;
 use std::alloc::Global;
@@ -62,7 +62,7 @@ impl<'a, R: Rows> Search<'a, R> {
         ensures { IfOk result (λ o. option_to_list o ≡ other (R.collection self.now.rows.now) number) }
     {
         let task = Task::new(self.rows, self.rows.row(number), 2, self.layout);
-        let nearest = one_worker_answer(alloc, &task, self.index, 1)?;
+        let nearest = one_worker_answer(alloc, &task, self.index)?;
         Ok(first_but(nearest.items.as_slice(), number))
     }
 

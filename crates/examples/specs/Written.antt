@@ -3,7 +3,7 @@ use Rattle.std.specs.Prelude.{◌≡◌, ◌++◌, ℕ, ℤ, List}
 use Rattle.series_core.specs.Collection.{Collection}
 use Rattle.isax_word.specs.declared.layout.Layout.{Layout}
 use Rattle.certificate.specs.Printed.{IsCertificate}
-use Rattle.query_core.specs.Questions.{Question}
+use Rattle.search_task.specs.Questions.{Question}
 
 -- the question for the k nearest of a collection to a query, by words of a layout
 abbrev pub asked : Collection → List ℤ → ℕ → Layout → Question

@@ -3,8 +3,8 @@ ghost use Rattle.std.specs.Prelude.{◌≡◌, ◌≤◌, IfOk, length};
 ghost use Rattle.series_core.specs.Answer.{answer};
 
 use breakpoints::Table;
+use nearest_answer::{Task, one_worker_answer};
 use outside::{NoGate, NoMemory};
-use query_core::{Task, one_worker_answer};
 use series_core::{PairList, Rows};
 use std::alloc::Global;
 use std::thread::Threads;
@@ -26,5 +26,5 @@ pub fn nearest<T: Threads + Sync, R: Rows + Sync>(
     let settings = Settings::new(length, length.min(16), Table::Bent, 128);
     let index = build(rt, alloc, rows, &settings, 4, &NoGate)?;
     let task = Task::new(rows, query, k, &settings.layout);
-    one_worker_answer(alloc, &task, &index, 1)
+    one_worker_answer(alloc, &task, &index)
 }

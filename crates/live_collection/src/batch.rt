@@ -4,8 +4,8 @@ ghost use Rattle.series_core.specs.Answer.{answer};
 ghost use Rattle.subtree_build.specs.Fits.{Fits};
 
 use isax_word::Layout;
+use nearest_answer::{Task, one_worker_answer};
 use outside::{NoGate, NoMemory};
-use query_core::{Task, one_worker_answer};
 use series_core::{Flat, MAX_BEST, PairList};
 use std::alloc::Global;
 use std::thread::Threads;
@@ -51,6 +51,6 @@ impl Batch {
         ensures { IfOk result (λ pairs. pairs ≡ answer self.now.series query.now k) }
     {
         let task = Task::new(&self.series, query, k, &self.layout);
-        one_worker_answer(alloc, &task, &self.index, 1)
+        one_worker_answer(alloc, &task, &self.index)
     }
 }

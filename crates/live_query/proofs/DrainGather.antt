@@ -18,11 +18,11 @@ use Rattle.search_machine.specs.OwnRecord.{RecordedWorker}
 use Rattle.search_machine.specs.Stands.{StandsFor}
 use Rattle.search_machine.specs.Workers.{fills}
 use Rattle.search_machine.proofs.Places.{get_map}
-use Rattle.query_core.specs.Questions.{CanBeSearched, Question, last_of, search_over}
+use Rattle.search_task.specs.Questions.{CanBeSearched, Question, last_of, search_over}
 use Rattle.query_core.specs.Teams.{AreOver}
 use Rattle.query_core.specs.Working.{Working}
 use Rattle.query_core.specs.Turning.{search_of}
-use Rattle.query_core.proofs.OfIndex.{search_fits}
+use Rattle.search_task.proofs.OfIndex.{search_fits}
 use Rattle.live_query.specs.DrainHands.{DrainTied, given_of}
 use Rattle.live_query.specs.Knowing.{DrainServes, DrainsBy, DrainsOn}
 use Rattle.live_query.specs.Parts.{AllDrainOn, AllFilled, Draining, HasFilled, Resting, draining}

@@ -15,7 +15,7 @@ use Rattle.search_machine.specs.Workers.{fills}
 use Rattle.search_machine.specs.OwnRecord.{RecordedWorker}
 use Rattle.search_machine.specs.Stands.{StandsFor}
 use Rattle.search_machine.proofs.Places.{get_map, get_some}
-use Rattle.query_core.specs.Questions.{Question, last_of}
+use Rattle.search_task.specs.Questions.{Question, last_of}
 use Rattle.query_core.specs.Turning.{search_of}
 use Rattle.live_query.specs.Knowing.{FillKnows, FillServes, FillsOn}
 use Rattle.live_query.specs.RootClaims.{DrawTied, Drawn, IsOwn, Roots, group_count}

@@ -12,7 +12,7 @@ use Rattle.search_machine.specs.OwnRecord.{RecordedWorker}
 use Rattle.search_machine.specs.Replies.{after}
 use Rattle.search_machine.specs.Stands.{StandsFor}
 use Rattle.search_machine.specs.Workers.{fills}
-use Rattle.query_core.specs.Questions.{last_of, search_over}
+use Rattle.search_task.specs.Questions.{last_of, search_over}
 use Rattle.query_core.specs.Turning.{Turns, search_of}
 use Rattle.query_core.specs.Working.{IsOf, Working}
 use Rattle.search_machine.proofs.EveryReply.{reply_stands}

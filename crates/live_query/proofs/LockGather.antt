@@ -13,11 +13,11 @@ use Rattle.search_machine.specs.OwnRecord.{RecordedWorker}
 use Rattle.search_machine.specs.Stands.{StandsFor}
 use Rattle.search_machine.specs.Workers.{fills}
 use Rattle.search_machine.proofs.Places.{get_map, get_some}
-use Rattle.query_core.specs.Questions.{CanBeSearched, Question, last_of}
+use Rattle.search_task.specs.Questions.{CanBeSearched, Question, last_of}
 use Rattle.query_core.specs.Teams.{AreOver}
 use Rattle.query_core.specs.Turning.{search_of}
 use Rattle.query_core.specs.Working.{Working}
-use Rattle.query_core.proofs.OfIndex.{search_fits}
+use Rattle.search_task.proofs.OfIndex.{search_fits}
 use Rattle.live_query.specs.LockHands.{LockKept, QueueLock, QueuePass, calls_at, calls_of}
 use Rattle.live_query.specs.LockKnowing.{ArePopsOf, LockServes, LocksBy, LocksOn}
 use Rattle.live_query.specs.LockParts.{AllLocksOn, AreEquipped, AreNumbered, AreRound, HasNew, Locking, Row, WentBy, calls_in, calls_in_row}

@@ -17,7 +17,7 @@ use Rattle.search_machine.specs.Stands.{StandsFor}
 use Rattle.search_machine.proofs.Draining.{drains_on}
 use Rattle.search_machine.proofs.EveryReply.{reply_stands}
 use Rattle.search_machine.proofs.Places.{get_set, get_some}
-use Rattle.query_core.specs.Questions.{last_of}
+use Rattle.search_task.specs.Questions.{last_of}
 use Rattle.query_core.specs.Turning.{Turns, search_of}
 use Rattle.query_core.specs.Working.{IsOf, Working}
 use Rattle.live_query.specs.LockHands.{Called, LockDid, LockKept, QueuePass}

@@ -34,9 +34,9 @@ use Rattle.queue_histories.specs.Histories.{ArePops, History, Holds, Past, Place
 use Rattle.queue_histories.proofs.Callers.{by_team}
 use Rattle.queue_histories.proofs.Closings.{of_caller, of_history}
 use Rattle.queue_histories.proofs.Joins.{past_of}
-use Rattle.query_core.specs.Questions.{Question, search_over}
+use Rattle.search_task.specs.Questions.{Question, search_over}
 use Rattle.query_core.specs.Working.{IsOf, Working}
-use Rattle.query_core.proofs.OfIndex.{last_is, search_fits}
+use Rattle.search_task.proofs.OfIndex.{last_is, search_fits}
 use Rattle.live_query.specs.FilledQueues.{AreFilled, IsFilled}
 use Rattle.live_query.specs.LockHands.{QueueLock}
 use Rattle.live_query.specs.LockKnowing.{ArePopsOf, IsLaterBy}

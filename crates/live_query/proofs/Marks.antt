@@ -14,7 +14,7 @@ use Rattle.lower_bound.specs.Bound.{View}
 use Rattle.sealed_runs.specs.Entries.{IsRun, LeavesDiffer}
 use Rattle.subtree_build.specs.Index.{IndexParts}
 use Rattle.search_machine.proofs.Places.{get_map}
-use Rattle.query_core.specs.Questions.{leaf_bound}
+use Rattle.search_task.specs.Questions.{leaf_bound}
 use Rattle.live_query.specs.Marked.{AreMarked, IsMarked, IsMarkedEntry, IsRunOf}
 use Rattle.live_query.specs.Parts.{Resting, marks_of}
 

@@ -15,11 +15,11 @@ use Rattle.search_machine.specs.Stands.{OwnPhase, StandsFor}
 use Rattle.search_machine.specs.Workers.{fills}
 use Rattle.search_machine.proofs.EveryReply.{own_idle, own_leader}
 use Rattle.search_machine.proofs.Places.{get_replicate}
-use Rattle.query_core.specs.Questions.{Question, last_of, search_over}
+use Rattle.search_task.specs.Questions.{Question, last_of, search_over}
 use Rattle.query_core.specs.Teams.{AreHired}
 use Rattle.query_core.specs.Turning.{search_of}
 use Rattle.query_core.specs.Working.{IsOf, Working, opens_as}
-use Rattle.query_core.proofs.OfIndex.{search_fits}
+use Rattle.search_task.proofs.OfIndex.{search_fits}
 use Rattle.live_query.specs.Holding.{Held, fresh_held}
 use Rattle.live_query.specs.RootClaims.{DrawTied, IsOwn, Roots}
 use Rattle.live_query.specs.Parts.{Between, IsOpen, Opens}

@@ -20,7 +20,7 @@ use Rattle.search_machine.proofs.Ending.{entered_some}
 use Rattle.search_machine.proofs.OwnLate.{below_real}
 use Rattle.search_machine.proofs.Places.{get_map, get_some, total_at, total_some}
 use Rattle.search_machine.proofs.PutsOnce.{placed_put, puts_once}
-use Rattle.query_core.specs.Questions.{Question, search_over, view_in}
+use Rattle.search_task.specs.Questions.{Question, search_over, view_in}
 use Rattle.live_query.specs.Marked.{IsMarked, IsMarkedEntry}
 use Rattle.live_query.specs.Parts.{AllFilled, HasFilled, Resting, marks_of}
 use Rattle.live_query.specs.Resting.{Kept}

@@ -27,7 +27,7 @@ use Rattle.queue_histories.specs.Histories.{ArePuts, History, Holds, Leads, Past
 use Rattle.queue_histories.specs.Rooms.{AllPlaced, ArePutsInto, opened_for, puts_at, puts_leaf}
 use Rattle.queue_histories.proofs.Joins.{leads_joined, past_of, shaped_empty}
 use Rattle.queue_histories.proofs.Rooms.{different_placed}
-use Rattle.query_core.specs.Questions.{Question, search_over, view_in}
+use Rattle.search_task.specs.Questions.{Question, search_over, view_in}
 use Rattle.live_query.specs.FilledQueues.{IsFilled, IsFilledBy, those_of}
 use Rattle.live_query.specs.Marked.{IsMarkedEntry}
 use Rattle.live_query.specs.Parts.{AreEntriesOf, Resting, marks_of}

@@ -30,9 +30,9 @@ use Rattle.search_machine.specs.Sound.{takes, waits}
 use Rattle.search_machine.specs.Stands.{OwnDrains, OwnPhase, StandsFor}
 use Rattle.search_machine.proofs.AnyWorkers.{stands_any}
 use Rattle.search_machine.proofs.Places.{get_map, get_some}
-use Rattle.query_core.specs.Questions.{Question, search_over, view_in}
+use Rattle.search_task.specs.Questions.{Question, search_over, view_in}
 use Rattle.query_core.specs.Working.{Working}
-use Rattle.query_core.proofs.OfIndex.{last_is, search_fits}
+use Rattle.search_task.proofs.OfIndex.{last_is, search_fits}
 use Rattle.live_query.specs.DrainHands.{given_of}
 use Rattle.live_query.specs.Knowing.{IsLater}
 use Rattle.live_query.specs.Marked.{IsRunOf, line_of_run}

@@ -8,7 +8,7 @@ use Rattle.subtree_build.specs.Index.{IndexParts}
 use Rattle.search_machine.specs.Basics.{Ordered, entered}
 use Rattle.search_machine.specs.Machine.{capacity_of}
 use Rattle.queue_histories.specs.Histories.{History, Leads}
-use Rattle.query_core.specs.Questions.{Question, search_over, view_in}
+use Rattle.search_task.specs.Questions.{Question, search_over, view_in}
 use Rattle.live_query.specs.Marked.{IsMarkedEntry}
 use Rattle.live_query.specs.Parts.{Resting, marks_of}
 

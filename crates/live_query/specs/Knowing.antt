@@ -5,7 +5,7 @@ use Rattle.search_machine.specs.Ground.{Fits}
 use Rattle.search_machine.specs.OwnRecord.{RecordedWorker}
 use Rattle.search_machine.specs.Workers.{Worker}
 use Rattle.search_machine.specs.Stands.{StandsFor}
-use Rattle.query_core.specs.Questions.{last_of}
+use Rattle.search_task.specs.Questions.{last_of}
 use Rattle.query_core.specs.Turning.{search_of}
 use Rattle.query_core.specs.Working.{Working, IsOf, Shows}
 use Rattle.live_query.specs.RootClaims.{IsOwn}

@@ -24,4 +24,4 @@ pub use Rattle.search_machine.specs.Closes
 pub use Rattle.search_machine.specs.Legal
 pub use Rattle.series_core.specs.Answer
 pub use Rattle.subtree_build.specs.Fits
-pub use Rattle.query_core.specs.Questions
+pub use Rattle.search_task.specs.Questions

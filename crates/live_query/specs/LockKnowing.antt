@@ -13,7 +13,7 @@ use Rattle.search_machine.specs.Closes.{popped_by}
 use Rattle.search_machine.specs.OwnRecord.{PopMade, RecordedWorker}
 use Rattle.search_machine.specs.Stands.{StandsFor}
 use Rattle.search_machine.specs.Workers.{Worker}
-use Rattle.query_core.specs.Questions.{last_of}
+use Rattle.search_task.specs.Questions.{last_of}
 use Rattle.query_core.specs.Turning.{search_of}
 use Rattle.query_core.specs.Working.{Working, IsOf, Shows}
 use Rattle.queue_histories.specs.Histories.{ArePops, History, taken_at}

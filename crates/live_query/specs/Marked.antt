@@ -9,7 +9,7 @@ use Rattle.sealed_runs.specs.Closed.{Line}
 use Rattle.subtree_build.specs.Index.{IndexParts}
 use Rattle.search_machine.specs.declared.outcome.QueueLine.{QueueLine}
 use Rattle.search_machine.specs.Outcome.{kept_of}
-use Rattle.query_core.specs.Questions.{leaf_bound}
+use Rattle.search_task.specs.Questions.{leaf_bound}
 
 -- some worker has marked leaf l
 abbrev pub IsMarked : List (List Bool) → ℕ → Type 0

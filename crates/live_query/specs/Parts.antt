@@ -17,7 +17,7 @@ use Rattle.search_machine.specs.Legal.{Legal, IsStraight}
 use Rattle.search_machine.specs.OwnRecord.{RecordedWorker}
 use Rattle.search_machine.specs.Stands.{StandsFor}
 use Rattle.search_machine.specs.Closes.{ClaimedOnce, claimed_by}
-use Rattle.query_core.specs.Questions.{CanBeSearched, Question, last_of, search_over, view_in}
+use Rattle.search_task.specs.Questions.{CanBeSearched, Question, last_of, search_over, view_in}
 use Rattle.query_core.specs.Teams.{EndsIn}
 use Rattle.query_core.specs.Working.{IsOf, Shows, Working, opens_as}
 use Rattle.live_query.specs.declared.searcher.Searcher.{Searcher}

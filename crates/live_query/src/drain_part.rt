@@ -4,7 +4,7 @@ ghost use Rattle.sealed_runs.specs.Entries.{Run};
 ghost use Rattle.sealed_runs.specs.Sealing.{fresh_visits};
 ghost use Rattle.sealed_runs.specs.Visits.{IsPass};
 ghost use Rattle.search_machine.specs.Ground.{start_limit};
-ghost use Rattle.query_core.specs.Questions.{CanBeSearched, search_over};
+ghost use Rattle.search_task.specs.Questions.{search_over};
 ghost use Rattle.query_core.specs.Teams.{AreOver};
 ghost use Rattle.live_query.specs.Parts.{AllFilled, EndsRight, draining};
 
@@ -12,7 +12,7 @@ use crate::drain_hand::DrainHand;
 use crate::draining::{Draining, drain_together};
 use crate::lines::lines;
 use crate::marked::seal_marked;
-use crate::search::Search;
+use crate::plan::Plan;
 use crate::searcher::{Rested, Searcher};
 use best_word::BestWord;
 use outside::{Gate, NoMemory};
@@ -27,27 +27,26 @@ pub(crate) fn drain_part<'a, T: Threads + Sync, R: Rows + Sync, G: Gate + Sync>(
     rt: &T,
     alloc: Global,
     gate: &G,
-    search: &Search<'a, R>,
+    plan: &Plan<'a, R>,
     word: &BestWord,
     team: Vec<Searcher<Worker<'a, R>, Rested>>,
 ) -> Result<(Vec<Worker<'a, R>>, LineList), NoMemory>
-    requires searches { CanBeSearched search.now.task.now search.now.index.now }
-    requires queues { (1 ≤ search.now.queues) × (search.now.queues ≤ 64) }
+    requires queues { (1 ≤ plan.now.queues) × (plan.now.queues ≤ 64) }
     requires team { (1 ≤ length team.items) × (length team.items ≤ 64) }
-    requires word { let g = search_over search.now.task.now search.now.index.now 1 search.now.queues in
+    requires word { let g = search_over plan.now.search.question plan.now.search.index 1 plan.now.queues in
         word.now.start ≡ start_limit g }
-    requires filled { AllFilled search.now.task.now search.now.index.now search.now.queues word.now team.items }
-    ensures over { IfOk result (λ r. AreOver search.now.task.now search.now.index.now r.0.items) }
-    ensures sizes { IfOk result (λ r. (length r.0.items ≡ length team.entry.items) × (length r.1 ≡ search.now.queues)) }
+    requires filled { AllFilled plan.now.search.question plan.now.search.index plan.now.queues word.now team.items }
+    ensures over { IfOk result (λ r. AreOver plan.now.search.question plan.now.search.index r.0.items) }
+    ensures sizes { IfOk result (λ r. (length r.0.items ≡ length team.entry.items) × (length r.1 ≡ plan.now.queues)) }
     ensures ends { IfOk result (λ r. EndsRight
-        (search_over search.now.task.now search.now.index.now (length team.entry.items) search.now.queues) r.0.items r.1) }
+        (search_over plan.now.search.question plan.now.search.index (length team.entry.items) plan.now.queues) r.0.items r.1) }
 {
-    let (runs, passes) = seal_marked(alloc, search, &team)?;
-    let roots = u64::from(search.index.root_count());
-    let mut team = equip(alloc, search.queues, roots, word, &runs, team, passes)?;
+    let (runs, passes) = seal_marked(alloc, plan, &team)?;
+    let roots = u64::from(plan.search.root_count());
+    let mut team = equip(alloc, plan.queues, roots, word, &runs, team, passes)?;
     drain_together(rt, gate, &mut team);
     let (workers, passes) = dismiss(alloc, team)?;
-    let lines = lines(alloc, &runs.close(passes), search.queues)?;
+    let lines = lines(alloc, &runs.close(passes), plan.queues)?;
     Ok((workers, lines))
 }
 

@@ -5,8 +5,8 @@ ghost use Rattle.live_query.specs.Parts.{AllFilled, Opens, filling, resting};
 
 use crate::fill_hand::FillHand;
 use crate::filling::{Filling, fill_together};
+use crate::plan::Plan;
 use crate::root_claims::RootClaims;
-use crate::search::Search;
 use crate::searcher::{Holding, Rested, Searcher};
 use best_word::BestWord;
 use claim_word::ClaimPass;
@@ -21,19 +21,19 @@ pub(crate) fn fill_part<'a, T: Threads + Sync, R: Rows + Sync, G: Gate + Sync>(
     rt: &T,
     alloc: Global,
     gate: &G,
-    search: &Search<'a, R>,
+    plan: &Plan<'a, R>,
     claims: RootClaims,
     word: &BestWord,
     team: Vec<Searcher<Worker<'a, R>, Holding>>,
 ) -> Result<Vec<Searcher<Worker<'a, R>, Rested>>, NoMemory>
-    requires queues { (1 ≤ search.now.queues) × (search.now.queues ≤ 64) }
+    requires queues { (1 ≤ plan.now.queues) × (plan.now.queues ≤ 64) }
     requires team { (1 ≤ length team.items) × (length team.items ≤ 64) }
-    requires opens { Opens search.now.task.now search.now.index.now search.now.queues claims word.now team.items }
+    requires opens { Opens plan.now.search.question plan.now.search.index plan.now.queues claims word.now team.items }
     ensures len { IfOk result (λ filled. length filled.items ≡ length team.entry.items) }
     ensures filled { IfOk result (λ filled.
-        AllFilled search.now.task.now search.now.index.now search.now.queues word.now filled.items) }
+        AllFilled plan.now.search.question plan.now.search.index plan.now.queues word.now filled.items) }
 {
-    let mut team = equip(alloc, search, &claims, word, team)?;
+    let mut team = equip(alloc, plan, &claims, word, team)?;
     fill_together(rt, gate, &mut team);
     let (passes, team) = unequip(alloc, team)?;
     claims.close(passes);
@@ -43,7 +43,7 @@ pub(crate) fn fill_part<'a, T: Threads + Sync, R: Rows + Sync, G: Gate + Sync>(
 // Gives each searcher its hand of the fill part, which has marked no leaf.
 fn equip<'a, 'b, R: Rows>(
     alloc: Global,
-    search: &Search<'a, R>,
+    plan: &Plan<'a, R>,
     claims: &'b RootClaims,
     word: &'b BestWord,
     team: Vec<Searcher<Worker<'a, R>, Holding>>,
@@ -51,9 +51,9 @@ fn equip<'a, 'b, R: Rows>(
     requires word { All (λ c. c.hand.best ≡ word.now) team.items }
     requires own { All (λ c. IsOwn claims.now c.hand.drawn) team.items }
     ensures { IfOk result (λ ready.
-        ready.items ≡ map (filling claims.now search.now.queues (length search.now.index.now.leaves)) team.entry.items) }
+        ready.items ≡ map (filling claims.now plan.now.queues (length plan.now.search.index.leaves)) team.entry.items) }
 {
-    let leaves = search.index.leaf_count();
+    let leaves = plan.search.leaf_count();
     let mut ready = Vec::with_capacity(alloc, team.len())?;
     for searcher in team {
         let marks = no_marks(alloc, leaves)?;
@@ -64,7 +64,7 @@ fn equip<'a, 'b, R: Rows>(
             word,
             drawing,
             seen,
-            search.queues,
+            plan.queues,
             marks,
         )));
     }

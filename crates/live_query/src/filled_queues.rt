@@ -2,11 +2,10 @@
 //! Each leaf is put once, whoever marked it, and before a lock is round its queue.
 ghost use Rattle.std.specs.Prelude.{◌≡◌, ℕ, ◌<◌, ◌≤◌, All, IfOk, Some, length, slice_get, vec_len};
 ghost use Rattle.leaf_queues.specs.PlainQueue.{PlainQueue};
-ghost use Rattle.query_core.specs.Questions.{CanBeSearched};
 ghost use Rattle.live_query.specs.FilledQueues.{AreFilled, IsFilledBy};
 
 use crate::marked::marked_entries;
-use crate::search::Search;
+use crate::plan::Plan;
 use crate::searcher::{Rested, Searcher};
 use leaf_queues::Queue;
 use outside::NoMemory;
@@ -17,18 +16,17 @@ use std::alloc::Global;
 /// A queue for each number below the count of queues, in which the leaves that some searcher put wait, each with its bound.
 pub(crate) fn filled_queues<'a, R: Rows>(
     alloc: Global,
-    search: &Search<'a, R>,
+    plan: &Plan<'a, R>,
     team: &[Searcher<Worker<'a, R>, Rested>],
 ) -> Result<Vec<Queue>, NoMemory>
-    requires searches { CanBeSearched search.now.task.now search.now.index.now }
-    requires over { All (λ c. (c.worker.question ≡ search.now.task.now) × (c.worker.index ≡ search.now.index.now)) team.now }
-    requires queues { (1 ≤ search.now.queues) × (search.now.queues ≤ 64) }
-    ensures count { IfOk result (λ qs. length qs.items ≡ search.now.queues) }
-    ensures filled { let a = search.now.task.now in
-        IfOk result (λ qs. AreFilled a search.now.index.now team.now search.now.queues qs.items) }
+    requires over { All (λ c. (c.worker.question ≡ plan.now.search.question) × (c.worker.index ≡ plan.now.search.index)) team.now }
+    requires queues { (1 ≤ plan.now.queues) × (plan.now.queues ≤ 64) }
+    ensures count { IfOk result (λ qs. length qs.items ≡ plan.now.queues) }
+    ensures filled { let a = plan.now.search.question in
+        IfOk result (λ qs. AreFilled a plan.now.search.index team.now plan.now.queues qs.items) }
 {
-    let entries = marked_entries(alloc, search, team)?;
-    let mut queues = empty_queues(alloc, search.index.leaf_count(), search.queues)?;
+    let entries = marked_entries(alloc, plan, team)?;
+    let mut queues = empty_queues(alloc, plan.search.leaf_count(), plan.queues)?;
     put_all(&mut queues, &entries);
     Ok(queues)
 }

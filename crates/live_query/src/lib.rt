@@ -21,14 +21,11 @@ mod locking;
 mod locks;
 mod marked;
 mod opening;
+mod plan;
 mod portions;
 mod root_claims;
 mod sealed;
-mod search;
 mod searcher;
 
 pub use locked::nearest;
 pub use sealed::nearest_sealed;
-
-#[cfg(test)]
-mod tests;

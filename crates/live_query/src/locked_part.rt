@@ -2,7 +2,7 @@
 //! its own, and the locks are closed. No lock outlives the part, so that the queues come back with all that was taken from them.
 ghost use Rattle.std.specs.Prelude.{◌≡◌, ◌≤◌, IfOk, length};
 ghost use Rattle.search_machine.specs.Ground.{start_limit};
-ghost use Rattle.query_core.specs.Questions.{CanBeSearched, search_over};
+ghost use Rattle.search_task.specs.Questions.{search_over};
 ghost use Rattle.query_core.specs.Teams.{AreOver};
 ghost use Rattle.live_query.specs.Parts.{AllFilled, EndsRight};
 
@@ -11,7 +11,7 @@ use crate::lines::queue_lines;
 use crate::locked_team::{dismiss, equip};
 use crate::locking::drain_locked;
 use crate::locks::{begin_locks, close_locks};
-use crate::search::Search;
+use crate::plan::Plan;
 use crate::searcher::{Rested, Searcher};
 use best_word::BestWord;
 use outside::{Gate, NoMemory};
@@ -26,24 +26,23 @@ pub(crate) fn locked_part<'a, T: Threads + Wait + Sync, R: Rows + Sync, G: Gate 
     rt: &T,
     alloc: Global,
     gate: &G,
-    search: &Search<'a, R>,
+    plan: &Plan<'a, R>,
     word: &BestWord,
     team: Vec<Searcher<Worker<'a, R>, Rested>>,
 ) -> Result<(Vec<Worker<'a, R>>, LineList), NoMemory>
-    requires searches { CanBeSearched search.now.task.now search.now.index.now }
-    requires queues { (1 ≤ search.now.queues) × (search.now.queues ≤ 64) }
+    requires queues { (1 ≤ plan.now.queues) × (plan.now.queues ≤ 64) }
     requires team { (1 ≤ length team.items) × (length team.items ≤ 64) }
-    requires word { let g = search_over search.now.task.now search.now.index.now 1 search.now.queues in
+    requires word { let g = search_over plan.now.search.question plan.now.search.index 1 plan.now.queues in
         word.now.start ≡ start_limit g }
-    requires filled { AllFilled search.now.task.now search.now.index.now search.now.queues word.now team.items }
-    ensures over { IfOk result (λ r. AreOver search.now.task.now search.now.index.now r.0.items) }
-    ensures sizes { IfOk result (λ r. (length r.0.items ≡ length team.entry.items) × (length r.1 ≡ search.now.queues)) }
+    requires filled { AllFilled plan.now.search.question plan.now.search.index plan.now.queues word.now team.items }
+    ensures over { IfOk result (λ r. AreOver plan.now.search.question plan.now.search.index r.0.items) }
+    ensures sizes { IfOk result (λ r. (length r.0.items ≡ length team.entry.items) × (length r.1 ≡ plan.now.queues)) }
     ensures ends { IfOk result (λ r. EndsRight
-        (search_over search.now.task.now search.now.index.now (length team.entry.items) search.now.queues) r.0.items r.1) }
+        (search_over plan.now.search.question plan.now.search.index (length team.entry.items) plan.now.queues) r.0.items r.1) }
 {
-    let queues = filled_queues(alloc, search, &team)?;
+    let queues = filled_queues(alloc, plan, &team)?;
     let (locks, rows) = begin_locks(alloc, queues, team.len() as u32)?;
-    let roots = u64::from(search.index.root_count());
+    let roots = u64::from(plan.search.root_count());
     let mut team = equip(rt, alloc, word, roots, locks.as_slice(), team, rows)?;
     drain_locked(rt, gate, &mut team);
     let (workers, rows) = dismiss(alloc, team)?;

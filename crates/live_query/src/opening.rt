@@ -1,21 +1,20 @@
 //! What a search opens with in both of its forms: the bound word, the root children to claim, and a searcher for each worker.
 ghost use Rattle.live_query.specs.PortionRows.{AreRows};
 ghost use Rattle.std.specs.Prelude.{◌≡◌, ◌≤◌, ℕ, All, IfOk, length, map, vec_len};
-ghost use Rattle.subtree_build.specs.Fits.{Fits as IndexFits};
 ghost use Rattle.best_word.specs.Passes.{Best, fresh_pass as fresh_seen};
 ghost use Rattle.search_machine.specs.Basics.{start_of};
-ghost use Rattle.query_core.specs.Questions.{search_over};
+ghost use Rattle.search_task.specs.Questions.{search_over};
 ghost use Rattle.live_query.specs.RootClaims.{Drawn};
 ghost use Rattle.live_query.specs.Parts.{Opens};
 
 use crate::apart::Apart;
+use crate::plan::Plan;
 use crate::portions::share_limits;
 use crate::root_claims::{Drawing, RootClaims};
-use crate::search::Search;
 use crate::searcher::{Holding, Searcher};
 use best_word::{BestWord, WordPass};
 use outside::NoMemory;
-use query_core::{Start, Worker, hire, limit_of, search_law};
+use query_core::{Start, Worker, hire, limit_of};
 use series_core::Rows;
 use std::alloc::Global;
 
@@ -35,36 +34,26 @@ pub(crate) struct Opened<'a, R: Rows> {
 /// Opens a search by 1 to 64 workers over 1 to 64 queues, who share these limits of portions.
 pub(crate) fn open<'a, R: Rows>(
     alloc: Global,
-    search: &Search<'a, R>,
+    plan: &Plan<'a, R>,
     workers: u32,
     limits: &'a [BestWord],
     passes: Vec<Vec<WordPass>>,
 ) -> Result<Opened<'a, R>, NoMemory>
-    requires fits { IndexFits search.now.task.now.collection search.now.task.now.layout search.now.index.now }
     requires workers { (1 ≤ workers) × (workers ≤ 64) }
-    requires queues { (1 ≤ search.now.queues) × (search.now.queues ≤ 64) }
-    requires passes { let g = search_over search.now.task.now search.now.index.now 1 search.now.queues in
+    requires queues { (1 ≤ plan.now.queues) × (plan.now.queues ≤ 64) }
+    requires passes { let g = search_over plan.now.search.question plan.now.search.index 1 plan.now.queues in
         AreRows g limits.now workers passes.items }
-    ensures start { IfOk result (λ o. o.start ≡ start_of (search_over search.now.task.now search.now.index.now 1 1)) }
+    ensures start { IfOk result (λ o. o.start ≡ start_of (search_over plan.now.search.question plan.now.search.index 1 1)) }
     ensures count { IfOk result (λ o. length o.team.items ≡ workers) }
     ensures opens { IfOk result (λ o.
-        Opens search.now.task.now search.now.index.now search.now.queues o.claims o.word o.team.items) }
+        Opens plan.now.search.question plan.now.search.index plan.now.queues o.claims o.word o.team.items) }
 {
-    search_law(search.task, search.index);
-    let (start, list) = search.task.opening(alloc, search.index)?;
-    let (word, seen) = BestWord::begin(alloc, search.task, limit_of(start), workers)?;
-    let mut hired = hire(
-        alloc,
-        search.task,
-        search.index,
-        workers,
-        search.queues,
-        start,
-        list,
-    )?;
-    share_limits(alloc, search, limits, passes, &mut hired)?;
+    let (start, list) = plan.search.opening(alloc)?;
+    let (word, seen) = BestWord::begin(alloc, plan.search.task(), limit_of(start), workers)?;
+    let mut hired = hire(alloc, &plan.search, workers, plan.queues, start, list)?;
+    share_limits(alloc, plan, limits, passes, &mut hired)?;
     take_shares(alloc, &mut hired)?;
-    let (claims, drawings) = RootClaims::begin(alloc, search.index.root_count(), workers)?;
+    let (claims, drawings) = RootClaims::begin(alloc, plan.search.root_count(), workers)?;
     let team = open_team(alloc, hired, seen, drawings)?;
     Ok(Opened {
         start,

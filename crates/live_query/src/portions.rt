@@ -1,62 +1,57 @@
 //! The limits of portions, of which each worker has a pass: a word for each queue. A portion's last distance is a number of the collection
 //! and the index alone, so that no word has to know who scans which leaf.
 ghost use Rattle.std.specs.Prelude.{◌≡◌, ℕ, suc, ◌<◌, ◌≤◌, IfOk, List, Some, length, slice_get, vec_len};
-ghost use Rattle.subtree_build.specs.Fits.{Fits as IndexFits};
 ghost use Rattle.best_word.specs.Passes.{Best};
 ghost use Rattle.search_machine.specs.Ground.{Ground};
 ghost use Rattle.query_core.specs.Portions.{portion_last};
-ghost use Rattle.query_core.specs.Questions.{search_over};
+ghost use Rattle.search_task.specs.Questions.{search_over};
 ghost use Rattle.live_query.specs.PortionRows.{AreRows, AreTaken, PassRow};
 ghost use Rattle.query_core.specs.Teams.{AreHired};
 
-use crate::search::Search;
+use crate::plan::Plan;
 use best_word::{BestWord, Floor, WordPass};
 use outside::NoMemory;
-use query_core::{Limits, Task, Worker, search_law};
+use query_core::{Limits, Worker};
 use series_core::{NONE, Rows};
 use std::alloc::Global;
-use subtree_build::Index;
 
 /// The leaves of one queue; the start leaf is among those of queue 0.
 #[derive(Drop)]
-struct Portion<'a, R: Rows> {
-    task: &'a Task<'a, R>,
-    index: &'a Index,
-    queues: u32,
+struct Portion<'b, 'a, R: Rows> {
+    plan: &'b Plan<'a, R>,
     number: u32,
 }
 
 /// How far the pair of the portion reaches that is wanted of it: no limit of the portion falls below it.
-impl<'a, R: Rows> Floor for Portion<'a, R> {
-    ghost floor = { λ p. portion_last (search_over p.task.now p.index.now 1 p.queues) p.number };
+impl<'b, 'a, R: Rows> Floor for Portion<'b, 'a, R> {
+    ghost floor = { λ p.
+        portion_last (search_over p.plan.now.search.question p.plan.now.search.index 1 p.plan.now.queues) p.number };
 }
 
 /// The words of the limits, and for each word a row of passes, one for each worker. There are none over one queue, where the best-so-far
 /// is all that they could tell, and none where some queue is no worker's first: nobody would lower its limit.
 pub(crate) fn begin_limits<'a, R: Rows>(
     alloc: Global,
-    search: &Search<'a, R>,
+    plan: &Plan<'a, R>,
     workers: u32,
 ) -> Result<(Vec<BestWord>, Vec<Vec<WordPass>>), NoMemory>
-    requires fits { IndexFits search.now.task.now.collection search.now.task.now.layout search.now.index.now }
     requires workers { (1 ≤ workers) × (workers ≤ 64) }
-    requires queues { (1 ≤ search.now.queues) × (search.now.queues ≤ 64) }
-    ensures { let g = search_over search.now.task.now search.now.index.now 1 search.now.queues in
+    requires queues { (1 ≤ plan.now.queues) × (plan.now.queues ≤ 64) }
+    ensures { let g = search_over plan.now.search.question plan.now.search.index 1 plan.now.queues in
         IfOk result (λ r. AreRows g r.0.items workers r.1.items) }
 {
-    search_law(search.task, search.index);
-    let portions = if search.queues == 1 || workers < search.queues {
+    // for the fact that the index can be searched
+    let _k = plan.search.k();
+    let portions = if plan.queues == 1 || workers < plan.queues {
         0
     } else {
-        search.queues
+        plan.queues
     };
     let mut words = Vec::with_capacity(alloc, portions as usize)?;
     let mut rows = Vec::with_capacity(alloc, portions as usize)?;
     for number in 0..portions {
         let portion = Portion {
-            task: search.task,
-            index: search.index,
-            queues: search.queues,
+            plan: &*plan,
             number,
         };
         let (word, passes) = BestWord::begin(alloc, &portion, NONE, workers)?;
@@ -69,24 +64,24 @@ pub(crate) fn begin_limits<'a, R: Rows>(
 /// Lets the workers, as they open, share these limits where there is one for each queue.
 pub(crate) fn share_limits<'a, R: Rows>(
     alloc: Global,
-    search: &Search<'a, R>,
+    plan: &Plan<'a, R>,
     words: &'a [BestWord],
     mut rows: Vec<Vec<WordPass>>,
     workers: &mut Vec<Worker<'a, R>>,
 ) -> Result<(), NoMemory>
-    requires queues { (1 ≤ search.now.queues) × (search.now.queues ≤ 64) }
+    requires queues { (1 ≤ plan.now.queues) × (plan.now.queues ≤ 64) }
     requires few { vec_len workers.old ≤ 64 }
-    requires hired { AreHired search.now.task.now search.now.index.now search.now.queues workers.old.items }
-    requires rows { let g = search_over search.now.task.now search.now.index.now 1 search.now.queues in
+    requires hired { AreHired plan.now.search.question plan.now.search.index plan.now.queues workers.old.items }
+    requires rows { let g = search_over plan.now.search.question plan.now.search.index 1 plan.now.queues in
         AreRows g words.now (vec_len workers.old) rows.items }
     ensures same { IfOk result (λ _. workers.new.items ≡ workers.old.items) }
 {
-    if words.len() != search.queues as usize {
+    if words.len() != plan.queues as usize {
         return Ok(());
     }
     for i in 0..workers.len() {
         let passes = take_passes(alloc, &mut rows)?;
-        workers[i].share(Limits::new(words, passes, i as u32 % search.queues));
+        workers[i].share(Limits::new(words, passes, i as u32 % plan.queues));
     }
     Ok(())
 }

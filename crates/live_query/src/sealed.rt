@@ -3,16 +3,16 @@ ghost use Rattle.std.specs.Prelude.{◌≡◌, ◌≤◌, IfOk};
 ghost use Rattle.series_core.specs.Answer.{answer};
 ghost use Rattle.subtree_build.specs.Fits.{Fits as IndexFits};
 ghost use Rattle.search_machine.specs.Legal.{Legal, IsStraight};
-ghost use Rattle.query_core.specs.Questions.{search_over};
+ghost use Rattle.search_task.specs.Questions.{search_over};
 
 use crate::concluding::outcome_of;
 use crate::drain_part::drain_part;
 use crate::fill_part::fill_part;
 use crate::opening::{Opened, open};
+use crate::plan::Plan;
 use crate::portions::begin_limits;
-use crate::search::Search;
 use outside::{Gate, NoMemory};
-use query_core::{Outcome, Task};
+use query_core::{Outcome, Search, Task};
 use series_core::Rows;
 use std::alloc::Global;
 use std::thread::Threads;
@@ -38,20 +38,17 @@ pub fn nearest_sealed<T: Threads + Sync, R: Rows + Sync, G: Gate + Sync>(
     ensures straight { IfOk result IsStraight }
     ensures answer { IfOk result (λ o. o.pairs ≡ answer task.now.collection task.now.query task.now.k) }
 {
-    let search = Search {
-        task,
-        index,
-        queues,
-    };
-    let (limits, passes) = begin_limits(alloc, &search, workers)?;
-    let opened = open(alloc, &search, workers, &limits, passes)?;
+    let search = Search::new(task, index);
+    let plan = Plan { search, queues };
+    let (limits, passes) = begin_limits(alloc, &plan, workers)?;
+    let opened = open(alloc, &plan, workers, &limits, passes)?;
     let Opened {
         start,
         word,
         claims,
         team,
     } = opened;
-    let filled = fill_part(rt, alloc, gate, &search, claims, &word, team)?;
-    let (ended, lines) = drain_part(rt, alloc, gate, &search, &word, filled)?;
-    outcome_of(alloc, &search, start, &ended, lines)
+    let filled = fill_part(rt, alloc, gate, &plan, claims, &word, team)?;
+    let (ended, lines) = drain_part(rt, alloc, gate, &plan, &word, filled)?;
+    outcome_of(alloc, &plan, start, &ended, lines)
 }

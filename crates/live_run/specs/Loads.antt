@@ -12,6 +12,7 @@ use Rattle.live_script.specs.declared.script.Group.{Group}
 use Rattle.live_script.specs.Grammar.{IsFault, IsScript}
 use Rattle.run_traffic.specs.Traffic.{Reading}
 use Rattle.run_traffic.specs.Named.{FailedReading, HoldsBytes, IsAbsent, IsShown}
+use Rattle.live_run.specs.declared.script_file.TheConstants.{MOST_BYTES}
 use Rattle.live_run.specs.declared.status.LiveStatus.{LiveStatus}
 use Rattle.live_run.specs.declared.status.LiveStatus.TheVariants.{Missing, ReadFault, Format, Mismatch, Memory, Script}
 
@@ -63,7 +64,7 @@ RefusesFitting reading want file status = RefusesFile reading file status
 
 -- the most bytes of a script
 abbrev pub most_bytes : ℕ
-most_bytes = 1048576
+most_bytes = MOST_BYTES
 
 -- why bytes are no script: they are too many, or this line is the first that is not in the grammar
 abbrev pub IsScriptFault : ℕ → List ℕ → Type 0

@@ -24,7 +24,7 @@ pub struct Answers {
     pub next: u64,
 }
 
-/// Asks the queries of all files, of which the first has this number. It may wait for the collection's lock.
+/// Asks the queries of all files, the first of which has this number. It may wait for the collection's lock.
 pub fn answer_all<H: Wait>(
     rt: &H,
     alloc: Global,

@@ -16,6 +16,7 @@ use crate::answering::{Answers, answer_all};
 use crate::group::{Contents, QueryFile};
 use crate::status::LiveStatus;
 use breakpoints::Table;
+use command_words::{MOST_SEGMENTS, USUAL_LEAF};
 use isax_word::Layout;
 use live_collection::{AppendError, LiveCollection, Reader, Writer};
 use outside::{Gate, NoMemory};
@@ -25,12 +26,6 @@ use std::alloc::Global;
 use std::sync::Wait;
 use std::thread::{Threads, join};
 use subtree_build::Settings;
-
-/// The most segments of a series, where it has as many values.
-const MOST_SEGMENTS: u32 = 16;
-
-/// How many series a leaf holds before it is split.
-const LEAF_SIZE: u32 = 1000;
 
 /// A live collection, between two groups of a script.
 #[derive(Drop)]
@@ -172,7 +167,7 @@ fn settings_of(points: u32) -> Settings
             cuts: Cuts::new(points, points.min(MOST_SEGMENTS)),
             table: Table::Flat,
         },
-        leaf_size: LEAF_SIZE,
+        leaf_size: USUAL_LEAF,
     }
 }
 

@@ -17,7 +17,7 @@ use std::alloc::Global;
 pub fn open<F: Files>(files: &mut F, name: &str, line: u32) -> Result<(), LiveStatus>
     ensures opened { OnOk result (Opens (F.held files.old) name.now (F.at files.new) (F.left files.new)) }
     ensures refused { IfErr result (RefusesNamed line (λ _. ⊥)
-        (read_from F.held F.faults F.misses F.blamed files.old files.new) name.now) }
+        (read_from F.Files files.old files.new) name.now) }
     ensures kept { F.held files.new ≡ F.held files.old }
     ensures counts { (F.faults files.old ≤ F.faults files.new) × (F.misses files.old ≤ F.misses files.new) }
 {
@@ -33,7 +33,7 @@ pub fn open<F: Files>(files: &mut F, name: &str, line: u32) -> Result<(), LiveSt
 fn load<F: Files>(alloc: Global, files: &mut F, file: &NamedFile) -> Result<Flat, LiveStatus>
     ensures holds { IfOk result (HoldsFile (F.held files.old) file.now.name) }
     ensures refused { IfErr result (RefusesFile
-        (read_from F.held F.faults F.misses F.blamed files.old files.new) file.now) }
+        (read_from F.Files files.old files.new) file.now) }
     ensures kept { F.held files.new ≡ F.held files.old }
     ensures counts { (F.faults files.old ≤ F.faults files.new) × (F.misses files.old ≤ F.misses files.new) }
 {
@@ -55,7 +55,7 @@ pub fn load_fitting<F: Files>(
     ensures length { IfOk result (λ rows. FitsLength want rows.points) }
     ensures sound { IfOk result IsCollection }
     ensures refused { (whole : Reading)
-        → EndsReading whole (read_from F.held F.faults F.misses F.blamed files.old files.new)
+        → EndsReading whole (read_from F.Files files.old files.new)
         → IfErr result (RefusesFitting whole want file.now) }
     ensures kept { F.held files.new ≡ F.held files.old }
     ensures counts { (F.faults files.old ≤ F.faults files.new) × (F.misses files.old ≤ F.misses files.new) }

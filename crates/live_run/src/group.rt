@@ -45,7 +45,7 @@ pub fn load_group<F: Files>(
     ensures sound { IfOk result (λ c. IsCollection c.batch) }
     ensures askable { IfOk result (λ c. All (CanAsk c.batch.points) c.askings.items) }
     ensures refused { (whole : Reading)
-        → EndsReading whole (read_from F.held F.faults F.misses F.blamed files.old files.new)
+        → EndsReading whole (read_from F.Files files.old files.new)
         → IfErr result (RefusesGroup whole want group.now) }
     ensures kept { F.held files.new ≡ F.held files.old }
     ensures counts { (F.faults files.old ≤ F.faults files.new) × (F.misses files.old ≤ F.misses files.new) }
@@ -66,7 +66,7 @@ fn load_askings<F: Files>(
     ensures holds { IfOk result (λ loaded. HoldAskings (F.held files.old) points askings.now loaded.items) }
     ensures askable { IfOk result (λ loaded. All (CanAsk points) loaded.items) }
     ensures refused { (whole : Reading)
-        → EndsReading whole (read_from F.held F.faults F.misses F.blamed files.old files.new)
+        → EndsReading whole (read_from F.Files files.old files.new)
         → IfErr result (RefusesAskings whole points askings.now) }
     ensures kept { F.held files.new ≡ F.held files.old }
     ensures counts { (F.faults files.old ≤ F.faults files.new) × (F.misses files.old ≤ F.misses files.new) }

@@ -29,8 +29,8 @@ pub fn run_groups<H: Threads + Wait + Sync, F: Files, S: Sink, G: Gate + Sync>(
     requires groups { AllByRecursion IsGroup groups.now }
     requires few { length (script_lines groups.now) ≤ most_bytes }
     ensures ends { (whole : Reading)
-        → EndsReading whole (read_from F.held F.faults F.misses F.blamed files.old files.new)
-        → GroupsEnd whole (wrote_to S.written S.faults S.sure out.old out.new) groups.now (ended result) }
+        → EndsReading whole (read_from F.Files files.old files.new)
+        → GroupsEnd whole (wrote_to S.Sink out.old out.new) groups.now (ended result) }
     ensures kept { F.held files.new ≡ F.held files.old }
 {
     let mut dialogue: Option<Dialogue> = None;

@@ -27,8 +27,8 @@ pub fn live_run<H: Threads + Wait + Sync, F: Files, S: Sink, E: Sink, G: Gate + 
     gate: &G,
 ) -> LiveStatus
     ensures ends { Ends (map string_bytes words.now)
-        (read_from F.held F.faults F.misses F.blamed files.old files.new)
-        (wrote_to S.written S.faults S.sure out.old out.new) result }
+        (read_from F.Files files.old files.new)
+        (wrote_to S.Sink out.old out.new) result }
     ensures complete { CanRun (map string_bytes words.now) (F.held files.old)
         → IsAnswered (F.faults files.old) (F.faults files.new) (S.faults out.old) (S.faults out.new) result }
     ensures cause { TellsCause result }
@@ -50,8 +50,8 @@ fn run<H: Threads + Wait + Sync, F: Files, S: Sink, G: Gate + Sync>(
     gate: &G,
 ) -> Result<(), LiveStatus>
     ensures ends { Ends (map string_bytes words.now)
-        (read_from F.held F.faults F.misses F.blamed files.old files.new)
-        (wrote_to S.written S.faults S.sure out.old out.new) (ended result) }
+        (read_from F.Files files.old files.new)
+        (wrote_to S.Sink out.old out.new) (ended result) }
     ensures kept { F.held files.new ≡ F.held files.old }
 {
     let name = script_name(words)?;

@@ -14,7 +14,7 @@ use outside::{AllError, Files, read_all};
 use std::alloc::Global;
 
 /// The most bytes that a script may have.
-const MOST_BYTES: u64 = 1048576;
+pub const MOST_BYTES: u64 = 1048576;
 
 /// The name of the script that the words name.
 pub fn script_name(words: &[String]) -> Result<&str, LiveStatus>
@@ -42,7 +42,7 @@ fn can_name(word: &str) -> bool
 pub fn load_script<F: Files>(alloc: Global, files: &mut F, name: &str) -> Result<Script, LiveStatus>
     ensures holds { IfOk result (HoldsScript (F.held files.old) name.now) }
     ensures refused { IfErr result (RefusesScript
-        (read_from F.held F.faults F.misses F.blamed files.old files.new) name.now) }
+        (read_from F.Files files.old files.new) name.now) }
     ensures kept { F.held files.new ≡ F.held files.old }
     ensures counts { (F.faults files.old ≤ F.faults files.new) × (F.misses files.old ≤ F.misses files.new) }
 {
@@ -59,7 +59,7 @@ fn read_bytes<F: Files>(alloc: Global, files: &mut F, name: &str) -> Result<Vec<
     ensures short { IfOk result (λ bytes. length bytes.items ≤ most_bytes) }
     ensures holds { IfOk result (λ bytes. HoldsBytes (F.held files.old) name.now (λ b. b ≡ bytes.items)) }
     ensures refused { IfErr result (RefusesScript
-        (read_from F.held F.faults F.misses F.blamed files.old files.new) name.now) }
+        (read_from F.Files files.old files.new) name.now) }
     ensures kept { F.held files.new ≡ F.held files.old }
     ensures counts { (F.faults files.old ≤ F.faults files.new) × (F.misses files.old ≤ F.misses files.new) }
 {

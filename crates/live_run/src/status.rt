@@ -15,7 +15,7 @@ pub enum LiveStatus {
     Missing(u32),
     /// The file could not be opened or read.
     ReadFault(u32),
-    /// The file is no series file: its first failing test.
+    /// The file is no series file: the first test that it fails.
     Format(u32, FileError),
     /// The file's series have another length than those of the first file: the line, the length, that of the first file.
     Mismatch(u32, u32, u32),

@@ -17,7 +17,7 @@ use Rattle.subtree_build.proofs.Bounds.{IsNoNearer, leaves_no_nearer}
 use Rattle.series_core.specs.declared.queue_words.Entry.{Entry}
 use Rattle.search_machine.specs.Ground.{Ground}
 use Rattle.search_machine.specs.Workers.{skip, without}
-use Rattle.query_core.specs.Questions.{leaf_bound}
+use Rattle.search_task.specs.Questions.{leaf_bound}
 use Rattle.query_core.specs.Walks.{IsFirst, IsGiven, leaves_between}
 
 -- a leaf above the limit at the front is dropped

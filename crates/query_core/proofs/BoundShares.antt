@@ -5,7 +5,7 @@ use Rattle.std.proofs.lemmas.Option.{none-some, same_Some}
 use Rattle.lower_bound.specs.Bound.{View}
 use Rattle.subtree_build.specs.Index.{IndexParts}
 use Rattle.query_core.specs.BoundShares.{AreBounds, Share}
-use Rattle.query_core.specs.Questions.{leaf_bound}
+use Rattle.search_task.specs.Questions.{leaf_bound}
 
 pub no_bounds : (view : View) (ix : IndexParts) (s : Share) (first end : ℕ) → s ≡ record { first = first; end = end; bounds = [] }
     → end ≤ length ix.leaves → AreBounds view ix s

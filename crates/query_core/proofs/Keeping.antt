@@ -8,13 +8,13 @@ use Rattle.series_core.specs.Order.{distance_at}
 use Rattle.series_core.specs.declared.pair.Pair.{Pair}
 use Rattle.search_machine.specs.Ground.{scan}
 use Rattle.query_core.specs.Portions.{CanLimit, Keeps, Limited, portion_of, portion_rank}
-use Rattle.query_core.specs.Questions.{leaf_series, search_over, view_in}
+use Rattle.search_task.specs.Questions.{leaf_series, search_over, view_in}
 use Rattle.query_core.specs.declared.stage.Stage.{Stage}
 use Rattle.query_core.specs.Walks.{Walked}
 use Rattle.query_core.specs.Turning.{search_of}
 use Rattle.query_core.specs.Working.{Working, IsFound, IsWorking, StageInRange, is_marked, phase_of}
 use Rattle.query_core.proofs.Found.{found_scanned}
-use Rattle.query_core.proofs.OfIndex.{search_fits}
+use Rattle.search_task.proofs.OfIndex.{search_fits}
 use Rattle.query_core.proofs.LimitsKept.{can_limit}
 
 -- a leaf of a worker that is seen as another one

@@ -13,12 +13,12 @@ use Rattle.search_machine.specs.Ground.{Ground, Fits, start_limit}
 use Rattle.search_machine.specs.Workers.{start_list}
 use Rattle.search_machine.specs.Outcome.{is_start}
 use Rattle.search_machine.specs.Basics.{start_of}
-use Rattle.query_core.specs.Questions.{Question, search_over, view_in}
+use Rattle.search_task.specs.Questions.{Question, search_over, view_in}
 use Rattle.query_core.specs.Working.{AreOpeningMarks, IsFound, Shows, Working, is_marked, opened_list, opens_as}
 use Rattle.search_machine.proofs.Opening.{start_only}
 use Rattle.search_machine.proofs.PlainList.{plain_has}
 use Rattle.search_machine.proofs.Scans.{list_opening}
-use Rattle.query_core.proofs.StartLeaf.{start_is_leaf}
+use Rattle.search_task.proofs.StartLeaf.{start_is_leaf}
 
 -- the leaf of a start is the start leaf
 pub leaf_of_start : (g : Ground) → option_map (λ (s : Start). s.leaf) (start_of g) ≡ g.start

@@ -19,7 +19,7 @@ use Rattle.query_core.specs.contracts.limits.Limits as limits
 use Rattle.query_core.specs.contracts.walk.Walk as walk
 use Rattle.query_core.specs.contracts.worker.Worker as worker
 use Rattle.query_core.proofs.stage.Stage.TheSendSync as stage
-use Rattle.query_core.proofs.task.Task.TheSendSync as task
+use Rattle.search_task.proofs.task.Task.TheSendSync as task
 
 -- an index is shared by threads
 pub index_syncs : IsSync index.the_row

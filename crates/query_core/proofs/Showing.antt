@@ -13,7 +13,7 @@ use Rattle.search_machine.specs.declared.phase.Phase.{Phase}
 use Rattle.search_machine.specs.declared.phase.Phase.TheVariants.{Offer}
 use Rattle.search_machine.specs.Ground.{Ground, scan, worst}
 use Rattle.search_machine.specs.Workers.{Worker, after_scan, improves, is_new, onward, scanned_by}
-use Rattle.query_core.specs.Questions.{leaf_series}
+use Rattle.search_task.specs.Questions.{leaf_series}
 use Rattle.query_core.specs.Turning.{search_of}
 use Rattle.query_core.specs.Working.{Working, Shows, is_marked}
 use Rattle.search_machine.proofs.Counts.{same_counts}

@@ -13,12 +13,12 @@ use Rattle.search_machine.specs.Ground.{Ground, opening, opening_of, start_limit
 use Rattle.search_machine.specs.Basics.{start_of}
 use Rattle.search_machine.specs.Machine.{capacity_of, empty_queues, opened}
 use Rattle.search_machine.specs.Workers.{Worker, idle, leader, start_list}
-use Rattle.query_core.specs.Questions.{CanBeSearched, Question, last_of, search_over}
+use Rattle.search_task.specs.Questions.{CanBeSearched, Question, last_of, search_over}
 use Rattle.query_core.specs.Teams.{AreDoneTo, AreHired, StandsAt, TeamParts, limit_of}
 use Rattle.query_core.specs.Working.{IsOf, Shows, Working, opens_as}
 use Rattle.search_machine.proofs.Opening.{opening_sound}
 use Rattle.search_machine.proofs.Places.{get_replicate}
-use Rattle.query_core.proofs.OfIndex.{last_is, search_fits}
+use Rattle.search_task.proofs.Openings.{opening_same}
 
 module _ {X : Type 0} where
   -- what a place of a longer list holds: what it held, or at the end what was added
@@ -62,25 +62,6 @@ done_more ws n w done at here i v low e = ⊎_elim
 
 -- The opening does not hang on how many workers and queues there are.
 module _ (a : Question) (ix : IndexParts) where
-  opening_of_same : (n m v q : ℕ) (o : Option ℕ)
-      → opening_of (search_over a ix n m) o ≡ opening_of (search_over a ix v q) o
-  opening_of_same n m v q None = refl
-  opening_of_same n m v q (Some l) = refl
-
-  -- the list is the same
-  pub opening_same : (n m v q : ℕ) → opening (search_over a ix n m) ≡ opening (search_over a ix v q)
-  opening_same n m v q = opening_of_same n m v q (search_over a ix n m).start
-
-  -- the limit is the same
-  pub limit_same : (n m v q : ℕ) → start_limit (search_over a ix n m) ≡ start_limit (search_over a ix v q)
-  limit_same n m v q = ap (λ (ps : List Pair). worst (search_over a ix n m) ps) (opening_same n m v q)
-
-  -- the start is the same
-  pub start_same : (n m v q : ℕ) → start_of (search_over a ix n m) ≡ start_of (search_over a ix v q)
-  start_same n m v q =
-      ap (λ (limit : ℕ). option_map (λ (l : ℕ). record { leaf = l; limit = limit }) (search_over a ix n m).start)
-      (limit_same n m v q)
-
   -- each worker opens the same
   pub opens_same : (n m v q i : ℕ) → opens_as (search_over a ix n m) i ≡ opens_as (search_over a ix v q) i
   opens_same n m v q zero =
@@ -91,7 +72,7 @@ module _ (a : Question) (ix : IndexParts) where
         scanned = start_list (search_over a ix n m).start;
       } in
       let e : lead (opening (search_over a ix n m)) ≡ lead (opening (search_over a ix v q)) =
-      ap lead (opening_same n m v q) in
+      ap lead (opening_same a ix n m v q) in
       e
   opens_same n m v q (suc i) = refl
 
@@ -119,16 +100,6 @@ limit_start g = at g.start refl
         → limit_of (option_map (λ (l : ℕ). record { leaf = l; limit = start_limit g }) o) ≡ start_limit g
     at None e = ap (λ (p : Option ℕ). worst g (opening_of g p)) (sym e)
     at (Some l) e = refl
-
--- the starting limit is not below the last distance
-pub limit_is_high : (a : Question) (ix : IndexParts) (n m : ℕ) → CanBeSearched a ix
-    → last_of a ≤ start_limit (search_over a ix n m)
-limit_is_high a ix n m searched =
-    let low = (opening_sound (search_over a ix 1 1)
-    (search_fits a ix 1 1 searched (omega arith) (omega arith))).word.0 in
-    let last = last_is a ix 1 1 searched.question in
-    let same = limit_same a ix 1 1 n m in
-    omega arith
 
 -- what stands at a place of the opening workers
 opened_at : (g : Ground) (n i : ℕ) (m : Worker)

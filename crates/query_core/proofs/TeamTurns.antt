@@ -16,13 +16,13 @@ use Rattle.search_machine.specs.Workers.{Worker}
 use Rattle.search_machine.specs.Shared.{Did, Held, held_after}
 use Rattle.search_machine.specs.OwnRecord.{RecordedWorker, nothing_yet}
 use Rattle.search_machine.specs.Basics.{start_of}
-use Rattle.query_core.specs.Questions.{Question, last_of, search_over}
+use Rattle.search_task.specs.Questions.{Question, last_of, search_over}
 use Rattle.search_machine.specs.Replies.{after}
 use Rattle.query_core.specs.Teams.{IsTeam, StandsAt, TeamParts, searched}
 use Rattle.query_core.specs.Turning.{Turns}
 use Rattle.query_core.specs.Working.{IsOf, Shows, Working}
 use Rattle.search_machine.proofs.Rows.{running_turn}
-use Rattle.query_core.proofs.OfIndex.{last_is}
+use Rattle.search_task.proofs.OfIndex.{last_is}
 use Rattle.search_machine.proofs.Places.{get_set, get_set_other, get_set_same, get_some}
 
 -- what is held is the same where its parts are

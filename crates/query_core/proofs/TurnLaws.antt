@@ -21,7 +21,7 @@ use Rattle.search_machine.specs.declared.phase.Onward.TheVariants.{Look as ToLoo
 use Rattle.search_machine.specs.Calls.{call_in}
 use Rattle.search_machine.specs.Ground.{Ground}
 use Rattle.search_machine.specs.Workers.{Worker, after_claim, after_late, after_look, in_phase, is_new, onward, scanned_by, skip, stopped, without, after_reply, leaves_below}
-use Rattle.query_core.specs.Questions.{last_of, leaf_bound, view_in}
+use Rattle.search_task.specs.Questions.{last_of, leaf_bound, view_in}
 use Rattle.search_machine.specs.Replies.{ReplyFits}
 use Rattle.query_core.specs.Turning.{Acts, ReplyNotLow, TurnsBy, search_of, taken_by}
 use Rattle.query_core.specs.Walks.{Advances}

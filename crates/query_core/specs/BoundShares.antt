@@ -2,7 +2,7 @@
 use Rattle.std.specs.Prelude.{◌≡◌, ℕ, ◌+◌, ◌≤◌, List, Some, length, slice_get}
 use Rattle.lower_bound.specs.Bound.{View}
 use Rattle.subtree_build.specs.Index.{IndexParts}
-use Rattle.query_core.specs.Questions.{leaf_bound}
+use Rattle.search_task.specs.Questions.{leaf_bound}
 
 -- the bounds of leaves from `first` on, of which those below `end` are wanted
 pub record Share : Type 0 where

@@ -12,7 +12,7 @@ use Rattle.search_machine.specs.Sound.{scans}
 use Rattle.search_machine.specs.Basics.{entered}
 use Rattle.subtree_build.specs.Index.{IndexParts}
 use Rattle.subtree_build.specs.Start.{start_leaf_of}
-use Rattle.query_core.specs.Questions.{CanBeSearched, Question, search_over, view_in}
+use Rattle.search_task.specs.Questions.{CanBeSearched, Question, search_over, view_in}
 use Rattle.query_core.specs.Teams.{AreOver, AreShown}
 use Rattle.query_core.specs.Working.{Working}
 

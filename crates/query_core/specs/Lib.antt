@@ -1,5 +1,3 @@
--- The question, and what the search for its answer stands on.
-pub mod Questions
 -- A worker, and what one turn of it does.
 pub mod Working
 pub mod Turning
@@ -11,12 +9,11 @@ pub mod OneThread
 pub mod Replays
 -- What clauses of private functions alone speak of.
 pub mod Walks
-pub mod Scanning
-pub mod NearLeaves
 pub mod Teams
 pub mod Fates
 pub mod Merging
 -- The definitions of the crates below that the public clauses cite.
+pub use Rattle.search_task.specs.Questions
 pub use Rattle.search_machine.specs.Ground
 pub use Rattle.search_machine.specs.Machine
 pub use Rattle.search_machine.specs.Outcome

@@ -11,7 +11,7 @@ use Rattle.search_machine.specs.Shared.{Held}
 use Rattle.search_machine.specs.Outcome.{AllDone, line_of}
 use Rattle.search_machine.specs.declared.outcome.QueueLine.{QueueLine}
 use Rattle.search_machine.specs.Basics.{start_of}
-use Rattle.query_core.specs.Questions.{Question, CanBeSearched, last_of, search_over}
+use Rattle.search_task.specs.Questions.{Question, CanBeSearched, last_of, search_over}
 use Rattle.query_core.specs.Working.{Working, IsOf, Shows, opens_as}
 use Rattle.search_machine.specs.declared.phase.Phase.TheVariants.{Done}
 

@@ -8,7 +8,7 @@ use Rattle.search_machine.specs.Ground.{Ground}
 use Rattle.search_machine.specs.Workers.{Worker, in_phase, is_new, onward, scanned_by}
 use Rattle.search_machine.specs.OwnRecord.{RecordedWorker}
 use Rattle.search_machine.specs.Calls.{call_of}
-use Rattle.query_core.specs.Questions.{last_of, search_over}
+use Rattle.search_task.specs.Questions.{last_of, search_over}
 use Rattle.search_machine.specs.Replies.{ReplyFits, after}
 use Rattle.query_core.specs.Working.{IsOf, Working, Shows}
 

@@ -7,7 +7,7 @@ use Rattle.subtree_build.specs.Start.{node_at}
 use Rattle.series_core.specs.declared.queue_words.Entry.{Entry}
 use Rattle.search_machine.specs.Ground.{Ground}
 use Rattle.search_machine.specs.Workers.{skip, without}
-use Rattle.query_core.specs.Questions.{leaf_bound}
+use Rattle.search_task.specs.Questions.{leaf_bound}
 use Rattle.lower_bound.specs.Bound.{View}
 
 -- a walk: the index, and the leaves that are left, in order

@@ -20,7 +20,7 @@ use Rattle.search_machine.specs.declared.phase.Onward.TheVariants.{Look as ToLoo
 use Rattle.search_machine.specs.Ground.{Ground, pair_of, opening}
 use Rattle.search_machine.specs.Workers.{Worker, is_new, leader, idle}
 use Rattle.search_machine.specs.Outcome.{is_start}
-use Rattle.query_core.specs.Questions.{Question, CanBeSearched, view_in, search_over}
+use Rattle.search_task.specs.Questions.{Question, CanBeSearched, view_in, search_over}
 use Rattle.query_core.specs.Walks.{IsEntry, Walked}
 
 -- a worker: the question and the index, its number, the number of queues, its phase, the leaves that it has still to

@@ -6,13 +6,12 @@ ghost use Rattle.search_machine.specs.Ground.{Fits, enough_turns};
 ghost use Rattle.search_machine.specs.Machine.{opened};
 ghost use Rattle.query_core.specs.Teams.{EndsAlone, StandsAt, searched};
 ghost use Rattle.search_machine.specs.Legal.{Legal, IsStraight};
-ghost use Rattle.query_core.specs.Questions.{search_over};
+ghost use Rattle.search_task.specs.Questions.{search_over};
 
-use crate::index_laws::search_law;
-use crate::task::Task;
 use crate::team::Team;
 use outside::NoMemory;
 use search_machine::Outcome;
+use search_task::{Search, Task};
 use series_core::Rows;
 use std::alloc::Global;
 use subtree_build::Index;
@@ -31,26 +30,25 @@ pub fn one_worker<R: Rows>(
     ensures straight { IfOk result IsStraight }
     ensures answer { IfOk result (λ o. o.pairs ≡ answer task.now.collection task.now.query task.now.k) }
 {
-    search_law(task, index);
-    let team = finished(alloc, task, index, queues)?;
+    let search = Search::new(task, index);
+    let team = finished(alloc, search, queues)?;
     team.ended(alloc)
 }
 
 // The team of one worker that has come to its end.
 fn finished<'a, R: Rows>(
     alloc: Global,
-    task: &'a Task<'a, R>,
-    index: &'a Index,
+    search: Search<'a, R>,
     queues: u32,
 ) -> Result<Team<'a, R>, NoMemory>
-    requires fits { IndexFits task.now.collection task.now.layout index.now }
     requires queues { (1 ≤ queues) × (queues ≤ 64) }
-    ensures searches { IfOk result (λ t. searched t ≡ search_over task.now index.now 1 queues) }
+    ensures searches { IfOk result (λ t. searched t ≡ search_over search.entry.question search.entry.index 1 queues) }
     ensures ends { IfOk result EndsAlone }
 {
-    search_law(task, index);
-    let mut team = Team::open(alloc, task, index, 1, queues)?;
-    let most = 8 * u64::from(index.leaf_count()) + 1 + 2 * u64::from(queues);
+    // for the fact that the index can be searched
+    let _k = search.k();
+    let most = 8 * u64::from(search.leaf_count()) + 1 + 2 * u64::from(queues);
+    let mut team = Team::open(alloc, search, 1, queues)?;
     finish(&mut team, most);
     Ok(team)
 }

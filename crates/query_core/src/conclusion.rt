@@ -2,48 +2,44 @@
 //! Fates are written line by line from the last to the first, so that a leaf keeps the first queue that gave it.
 ghost use Rattle.std.specs.Prelude.{◌≡◌, ℕ, ◌<◌, ◌≤◌, List, IfOk, length};
 ghost use Rattle.series_core.specs.Pairs.{smallest};
-ghost use Rattle.subtree_build.specs.Fits.{Fits as IndexFits};
 ghost use Rattle.search_machine.specs.Basics.{start_of};
 ghost use Rattle.search_machine.specs.Machine.{State};
 ghost use Rattle.search_machine.specs.Outcome.{fates_from, first_place, is_start, outcome};
 ghost use Rattle.search_machine.specs.Sound.{scans};
 ghost use Rattle.search_machine.specs.Workers.{Worker as Shown};
 ghost use Rattle.query_core.specs.Fates.{AreMarked, FatesUnqueued, HaveSearched, fate_unqueued, leaf_of};
-ghost use Rattle.query_core.specs.Questions.{CanBeSearched, leaf_bound, search_over, view_in};
+ghost use Rattle.search_task.specs.Questions.{leaf_bound, search_over, view_in};
 ghost use Rattle.query_core.specs.Teams.{AreOver, AreShown, EndsIn, HaveLeaf, all_lists};
 
-use crate::index_laws::search_law;
 use crate::merging::merge;
-use crate::task::Task;
 use crate::worker::Worker;
 use outside::NoMemory;
 use search_machine::{Fate, FateList, LineList, Outcome, QueueLine, Start};
+use search_task::Search;
 use series_core::{Entry, PairList, Rows};
 use std::alloc::Global;
-use subtree_build::Index;
 
 /// The outcome of every state whose workers these show, and whose queues these lines tell: the k smallest pairs of all lists,
 /// the start, the lines, and for each leaf what became of it. A leaf that stands in several lines is reported of the first of
 /// them; a leaf that stands in none, of the first worker that scanned it.
 pub fn conclude<R: Rows>(
     alloc: Global,
-    task: &Task<'_, R>,
-    index: &Index,
+    search: &Search<'_, R>,
     start: Option<Start>,
     workers: &[Worker<'_, R>],
     lines: LineList,
 ) -> Result<Outcome, NoMemory>
-    requires fits { IndexFits task.now.collection task.now.layout index.now }
-    requires start { start ≡ start_of (search_over task.now index.now 1 1) }
-    requires over { AreOver task.now index.now workers.now }
+    requires start { start ≡ start_of (search_over search.now.question search.now.index 1 1) }
+    requires over { AreOver search.now.question search.now.index workers.now }
     requires workers { length workers.now ≤ 64 }
     requires lines { length lines ≤ 64 }
     ensures { (n m : ℕ) (s : State) → EndsIn workers.now lines s
-        → IfOk result (λ o. o ≡ outcome (search_over task.now index.now n m) s) }
+        → IfOk result (λ o. o ≡ outcome (search_over search.now.question search.now.index n m) s) }
 {
-    search_law(task, index);
-    let pairs = merged(alloc, task, workers)?;
-    let fates = fates(alloc, task, index, start, workers, &lines.items)?;
+    // for the fact that the index can be searched
+    let k = search.k();
+    let pairs = merged(alloc, k, workers)?;
+    let fates = fates(alloc, search, start, workers, &lines.items)?;
     Ok(Outcome {
         pairs,
         start,
@@ -53,16 +49,12 @@ pub fn conclude<R: Rows>(
 }
 
 // The k smallest pairs of all lists.
-fn merged<R: Rows>(
-    alloc: Global,
-    task: &Task<'_, R>,
-    workers: &[Worker<'_, R>],
-) -> Result<PairList, NoMemory>
-    ensures { IfOk result (λ ps. ps ≡ smallest task.now.k (all_lists workers.now)) }
+fn merged<R: Rows>(alloc: Global, k: u32, workers: &[Worker<'_, R>]) -> Result<PairList, NoMemory>
+    ensures { IfOk result (λ ps. ps ≡ smallest k (all_lists workers.now)) }
 {
     let mut pairs = Vec::new(alloc);
     for worker in workers {
-        pairs = merge(alloc, task.k() as usize, worker.list().pairs(), &pairs)?;
+        pairs = merge(alloc, k as usize, worker.list().pairs(), &pairs)?;
     }
     Ok(PairList { items: pairs })
 }
@@ -70,18 +62,17 @@ fn merged<R: Rows>(
 // The fate of each leaf.
 fn fates<R: Rows>(
     alloc: Global,
-    task: &Task<'_, R>,
-    index: &Index,
+    search: &Search<'_, R>,
     start: Option<Start>,
     workers: &[Worker<'_, R>],
     lines: &[QueueLine],
 ) -> Result<FateList, NoMemory>
-    requires ended { HaveSearched task.now index.now start workers.now }
+    requires ended { HaveSearched search.now.question search.now.index start workers.now }
     requires lines { length lines.now ≤ 64 }
     ensures { (n m : ℕ) (s : State) → EndsIn workers.now lines.now s
-        → IfOk result (λ fs. fs ≡ fates_from (search_over task.now index.now n m) s 0 (length index.now.leaves)) }
+        → IfOk result (λ fs. fs ≡ fates_from (search_over search.now.question search.now.index n m) s 0 (length search.now.index.leaves)) }
 {
-    let mut fates = unqueued(alloc, task, index, start, workers)?;
+    let mut fates = unqueued(alloc, search, start, workers)?;
     let mut m = lines.len();
     while m > 0 {
         m -= 1;
@@ -94,57 +85,54 @@ fn fates<R: Rows>(
 // The fate of each leaf where no queue gave it.
 fn unqueued<R: Rows>(
     alloc: Global,
-    task: &Task<'_, R>,
-    index: &Index,
+    search: &Search<'_, R>,
     start: Option<Start>,
     workers: &[Worker<'_, R>],
 ) -> Result<Vec<Fate>, NoMemory>
-    requires ended { HaveSearched task.now index.now start workers.now }
-    ensures { IfOk result (λ fs. FatesUnqueued task.now index.now workers.now fs.items) }
+    requires ended { HaveSearched search.now.question search.now.index start workers.now }
+    ensures { IfOk result (λ fs. FatesUnqueued search.now.question search.now.index workers.now fs.items) }
 {
-    let leaves = index.leaf_count();
+    let leaves = search.leaf_count();
     let mut fates = Vec::with_capacity(alloc, leaves as usize)?;
     for leaf in 0..leaves {
-        fates.push_reserved(unqueued_fate(task, index, start, workers, leaf));
+        fates.push_reserved(unqueued_fate(search, start, workers, leaf));
     }
     Ok(fates)
 }
 
 // The fate of a leaf where no queue gave it.
 fn unqueued_fate<R: Rows>(
-    task: &Task<'_, R>,
-    index: &Index,
+    search: &Search<'_, R>,
     start: Option<Start>,
     workers: &[Worker<'_, R>],
     leaf: u32,
 ) -> Fate
-    requires ended { HaveSearched task.now index.now start workers.now }
-    requires leaf { leaf < length index.now.leaves }
+    requires ended { HaveSearched search.now.question search.now.index start workers.now }
+    requires leaf { leaf < length search.now.index.leaves }
     ensures { (n m : ℕ) (s : State) → AreShown workers.now s.workers
-        → result ≡ fate_unqueued (search_over task.now index.now n m) s leaf }
+        → result ≡ fate_unqueued (search_over search.now.question search.now.index n m) s leaf }
 {
     if is_start(start, leaf) {
         return Fate::Start;
     }
     match first_to_scan(workers, leaf) {
         Some(i) => Fate::Late(i),
-        None => Fate::Bound(bound_of(task, index, workers, leaf)),
+        None => Fate::Bound(bound_of(search, workers, leaf)),
     }
 }
 
 // The bound of a leaf: a worker has reckoned it, or it is reckoned anew.
-fn bound_of<R: Rows>(task: &Task<'_, R>, index: &Index, workers: &[Worker<'_, R>], leaf: u32) -> u64
-    requires searches { CanBeSearched task.now index.now }
-    requires over { AreOver task.now index.now workers.now }
-    requires leaf { leaf < length index.now.leaves }
-    ensures { result ≡ leaf_bound (view_in task.now) index.now leaf }
+fn bound_of<R: Rows>(search: &Search<'_, R>, workers: &[Worker<'_, R>], leaf: u32) -> u64
+    requires over { AreOver search.now.question search.now.index workers.now }
+    requires leaf { leaf < length search.now.index.leaves }
+    ensures { result ≡ leaf_bound (view_in search.now.question) search.now.index leaf }
 {
     for worker in workers {
         if let Some(bound) = worker.bound_of(leaf) {
             return bound;
         }
     }
-    task.view().bound_word(index.leaf_word(leaf))
+    search.word_bound(leaf)
 }
 
 // The first worker that scanned the leaf.

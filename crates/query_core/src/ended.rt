@@ -18,14 +18,7 @@ impl<'a, R: Rows> Team<'a, R> {
         ensures { (s : State) → StandsAt self.now s → IfOk result (λ o. o ≡ outcome (searched self.now) s) }
     {
         let lines = lines(alloc, self.hand.queues())?;
-        conclude(
-            alloc,
-            self.task,
-            self.index,
-            self.start,
-            &self.workers,
-            lines,
-        )
+        conclude(alloc, &self.search, self.start, &self.workers, lines)
     }
 }
 

@@ -1,13 +1,13 @@
 //! What the workers share, held by one thread in plain fields. Each call is what the machine's turn makes of the state.
 ghost use Rattle.std.specs.Prelude.{◌≡◌, ◌≤◌, IfOk, length};
 ghost use Rattle.query_core.specs.OneThread.{opening_hand};
-ghost use Rattle.query_core.specs.Questions.{last_of, search_over};
+ghost use Rattle.search_task.specs.Questions.{last_of, search_over};
 
 use crate::opening::empty_queues;
 use crate::shared::Shared;
-use crate::task::Task;
 use leaf_queues::Queue;
 use outside::NoMemory;
+use search_task::Task;
 use series_core::{Entry, PopReply, PutReply, Rows};
 use std::alloc::Global;
 use std::marker::Model;
@@ -26,7 +26,7 @@ pub struct OneThread<'a, R: Rows> {
 impl<'a, R: Rows> Model for OneThread<'a, R> {
     ghost use Rattle.query_core.specs.OneThread.{IsHeld};
     ghost use Rattle.search_machine.specs.Shared.{Held};
-    ghost use Rattle.query_core.specs.Questions.{last_of};
+    ghost use Rattle.search_task.specs.Questions.{last_of};
 
     ghost Value = { Held };
 

@@ -1,20 +1,18 @@
 //! With what a search opens: its workers, the limit that its start gives, and empty queues.
 ghost use Rattle.std.specs.Prelude.{◌≡◌, ◌≤◌, EachIndex, IfOk, length, slice_index, vec_len};
-ghost use Rattle.subtree_build.specs.Fits.{Fits as IndexFits};
 ghost use Rattle.search_machine.specs.Basics.{start_of};
 ghost use Rattle.search_machine.specs.Ground.{Ground, opening, start_limit};
 ghost use Rattle.search_machine.specs.Machine.{capacity_of, empty_queues};
-ghost use Rattle.query_core.specs.Questions.{search_over};
+ghost use Rattle.search_task.specs.Questions.{search_over};
 ghost use Rattle.query_core.specs.Teams.{AreHired, limit_of};
 
-use crate::task::Task;
 use crate::worker::Worker;
 use leaf_queues::Queue;
 use outside::NoMemory;
 use search_machine::Start;
+use search_task::Search;
 use series_core::{KBest, NONE, Rows};
 use std::alloc::Global;
-use subtree_build::Index;
 
 /// The limit that a start gives: `NONE` where there is none. At the start of a search it is the search's starting limit.
 pub fn limit_of(start: Option<Start>) -> u64
@@ -28,31 +26,29 @@ pub fn limit_of(start: Option<Start>) -> u64
 }
 
 /// The 1 to 64 workers with which a search over 1 to 64 queues opens, each with the number of its place: worker 0 has the list
-/// that `Task::opening` gives, and the others have empty ones.
+/// that `Search::opening` gives, and the others have empty ones.
 pub fn hire<'a, R: Rows>(
     alloc: Global,
-    task: &'a Task<'a, R>,
-    index: &'a Index,
+    search: &Search<'a, R>,
     workers: u32,
     queues: u32,
     start: Option<Start>,
     list: KBest,
 ) -> Result<Vec<Worker<'a, R>>, NoMemory>
-    requires fits { IndexFits task.now.collection task.now.layout index.now }
     requires workers { (1 ≤ workers) × (workers ≤ 64) }
     requires queues { (1 ≤ queues) × (queues ≤ 64) }
-    requires start { start ≡ start_of (search_over task.now index.now 1 queues) }
-    requires list { list ≡ record {
-      k = task.now.k;
-      pairs = opening (search_over task.now index.now 1 queues);
-    } }
+    requires start { let s = search.now in start ≡ start_of (search_over s.question s.index 1 queues) }
+    requires list { let s = search.now in
+        list ≡ record { k = s.question.k; pairs = opening (search_over s.question s.index 1 queues) } }
     ensures len { IfOk result (λ hired. length hired.items ≡ workers) }
-    ensures hired { IfOk result (λ hired. AreHired task.now index.now queues hired.items) }
+    ensures hired { IfOk result (λ hired. AreHired search.now.question search.now.index queues hired.items) }
 {
+    let task = search.task();
+    let index = search.index();
     let mut hired = Vec::with_capacity(alloc, workers as usize)?;
     hired.push_reserved(Worker::new(alloc, task, index, 0, queues, start, list)?);
     for number in 1..workers {
-        let list = KBest::new(alloc, task.k())?;
+        let list = KBest::new(alloc, search.k())?;
         hired.push_reserved(Worker::new(alloc, task, index, number, queues, start, list)?);
     }
     Ok(hired)

@@ -6,16 +6,15 @@ ghost use Rattle.search_machine.specs.Ground.{Fits, enough_turns};
 ghost use Rattle.search_machine.specs.Legal.{Legal};
 ghost use Rattle.search_machine.specs.Machine.{opened, played};
 ghost use Rattle.search_machine.specs.Outcome.{outcome};
-ghost use Rattle.query_core.specs.Questions.{search_over};
+ghost use Rattle.search_task.specs.Questions.{search_over};
 ghost use Rattle.query_core.specs.Replays.{FirstStranger, IsPlayed, NoStranger, Refuses};
 ghost use Rattle.search_machine.specs.Schedules.{NamesEach};
 ghost use Rattle.query_core.specs.Teams.{StandsAt, searched};
 
-use crate::index_laws::search_law;
-use crate::task::Task;
 use crate::team::Team;
 use outside::NoMemory;
 use search_machine::Outcome;
+use search_task::{Search, Task};
 use series_core::Rows;
 use std::alloc::Global;
 use subtree_build::Index;
@@ -58,8 +57,8 @@ pub fn replay<R: Rows>(
     ensures enough { let g = search_over task.now index.now workers queues in
         NamesEach g (enough_turns g) schedule.now → (i : ℕ) → result ≢ Err (ReplayError.Unfinished i) }
 {
-    search_law(task, index);
-    let Ok(mut team) = Team::open(alloc, task, index, workers, queues) else {
+    let search = Search::new(task, index);
+    let Ok(mut team) = Team::open(alloc, search, workers, queues) else {
         return Err(ReplayError::NoMemory);
     };
     if let Some(at) = play(&mut team, schedule) {

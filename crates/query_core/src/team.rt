@@ -1,28 +1,24 @@
 //! A team: all workers of a search over one hand in one thread. A turn of its worker is a turn of the machine.
 ghost use Rattle.std.specs.Prelude.{◌≡◌, ◌<◌, ◌≤◌, ◌↔◌, IfOk, IsTrue, MatchOption, length};
-ghost use Rattle.subtree_build.specs.Fits.{Fits as IndexFits};
 ghost use Rattle.search_machine.specs.Machine.{State, opened, turn};
-ghost use Rattle.query_core.specs.Questions.{search_over};
+ghost use Rattle.search_task.specs.Questions.{search_over};
 ghost use Rattle.query_core.specs.Teams.{StandsAt, IsFirstBusy, AreDone, searched};
 
-use crate::index_laws::search_law;
 use crate::one_thread::OneThread;
 use crate::opening::{hire, limit_of};
-use crate::task::Task;
 use crate::worker::Worker;
 use outside::NoMemory;
 use search_machine::Start;
+use search_task::Search;
 use series_core::Rows;
 use std::alloc::Global;
 use std::marker::Model;
-use subtree_build::Index;
 
 /// The workers of a search with what they share. It is seen as its question and index, the number of queues, the start, what
 /// is shared, and the workers.
 #[derive(Drop)]
 pub(crate) struct Team<'a, R: Rows> {
-    pub(crate) task: &'a Task<'a, R>,
-    pub(crate) index: &'a Index,
+    pub(crate) search: Search<'a, R>,
     pub(crate) queues: u32,
     pub(crate) start: Option<Start>,
     pub(crate) hand: OneThread<'a, R>,
@@ -38,34 +34,33 @@ impl<'a, R: Rows> Model for Team<'a, R> {
 
     ghost coded = { Prim.hlevel (codes, node.the_row.coded) };
 
-    ghost view = { λ t. team_of t.task.now t.index.now t.queues t.start t.hand t.workers.items };
+    ghost view = { λ t. team_of t.search.question t.search.index t.queues t.start t.hand t.workers.items };
 
-    ghost invariant = { λ t. IsTeam (team_of t.task.now t.index.now t.queues t.start t.hand t.workers.items) };
+    ghost invariant = { λ t. IsTeam (team_of t.search.question t.search.index t.queues t.start t.hand t.workers.items) };
 }
 
 impl<'a, R: Rows> Team<'a, R> {
     /// The team of 1 to 64 workers over 1 to 64 queues at the opening of the search.
     pub(crate) fn open(
         alloc: Global,
-        task: &'a Task<'a, R>,
-        index: &'a Index,
+        search: Search<'a, R>,
         workers: u32,
         queues: u32,
     ) -> Result<Team<'a, R>, NoMemory>
-        requires fits { IndexFits task.now.collection task.now.layout index.now }
         requires workers { (1 ≤ workers) × (workers ≤ 64) }
         requires queues { (1 ≤ queues) × (queues ≤ 64) }
-        ensures searches { IfOk result (λ t. searched t ≡ search_over task.now index.now workers queues) }
-        ensures opens { IfOk result (λ t. StandsAt t (opened (search_over task.now index.now workers queues))) }
+        ensures searches { let s = search.entry in IfOk result (λ t. searched t ≡ search_over s.question s.index workers queues) }
+        ensures opens { let s = search.entry in
+            IfOk result (λ t. StandsAt t (opened (search_over s.question s.index workers queues))) }
     {
-        search_law(task, index);
-        let (start, list) = task.opening(alloc, index)?;
+        // for the fact that the index can be searched
+        let _k = search.k();
+        let (start, list) = search.opening(alloc)?;
         let limit = limit_of(start);
-        let hand = OneThread::new(alloc, task, index, queues, limit)?;
-        let workers = hire(alloc, task, index, workers, queues, start, list)?;
+        let hand = OneThread::new(alloc, search.task(), search.index(), queues, limit)?;
+        let workers = hire(alloc, &search, workers, queues, start, list)?;
         Ok(Team {
-            task,
-            index,
+            search,
             queues,
             start,
             hand,

@@ -1,5 +1,2 @@
-//! Searches as worked by hand, and random small ones against a plain sort.
-mod drawn;
-mod kinds;
+//! One search as worked by hand, with what its worker is between turns.
 mod turn_by_turn;
-mod worked;

@@ -2,18 +2,18 @@
 ghost use Rattle.std.specs.Prelude.{◌≡◌, ◌≢◌, ℕ, suc, ◌<◌, ◌≤◌, ◌↔◌, false, cond, nat_lt, length};
 ghost use Rattle.search_machine.specs.Ground.{worst};
 ghost use Rattle.search_machine.specs.Workers.{Worker as Shown, onward, scanned_by};
-ghost use Rattle.query_core.specs.Questions.{last_of, view_in};
+ghost use Rattle.search_task.specs.Questions.{last_of, view_in};
 ghost use Rattle.query_core.specs.Portions.{portion_of};
 ghost use Rattle.query_core.specs.Walks.{IsEntry};
 ghost use Rattle.query_core.specs.Turning.{Acts, Turns, search_of, taken_by};
 ghost use Rattle.query_core.specs.Working.{IsOf, OnwardInRange, Shows, is_marked};
 
 use crate::limits::{most_of, note_scan};
-use crate::scan::distance_of_worst;
 use crate::shared::Shared;
 use crate::stage::Stage;
 use crate::worker::Worker;
 use search_machine::{Onward, Phase, Reply};
+use search_task::distance_of_worst;
 use series_core::{Entry, NONE, PopReply, PutReply, Rows, far};
 
 /// Whether a worker has more turns.
@@ -91,7 +91,7 @@ impl<'a, R: Rows> Worker<'a, R> {
         ensures { Acts S.floor S.roots S.did hand.old hand.new self.old self.new result }
     {
         let limit = hand.read(self.no_limit());
-        match self.walk.next(self.task.view(), far(limit), self.start) {
+        match self.walk.next(self.search.view(), far(limit), self.start) {
             Some(entry) => {
                 self.stage = Stage::Give(entry);
                 Reply::Seen(limit)
@@ -200,7 +200,7 @@ impl<'a, R: Rows> Worker<'a, R> {
         ensures low { last_of self.now.question ≤ result }
     {
         // for the fact that the worker's index can be searched for its question
-        let _k = self.task.k();
+        let _k = self.search.k();
         NONE
     }
 
@@ -230,7 +230,7 @@ impl<'a, R: Rows> Worker<'a, R> {
         ensures taken { (workers : ℕ) (m : Shown) → Shows self.old m
             → Shows self.new (taken_by (search_of self.old workers) m leaf limit next) }
     {
-        if leaf < self.index.leaf_count() && !self.has_scanned(leaf) {
+        if leaf < self.search.leaf_count() && !self.has_scanned(leaf) {
             self.scan(leaf, limit, next);
         } else {
             self.stage = Stage::onward(next);
@@ -247,9 +247,8 @@ impl<'a, R: Rows> Worker<'a, R> {
             → Shows self.new (scanned_by (search_of self.old workers) m leaf limit next) }
     {
         let portion = self.portion_of(leaf);
-        let rank = self.task.k().div_ceil(self.queues);
-        self.task
-            .scan_boxed(self.index, leaf, limit, &mut self.list);
+        let rank = self.search.k().div_ceil(self.queues);
+        self.search.scan_boxed(leaf, limit, &mut self.list);
         self.marks[leaf as usize] = true;
         note_scan(&mut self.limits, portion, rank, &self.list);
         self.stage = Stage::after_scan(distance_of_worst(&self.list), limit, next);

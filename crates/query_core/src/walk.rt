@@ -5,7 +5,7 @@ ghost use Rattle.std.specs.Option.{option_map};
 ghost use Rattle.subtree_build.specs.Outline.{leaf_numbers};
 ghost use Rattle.subtree_build.specs.Start.{node_at};
 ghost use Rattle.search_machine.specs.Ground.{Ground};
-ghost use Rattle.query_core.specs.Questions.{leaf_bound};
+ghost use Rattle.search_task.specs.Questions.{leaf_bound};
 ghost use Rattle.query_core.specs.Walks.{Advances, IsAmong, IsFirst, IsGiven};
 
 use lower_bound::QueryView;

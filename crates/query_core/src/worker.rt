@@ -5,7 +5,7 @@ ghost use Rattle.subtree_build.specs.Fits.{Fits as IndexFits};
 ghost use Rattle.search_machine.specs.Basics.{start_of};
 ghost use Rattle.search_machine.specs.declared.phase.Phase.TheVariants.{Done};
 ghost use Rattle.search_machine.specs.Workers.{fills};
-ghost use Rattle.query_core.specs.Questions.{leaf_bound, search_over, view_in};
+ghost use Rattle.search_task.specs.Questions.{leaf_bound, search_over, view_in};
 ghost use Rattle.query_core.specs.Portions.{AreLimits};
 ghost use Rattle.query_core.specs.Turning.{search_of};
 ghost use Rattle.query_core.specs.Working.{AreOpeningMarks, HoldsSeries, IsOf, Shows, opened_list, opens_as};
@@ -13,10 +13,10 @@ ghost use Rattle.query_core.specs.Working.{AreOpeningMarks, HoldsSeries, IsOf, S
 use crate::bound_share::BoundShare;
 use crate::limits::Limits;
 use crate::stage::Stage;
-use crate::task::Task;
 use crate::walk::Walk;
 use outside::NoMemory;
 use search_machine::{Onward, Start};
+use search_task::{Search, Task};
 use series_core::{KBest, Rows};
 use std::alloc::Global;
 use std::marker::Model;
@@ -27,8 +27,7 @@ use subtree_build::Index;
 /// several workers share, change only what a read is answered.
 #[derive(Drop)]
 pub struct Worker<'a, R: Rows> {
-    pub(crate) task: &'a Task<'a, R>,
-    pub(crate) index: &'a Index,
+    pub(crate) search: Search<'a, R>,
     pub(crate) number: u32,
     pub(crate) queues: u32,
     pub(crate) start: Option<u32>,
@@ -46,7 +45,7 @@ impl<'a, R: Rows> Model for Worker<'a, R> {
     ghost use Rattle.subtree_build.specs.contracts.node.Node as node;
     ghost use Rattle.search_machine.specs.Workers.{without};
     ghost use Rattle.query_core.specs.BoundShares.{AreBounds};
-    ghost use Rattle.query_core.specs.Questions.{search_over, view_in};
+    ghost use Rattle.search_task.specs.Questions.{search_over, view_in};
     ghost use Rattle.query_core.specs.Working.{Working, IsWorking, phase_of, working};
     ghost use Rattle.query_core.specs.Portions.{Keeps};
 
@@ -54,13 +53,14 @@ impl<'a, R: Rows> Model for Worker<'a, R> {
 
     ghost coded = { Prim.hlevel (codes, node.the_row.coded) };
 
-    ghost view = { λ w. working w.task.now w.index.now w.number w.queues (phase_of w.stage)
+    ghost view = { λ w. working w.search.question w.search.index w.number w.queues (phase_of w.stage)
         (without w.start w.walk.leaves) w.list.pairs w.marks.items };
 
-    ghost invariant = { λ w. IsWorking w.start w.walk w.list w.stage (working w.task.now w.index.now w.number w.queues (phase_of w.stage)
+    ghost invariant = { λ w. IsWorking w.start w.walk w.list w.stage
+        (working w.search.question w.search.index w.number w.queues (phase_of w.stage)
         (without w.start w.walk.leaves) w.list.pairs w.marks.items)
-        × Keeps (search_over w.task.now w.index.now 1 w.queues) w.marks.items w.limits
-        × AreBounds (view_in w.task.now) w.index.now w.share };
+        × Keeps (search_over w.search.question w.search.index 1 w.queues) w.marks.items w.limits
+        × AreBounds (view_in w.search.question) w.search.index w.share };
 }
 
 impl<'a, R: Rows> Worker<'a, R> {
@@ -87,14 +87,12 @@ impl<'a, R: Rows> Worker<'a, R> {
         ensures place { IfOk result (λ w. IsOf task.now index.now queues number w) }
         ensures opens { IfOk result (λ w. Shows w (opens_as (search_over task.now index.now 1 queues) number)) }
     {
-        // for the fact that the task is a question
-        let _k = task.k();
+        let search = Search::new(task, index);
         let start = leaf_of(start);
         let marks = opened_marks(alloc, index.leaf_count() as usize, number, start)?;
         let walk = Walk::new(index);
         Ok(Worker {
-            task,
-            index,
+            search,
             number,
             queues,
             start,
@@ -122,7 +120,7 @@ impl<'a, R: Rows> Worker<'a, R> {
         requires workers { 1 ≤ workers }
         ensures same { self.new ≡ self.old }
     {
-        let leaves = self.index.leaf_count();
+        let leaves = self.search.leaf_count();
         let size = (leaves / workers).saturating_add(1);
         let first = self.number.saturating_mul(size).min(leaves);
         self.share = BoundShare::with_room(alloc, first, first.saturating_add(size).min(leaves))?;
@@ -133,9 +131,7 @@ impl<'a, R: Rows> Worker<'a, R> {
     pub fn reckon(&mut self)
         ensures same { self.new ≡ self.old }
     {
-        // for the fact that the worker's index can be searched for its question
-        let _k = self.task.k();
-        self.share.reckon(self.task.view(), self.index);
+        self.share.reckon(self.search.view(), self.search.index());
     }
 
     /// The lower bound of a leaf, where it reckoned it.

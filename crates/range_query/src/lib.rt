@@ -7,6 +7,3 @@ mod team;
 mod walk;
 
 pub use range::within;
-
-#[cfg(test)]
-mod tests;

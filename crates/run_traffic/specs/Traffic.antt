@@ -4,6 +4,8 @@ use Rattle.std.specs.Io.KnownBytes.{append_known}
 use Rattle.outside.specs.Count.{Rose}
 use Rattle.outside.specs.Files.{Held}
 use Rattle.outside.specs.Sink.{AppendsPrefix}
+use Rattle.outside.specs.declared.files.Files.{Ghosts as FilesOf}
+use Rattle.outside.specs.declared.sink.Sink.{Ghosts as SinkOf}
 
 -- What was handed in to read from, and what reading did: the files, the counts of faults and of absent names
 -- before and after, and the name of the file that failed. Files and name are there where they are known.
@@ -24,25 +26,25 @@ pub record Writing : Type 0 where
   pub later : ℕ
   pub sure : ℕ
 
--- what reading did between two states of the files
-abbrev pub read_from : {F : Type 0} → (F → Option Held) → (F → ℕ) → (F → ℕ) → (F → Option (List ℕ)) → F → F → Reading
-read_from held faults misses blamed old new = record {
-  held = held old;
-  faults = faults old;
-  later = faults new;
-  misses = misses old;
-  more = misses new;
-  blamed = blamed new;
+-- what reading did between two states of files of this kind
+abbrev pub read_from : {F : Type 0} → FilesOf F → F → F → Reading
+read_from files old new = record {
+  held = files.held old;
+  faults = files.faults old;
+  later = files.faults new;
+  misses = files.misses old;
+  more = files.misses new;
+  blamed = files.blamed new;
 }
 
--- what writing did between two states of a sink
-abbrev pub wrote_to : {S : Type 0} → (S → Option (List ℕ)) → (S → ℕ) → (S → ℕ) → S → S → Writing
-wrote_to written faults sure old new = record {
-  before = written old;
-  now = written new;
-  faults = faults old;
-  later = faults new;
-  sure = sure old;
+-- what writing did between two states of a sink of this kind
+abbrev pub wrote_to : {S : Type 0} → SinkOf S → S → S → Writing
+wrote_to sink old new = record {
+  before = sink.written old;
+  now = sink.written new;
+  faults = sink.faults old;
+  later = sink.faults new;
+  sure = sink.sure old;
 }
 
 -- a part of a reading that goes on to its end

@@ -10,8 +10,8 @@ use Rattle.search_machine.proofs.Ending.{ending_legal}
 use Rattle.search_machine.proofs.OneWorker.{opening_straight, run_straight, straight_outcome}
 use Rattle.search_machine.proofs.Opening.{opening_sound}
 use Rattle.search_machine.proofs.Schedules.{played_sound}
-use Rattle.query_core.specs.Questions.{CanBeSearched, Question, search_over}
-use Rattle.query_core.proofs.OfIndex.{search_fits}
+use Rattle.search_task.specs.Questions.{CanBeSearched, Question, search_over}
+use Rattle.search_task.proofs.OfIndex.{search_fits}
 use Rattle.query_core.proofs.TeamPlays.{alone_done}
 use Rattle.certificate.specs.Printed.{IsCertificate, outcome_said, search_text}
 use Rattle.certificate.proofs.Certified.{outcome_certifies}

@@ -13,6 +13,7 @@ pub mod Exactly
 pub mod Concluding
 pub mod Both
 pub mod Stopped
+pub mod Served
 pub mod Searching
 pub mod Windowed
 pub mod Converting

@@ -28,8 +28,8 @@ use Rattle.search_run.proofs.Both.{files_refused}
 use Rattle.search_run.proofs.Concluding.{concludes_map, refusal_concludes}
 use Rattle.search_run.proofs.Pieces.{text_finish, text_map}
 use Rattle.search_run.specs.declared.commands.search.Ground.{Ground}
-use Rattle.search_run.specs.declared.output.stop.Stop.{Stop}
-use Rattle.search_run.specs.declared.output.stop.Stop.TheVariants.{WriteFault, NoMemory}
+use Rattle.search_run.specs.declared.stop.Stop.{Stop}
+use Rattle.search_run.specs.declared.stop.Stop.TheVariants.{WriteFault, NoMemory}
 use Rattle.search_run.specs.declared.status.Status.{Status}
 use Rattle.search_run.specs.declared.status.Status.TheVariants.{Done}
 

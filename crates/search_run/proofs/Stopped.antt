@@ -11,8 +11,8 @@ use Rattle.search_run.specs.Texts.{IsTextOf}
 use Rattle.search_run.specs.Traffic.{Reading, Writing}
 use Rattle.search_run.proofs.Concluding.{concludes_map, refusal_concludes}
 use Rattle.search_run.proofs.Pieces.{text_finish}
-use Rattle.search_run.specs.declared.output.stop.Stop.{Stop}
-use Rattle.search_run.specs.declared.output.stop.Stop.TheVariants.{WriteFault, NoMemory}
+use Rattle.search_run.specs.declared.stop.Stop.{Stop}
+use Rattle.search_run.specs.declared.stop.Stop.TheVariants.{WriteFault, NoMemory}
 use Rattle.search_run.specs.declared.status.Status.{Status}
 use Rattle.search_run.specs.declared.status.Status.TheVariants.{ReadFault}
 use Rattle.search_run.specs.declared.status.Which.{Which}

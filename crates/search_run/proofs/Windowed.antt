@@ -21,9 +21,9 @@ use Rattle.search_run.specs.Windows.{AppendsChoices, HasFew, IsChoice, long_plan
 use Rattle.window_rows.proofs.Enough.{nearest_enough}
 use Rattle.search_run.proofs.Both.{loads_refused}
 use Rattle.search_run.proofs.Pieces.{text_map}
-use Rattle.search_run.specs.declared.output.answers.Telling.TheVariants.{Apart}
-use Rattle.search_run.specs.declared.output.stop.Stop.{Stop}
-use Rattle.search_run.specs.declared.output.stop.Stop.TheVariants.{WriteFault, NoMemory}
+use Rattle.search_run.specs.declared.answers.Telling.TheVariants.{Apart}
+use Rattle.search_run.specs.declared.stop.Stop.{Stop}
+use Rattle.search_run.specs.declared.stop.Stop.TheVariants.{WriteFault, NoMemory}
 use Rattle.search_run.specs.declared.status.Status.{Status}
 
 -- values alone, one a series, are no more than a collection may have series

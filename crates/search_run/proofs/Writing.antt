@@ -5,69 +5,64 @@ use Rattle.std.proofs.Math.Seq.{take-append-add}
 use Rattle.std.proofs.lemmas.List.{take_all, take-append-le}
 use Rattle.std.proofs.lemmas.Bool.{cases_lt}
 use Rattle.outside.specs.Sink.{AppendsPrefix}
+use Rattle.outside.specs.declared.sink.Sink.{Ghosts as SinkOf}
 use Rattle.run_traffic.proofs.Appending.{append_known-append, append_known-nil}
 
 -- this was written since the first state, and no more was taken of what is sure than that
-pub record Going {S : Type 0} (written : S → Option (List ℕ)) (faults sure : S → ℕ)
-    (first now : S) (done : List ℕ) : Type 0 where
-  pub appended : written now ≡ append_known (written first) done
-  pub counts : faults first ≤ faults now
-  pub spent : sure first ≤ sure now + length done
+pub record Going {S : Type 0} (sink : SinkOf S) (first now : S) (done : List ℕ) : Type 0 where
+  pub appended : sink.written now ≡ append_known (sink.written first) done
+  pub counts : sink.faults first ≤ sink.faults now
+  pub spent : sink.sure first ≤ sink.sure now + length done
 
 -- at first nothing was written
-pub Going-start : {S : Type 0} (written : S → Option (List ℕ)) (faults sure : S → ℕ) (first : S)
-    → Going written faults sure first first []
-Going-start written faults sure first = record {
-  appended = append_known-nil (written first);
+pub Going-start : {S : Type 0} (sink : SinkOf S) (first : S) → Going sink first first []
+Going-start sink first = record {
+  appended = append_known-nil (sink.written first);
   counts = omega arith;
   spent = omega arith;
 }
 
 -- one more piece was written whole
-pub Going-next : {S : Type 0} {written : S → Option (List ℕ)} {faults sure : S → ℕ}
-    {first now next : S} {done : List ℕ} (piece : List ℕ)
-    → Going written faults sure first now done
-    → written next ≡ append_known (written now) piece → faults now ≤ faults next → sure now ≤ sure next + length piece
-    → Going written faults sure first next (done ++ piece)
-Going-next {written} {first = first} {done = done} piece before wrote counted spent = record {
+pub Going-next : {S : Type 0} {sink : SinkOf S} {first now next : S} {done : List ℕ} (piece : List ℕ)
+    → Going sink first now done
+    → sink.written next ≡ append_known (sink.written now) piece → sink.faults now ≤ sink.faults next
+    → sink.sure now ≤ sink.sure next + length piece → Going sink first next (done ++ piece)
+Going-next {sink = sink} {first = first} {done = done} piece before wrote counted spent = record {
   appended = wrote ∙ ap (λ known. append_known known piece) before.appended
-      ∙ append_known-append (written first) done piece;
+      ∙ append_known-append (sink.written first) done piece;
   counts = omega (arith, before.counts);
   spent = omega (arith, before.spent, length-append done piece);
 }
 
 -- the pieces were written, and so a prefix of them
-pub Going-prefix : {S : Type 0} {written : S → Option (List ℕ)} {faults sure : S → ℕ}
-    {first now : S} {done : List ℕ} → Going written faults sure first now done
-    → AppendsPrefix (written first) done (written now)
-Going-prefix {written} {first = first} {done = done} before = (
+pub Going-prefix : {S : Type 0} {sink : SinkOf S} {first now : S} {done : List ℕ} → Going sink first now done
+    → AppendsPrefix (sink.written first) done (sink.written now)
+Going-prefix {sink = sink} {first = first} {done = done} before = (
   length done,
   omega arith,
-  before.appended ∙ ap (append_known (written first)) (sym (take_all (length done) done (omega arith))),
+  before.appended ∙ ap (append_known (sink.written first)) (sym (take_all (length done) done (omega arith))),
 )
 
 -- where the next piece was written in part, a prefix of all pieces with it was written
-pub Going-stopped : {S : Type 0} {written : S → Option (List ℕ)} {faults sure : S → ℕ}
-    {first now next : S} {done : List ℕ} (piece : List ℕ) → Going written faults sure first now done
-    → AppendsPrefix (written now) piece (written next)
-    → AppendsPrefix (written first) (done ++ piece) (written next)
-Going-stopped {written} {first = first} {done = done} piece before part = (
+pub Going-stopped : {S : Type 0} {sink : SinkOf S} {first now next : S} {done : List ℕ} (piece : List ℕ)
+    → Going sink first now done → AppendsPrefix (sink.written now) piece (sink.written next)
+    → AppendsPrefix (sink.written first) (done ++ piece) (sink.written next)
+Going-stopped {sink = sink} {first = first} {done = done} piece before part = (
   length done + part.0,
   omega (arith, part.1, length-append done piece),
   part.2 ∙ ap (λ known. append_known known (take part.0 piece)) before.appended
-      ∙ append_known-append (written first) done (take part.0 piece)
-      ∙ ap (append_known (written first)) (sym (take-append-add done piece part.0)),
+      ∙ append_known-append (sink.written first) done (take part.0 piece)
+      ∙ ap (append_known (sink.written first)) (sym (take-append-add done piece part.0)),
 )
 
 -- where the next piece is not sure to be taken, neither are all pieces with it
-pub Going-short : {S : Type 0} {written : S → Option (List ℕ)} {faults sure : S → ℕ}
-    {first now : S} {done : List ℕ} (piece : List ℕ) → Going written faults sure first now done
-    → (length piece ≤ sure now → ⊥) → sure first < length (done ++ piece)
-Going-short {sure = sure} {first = first} {now = now} {done = done} piece before short =
+pub Going-short : {S : Type 0} {sink : SinkOf S} {first now : S} {done : List ℕ} (piece : List ℕ)
+    → Going sink first now done → (length piece ≤ sink.sure now → ⊥) → sink.sure first < length (done ++ piece)
+Going-short {sink = sink} {first = first} {now = now} {done = done} piece before short =
     ⊎_elim
-    (λ (less : sure now < length piece). omega (arith, before.spent, less, length-append done piece))
-    (λ (enough : length piece ≤ sure now). absurd (short enough))
-    (cases_lt (sure now) (length piece))
+    (λ (less : sink.sure now < length piece). omega (arith, before.spent, less, length-append done piece))
+    (λ (enough : length piece ≤ sink.sure now). absurd (short enough))
+    (cases_lt (sink.sure now) (length piece))
 
 -- false is not true
 pub false_is_not_true : false ≡ true → ⊥

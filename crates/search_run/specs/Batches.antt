@@ -3,6 +3,7 @@ use Rattle.std.specs.Prelude.{◌≡◌, ℕ, ℤ, ◌<◌, ◌≤◌, ⊤, List
 use Rattle.std.specs.Borrow.{Bor}
 use Rattle.std.specs.List.{All}
 use Rattle.outside.specs.declared.faults.NoMemory.{NoMemory}
+use Rattle.command_words.specs.declared.limits.TheConstants.{MOST_QUEUES, MOST_WORKERS}
 use Rattle.command_words.specs.declared.options.Options.{Options}
 use Rattle.claim_word.specs.Passes.{Claim, fresh_pass}
 use Rattle.series_core.specs.Answer.{answer}
@@ -11,15 +12,15 @@ use Rattle.series_core.specs.declared.best.TheConstants.{MAX_BEST}
 use Rattle.series_core.specs.declared.pair.Pair.{Pair}
 use Rattle.search_machine.specs.Legal.{IsStraight, Legal}
 use Rattle.search_machine.specs.declared.outcome.Outcome.{Outcome}
-use Rattle.query_core.specs.Questions.{IsQuestion, search_over}
+use Rattle.search_task.specs.Questions.{IsQuestion, search_over}
 use Rattle.search_run.specs.Finding.{IsTreeFor, asked_of}
 use Rattle.search_run.specs.declared.tree.Tree.{Tree}
 use Rattle.search_run.specs.declared.finding.Asking.{Asking}
 use Rattle.search_run.specs.declared.batch.Batch.{Batch}
 use Rattle.search_run.specs.declared.batch.Found.{Found}
 use Rattle.search_run.specs.declared.dealing.Share.{Share}
-use Rattle.search_run.specs.declared.output.answers.Telling.{Telling}
-use Rattle.search_run.specs.declared.output.answers.Telling.TheVariants.{Nearest, Apart}
+use Rattle.search_run.specs.declared.answers.Telling.{Telling}
+use Rattle.search_run.specs.declared.answers.Telling.TheVariants.{Nearest, Apart}
 use Rattle.search_run.specs.Texts.{AppendsPieces, query_text}
 use Rattle.window_rows.specs.Choice.{chosen_apart}
 
@@ -36,9 +37,9 @@ pub record IsAsking (a : Asking) : Type 0 where
   pub some : 0 < a.k
   pub limit : a.k ≤ MAX_BEST
   pub some_worker : 1 ≤ a.workers
-  pub few_workers : a.workers ≤ 64
+  pub few_workers : a.workers ≤ MOST_WORKERS
   pub some_queue : 1 ≤ a.queues
-  pub few_queues : a.queues ≤ 64
+  pub few_queues : a.queues ≤ MOST_QUEUES
 
 -- the tree is one of the rows, the queries are as long as they, and what is asked is within its limits
 pub record IsBatch {R : Type 0} (collection : R → Collection) (b : Batch R) : Type 0 where

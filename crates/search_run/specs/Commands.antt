@@ -1,5 +1,5 @@
 -- What each command does: its steps, and at their end the texts that it may write.
-use Rattle.std.specs.Prelude.{◌≡◌, ℕ, ℤ, true, false, ⊤, List, Option, None, Some, codes}
+use Rattle.std.specs.Prelude.{◌≡◌, ℕ, ℤ, Bool, true, false, ⊤, List, Option, None, Some, codes}
 use Rattle.outside.specs.Files.{Held}
 use Rattle.command_words.specs.declared.command.Command.{Command}
 use Rattle.command_words.specs.declared.command.Command.TheVariants.{Nearest, Range, Verify, Trial, Convert, Save, Windows, Discord}
@@ -48,6 +48,10 @@ pieces_rest IsPiece x y = Write (IsTextOf (IsPiece x) y.rows.series)
 abbrev pub pieces_plan : List ℕ → List ℕ → Options → (Loaded → ℕ → List ℤ → List ℕ → Type 0) → Plan
 pieces_plan series queries o IsPiece = plan_over series queries o (pieces_rest IsPiece)
 
+-- the k nearest of each query, with certificates or without
+abbrev pub pieces_by : Bool → List ℕ → List ℕ → Options → Plan
+pieces_by flag series queries o = pieces_plan series queries o (IsNearestPiece flag o)
+
 -- the k nearest of each query, where a saved index stands in place of the settings: it fits the series, whose answers they are
 abbrev pub indexed_plan : List ℕ → List ℕ → List ℕ → Options → Plan
 indexed_plan index series queries o =
@@ -55,7 +59,7 @@ indexed_plan index series queries o =
 
 -- the same with this index, where one is named; and else with their certificates, where they are asked for
 abbrev pub nearest_by : Option (List ℕ) → List ℕ → List ℕ → Options → Plan
-nearest_by None series queries o = pieces_plan series queries o (IsNearestPiece o.certificate o)
+nearest_by None series queries o = pieces_by o.certificate series queries o
 nearest_by (Some index) series queries o = indexed_plan index series queries o
 
 -- the answers to each query: its k nearest

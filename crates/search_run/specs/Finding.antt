@@ -6,7 +6,7 @@ use Rattle.series_core.specs.Collection.{Collection}
 use Rattle.series_file.specs.declared.error.Loaded.{Loaded}
 use Rattle.subtree_build.specs.Fits.{Fits, IsTreeOf}
 use Rattle.subtree_build.specs.Index.{IsIndex}
-use Rattle.query_core.specs.Questions.{Question}
+use Rattle.search_task.specs.Questions.{Question}
 use Rattle.search_run.specs.Commands.{plan_over}
 use Rattle.search_run.specs.Ends.{ConcludesBy}
 use Rattle.search_run.specs.Layouts.{settings_of}

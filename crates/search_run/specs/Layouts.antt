@@ -2,13 +2,14 @@
 use Rattle.std.specs.Prelude.{ℕ, min, Option, None, Some}
 use Rattle.breakpoints.specs.declared.table.Table.{Table}
 use Rattle.isax_word.specs.declared.layout.Layout.{Layout}
+use Rattle.command_words.specs.declared.limits.TheConstants.{MOST_SEGMENTS}
 use Rattle.command_words.specs.declared.options.Options.{Options}
 use Rattle.subtree_build.specs.declared.settings.Settings.{Settings}
 use Rattle.segment_sums.specs.Division.{division_of}
 
--- how many segments a series of n values has: as many as were asked for, or as many as there may be, up to 16
+-- how many segments a series of n values has: as many as were asked for, or as many as there may be
 abbrev pub segments_of : ℕ → Option ℕ → ℕ
-segments_of n None = min n 16
+segments_of n None = min n MOST_SEGMENTS
 segments_of n (Some w) = w
 
 -- the layout of series of n values, with these segments, by this table

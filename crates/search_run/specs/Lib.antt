@@ -17,6 +17,7 @@ pub mod Batches
 pub mod Commands
 pub mod Pairs
 pub mod Ends
+pub mod Serves
 pub mod Stops
 pub mod Verified
 pub use Rattle.series_core.specs.Collection

@@ -3,7 +3,7 @@ use Rattle.std.specs.Prelude.{◌≡◌, ℕ, ℤ, Bool, true, false, List, ◌+
 use Rattle.command_words.specs.declared.options.Options.{Options}
 use Rattle.series_core.specs.Answer.{answer}
 use Rattle.series_file.specs.declared.error.Loaded.{Loaded}
-use Rattle.query_core.specs.Questions.{Question}
+use Rattle.search_task.specs.Questions.{Question}
 use Rattle.certificate.specs.Printed.{IsCertificate}
 use Rattle.search_run.specs.Layouts.{layout_of}
 use Rattle.search_run.specs.Texts.{IsAnswerPiece, query_text}

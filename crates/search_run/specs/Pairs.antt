@@ -5,8 +5,7 @@ use Rattle.command_words.specs.declared.options.Options.{Options}
 use Rattle.series_file.specs.declared.error.Loaded.{Loaded}
 use Rattle.search_run.specs.Commands.{alike_plan, plan_over}
 use Rattle.search_run.specs.Loads.{HoldsFile, form_of}
-use Rattle.search_run.specs.Plans.{HasSegments, Load, Plan, Write}
-use Rattle.search_run.specs.declared.status.Which.TheVariants.{Series, Queries}
+use Rattle.search_run.specs.Plans.{HasSegments, Plan, Write}
 
 -- both files hold what was loaded
 pub record HoldBoth (held : Option Held) (series queries : List ℕ) (o : Options) (x y : Loaded) : Type 0 where
@@ -23,11 +22,6 @@ pub record Fit (held : Option Held) (series queries : List ℕ) (o : Options) (x
   pub hold : HoldBoth held series queries o x y
   pub lengths : x.rows.points ≡ y.rows.points
   pub segments : HasSegments o.segments x.rows.points
-
--- the steps that load both files, and nothing behind them
-abbrev pub loads_plan : List ℕ → List ℕ → Options → Plan
-loads_plan series queries o =
-    Load Series series (form_of o.raw) (λ x. Load Queries queries (form_of o.raw) (λ y. Write (λ _. ⊥)))
 
 -- the steps that load both files and compare their lengths, and nothing behind them
 abbrev pub lengths_plan : List ℕ → List ℕ → Options → Plan

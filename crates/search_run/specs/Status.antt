@@ -12,8 +12,8 @@ use Rattle.search_run.specs.declared.status.Which.TheVariants.{Series, Queries, 
 use Rattle.search_run.specs.declared.status.CertFault.{CertFault}
 use Rattle.search_run.specs.declared.status.CertFault.TheVariants.{Line, TooLong, Rejected}
 use Rattle.search_run.specs.declared.status.Status.{Status}
-use Rattle.search_run.specs.declared.output.stop.Stop.{Stop}
-use Rattle.search_run.specs.declared.output.stop.Stop.TheVariants as stop
+use Rattle.search_run.specs.declared.stop.Stop.{Stop}
+use Rattle.search_run.specs.declared.stop.Stop.TheVariants as stop
 use Rattle.search_run.specs.declared.status.Status.TheVariants.{Done, Usage, Missing, ReadFault, Format, Mismatch, Settings, WriteFault, Memory, Invalid, Index}
 
 -- the number that the program exits with

@@ -4,8 +4,8 @@ use Rattle.outside.specs.Count.{Rose}
 use Rattle.outside.specs.Sink.{AppendsPrefix}
 use Rattle.search_run.specs.Texts.{IsTextOf}
 use Rattle.search_run.specs.Traffic.{Writing}
-use Rattle.search_run.specs.declared.output.stop.Stop.{Stop}
-use Rattle.search_run.specs.declared.output.stop.Stop.TheVariants.{WriteFault, NoMemory}
+use Rattle.search_run.specs.declared.stop.Stop.{Stop}
+use Rattle.search_run.specs.declared.stop.Stop.TheVariants.{WriteFault, NoMemory}
 
 -- A prefix of the pieces of the first n queries was written, whatever the pieces of the others may be. Where the sink
 -- failed, its count of faults rose, and those pieces are longer than what it was sure to take.

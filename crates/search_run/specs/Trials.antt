@@ -1,5 +1,6 @@
 -- A trial: a search over random walks that are all made from one number, and the four lines that sum it up.
 use Rattle.std.specs.Prelude.{ℕ, ◌*◌, ◌≤◌, ℤ, List, [], ◌∷◌, ◌++◌, codes, decimal, length, map}
+use Rattle.command_words.specs.declared.limits.TheConstants.{MOST_POINTS, MOST_QUERIES, MOST_SERIES, MOST_VALUES}
 use Rattle.list_totals.specs.Totals.{total}
 use Rattle.series_core.specs.Answer.{answer}
 use Rattle.series_core.specs.Collection.{Collection}
@@ -51,8 +52,8 @@ trial_text seed count n queries k =
 
 -- the numbers of a trial are within their limits
 pub record KeepsTrialLimits (count n queries : ℕ) : Type 0 where
-  pub count_limit : count ≤ 16777216
+  pub count_limit : count ≤ MOST_SERIES
   pub some_point : 1 ≤ n
-  pub length_limit : n ≤ 65536
-  pub queries_limit : queries ≤ 1000
-  pub values_limit : count * n ≤ 134217728
+  pub length_limit : n ≤ MOST_POINTS
+  pub queries_limit : queries ≤ MOST_QUERIES
+  pub values_limit : count * n ≤ MOST_VALUES

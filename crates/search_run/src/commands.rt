@@ -1,5 +1,5 @@
 //! What each command does with its input, one module a command, and one for those that read one file and write one text of it.
-//! It ends with the status that says why it did not.
+//! Each ends with the status that says why it could not do it.
 
 pub mod nearest;
 pub mod one_file;

@@ -1,19 +1,17 @@
-//! Queries that workers answer side by side: each worker draws the next query until none is left, so that nobody waits for a worker whose
+//! Queries that workers answer side by side: each worker draws the next query until none is left, so that no worker waits for one whose
 //! queries take longer. Its one rule: what is found for a query stands beside its number.
 ghost use Rattle.std.specs.Prelude.{◌≡◌, ◌+◌, ◌<◌, ◌≤◌, All, IfOk, length};
 ghost use Rattle.claim_word.specs.Passes.{Claim, fresh_pass};
 ghost use Rattle.search_run.specs.Batches.{AreRight, IsBatch, IsFresh};
 
 use crate::batch::{Batch, Found};
+use crate::tuning::QUERIES_AHEAD;
 use claim_word::{ClaimPass, Claims};
 use outside::NoMemory;
 use series_core::Rows;
 use std::alloc::Global;
 use std::thread::Threads;
 use thread_row::for_each_mut;
-
-/// How many queries are answered ahead at most.
-const AHEAD: u32 = 2048;
 
 /// What a worker found, and its pass of the queries.
 #[derive(Drop)]
@@ -85,7 +83,7 @@ impl<R: Rows + Sync> Batch<'_, R> {
         requires below { first < length self.now.queries.now.series }
         ensures { IfOk result (λ found. AreRight R.collection self.now found.items) }
     {
-        let size = (self.queries.count() - first).min(AHEAD);
+        let size = (self.queries.count() - first).min(QUERIES_AHEAD);
         let (claims, passes) = Claims::begin(alloc, u64::from(size), self.asking.workers)?;
         let mut shares = shares(alloc, passes)?;
         self.draw_together(rt, alloc, &claims, first, shares.as_mut_slice());

@@ -5,6 +5,7 @@ ghost use Rattle.std.specs.Prelude.{◌≡◌, ◌<◌, ◌≤◌, length, IfOk}
 ghost use Rattle.series_core.specs.Answer.{answer, within};
 ghost use Rattle.series_core.specs.declared.best.TheConstants.{MAX_BEST};
 ghost use Rattle.command_words.specs.Limits.{OptionsKeepLimits};
+ghost use Rattle.command_words.specs.declared.limits.TheConstants.{MOST_QUEUES, MOST_WORKERS};
 ghost use Rattle.search_run.specs.Batches.{CanAsk, HasRightOutcome, IsAsking, asking_of};
 ghost use Rattle.search_run.specs.Finding.{IsTreeFor};
 
@@ -12,15 +13,16 @@ use crate::crew::Crew;
 use crate::tree::Tree;
 use command_words::Options;
 use live_query::nearest_sealed;
+use nearest_answer::one_worker_answer;
 use outside::{Gate, NoMemory};
-use query_core::{Outcome, Task, one_worker, one_worker_answer};
+use query_core::{Outcome, Task, one_worker};
 use range_query::within;
 use series_core::{PairList, Rows};
 use std::alloc::Global;
 use std::sync::Wait;
 use std::thread::Threads;
 
-/// How many of the nearest are asked for, of how many workers, over how many queues for leaves.
+/// How many of the nearest are asked for, by how many workers, over how many queues for leaves.
 #[derive(Clone, Copy, Debug, PartialEq, Eq)]
 pub struct Asking {
     /// How many of the nearest.
@@ -44,7 +46,7 @@ pub fn asking_of(options: &Options) -> Asking
     }
 }
 
-/// The k series nearest to a query as long as they, by one worker with this many queues for leaves.
+/// The k series nearest to a query of their length, by one worker with this many queues for leaves.
 pub fn nearest<R: Rows>(
     alloc: Global,
     rows: &R,
@@ -57,15 +59,15 @@ pub fn nearest<R: Rows>(
     requires length { length query.now ≡ (R.collection rows.now).points }
     requires some { 0 < k }
     requires limit { k ≤ MAX_BEST }
-    requires queues { (1 ≤ queues) × (queues ≤ 64) }
+    requires queues { (1 ≤ queues) × (queues ≤ MOST_QUEUES) }
     ensures { IfOk result (λ pairs. pairs ≡ answer (R.collection rows.now) query.now k) }
 {
     let task = Task::new(rows, query, k, &tree.settings.layout);
-    one_worker_answer(alloc, &task, &tree.index, queues)
+    one_worker_answer(alloc, &task, &tree.index)
 }
 
-/// The whole outcome of the search for the nearest series to a query as long as they, over sealed runs: by a team that waits for
-/// nobody, or by one worker, which starts no thread.
+/// The whole outcome of the search for the series nearest to a query of their length, over sealed runs: by a team that never waits, or
+/// by one worker, which starts no thread.
 pub fn sealed<T: Threads + Sync, R: Rows + Sync, G: Gate + Sync>(
     crew: &Crew<'_, T, G>,
     rows: &R,
@@ -131,7 +133,7 @@ pub fn locked<T: Threads + Wait + Sync, R: Rows + Sync, G: Gate + Sync>(
     )
 }
 
-/// All series within a radius of a query as long as they, by `workers` workers.
+/// All series within a radius of a query of their length, by `workers` workers.
 pub fn near<T: Threads + Sync, R: Rows + Sync, G: Gate + Sync>(
     crew: &Crew<'_, T, G>,
     rows: &R,
@@ -142,7 +144,7 @@ pub fn near<T: Threads + Sync, R: Rows + Sync, G: Gate + Sync>(
 ) -> Result<PairList, NoMemory>
     requires tree { IsTreeFor (R.collection rows.now) tree.now }
     requires length { length query.now ≡ (R.collection rows.now).points }
-    requires workers { (1 ≤ workers) × (workers ≤ 64) }
+    requires workers { (1 ≤ workers) × (workers ≤ MOST_WORKERS) }
     ensures { IfOk result (λ pairs. pairs ≡ within (R.collection rows.now) query.now radius) }
 {
     let items = within(

@@ -1,7 +1,8 @@
 //! The whole program but its outside: words, files, the search, the text and the status that it ends with.
-//! One module a stage; each stage has one contract, and `run` puts them in order.
+//! One module a stage. No two modules call each other.
 #![tactic(auto)]
 
+mod answers;
 mod batch;
 mod commands;
 mod crew;
@@ -11,16 +12,16 @@ mod input;
 mod laws;
 mod layout;
 mod output;
+mod row;
+mod running;
 mod serving;
-mod stages;
 mod status;
+mod stop;
 mod tree;
+mod tuning;
 
 pub use command_words::{Command, Options, Text, WordsError, parse_words};
 pub use laws::{certificate_law, convert_law};
 pub use random_walks::walks;
-pub use stages::{run, run_free};
+pub use running::{run, run_free};
 pub use status::{CertFault, Status, Which};
-
-#[cfg(test)]
-mod tests;

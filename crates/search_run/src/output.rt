@@ -1,10 +1,8 @@
-//! What commands write: texts piece by piece, and the line that tells how a run ended.
+//! What commands write: texts piece by piece, and the line that tells how a run ended. Nothing here searches.
 
-pub mod answers;
 pub mod converted;
 pub mod discords;
 pub mod pieces;
-pub mod stop;
 pub mod summary;
 pub mod tell;
 pub mod text;

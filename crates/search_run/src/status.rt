@@ -1,6 +1,6 @@
 //! How a run ends: one status, with the values that show its cause.
 
-use crate::output::stop::Stop;
+use crate::stop::Stop;
 use certificate::Reject;
 use outside::{Failed, NoMemory};
 use saved_index::IndexFault;
@@ -22,11 +22,11 @@ pub enum Which {
 /// Why a certificate does not hold.
 #[derive(Clone, Copy, Debug, PartialEq, Eq)]
 pub enum CertFault {
-    /// The lines up to this one, counted from 1, begin no certificate; one past the last where a block is not finished.
+    /// The first line, counted from 1, with which the lines begin no certificate; it is one past the last where a block is not finished.
     Line(u64),
     /// It is longer than a certificate may be.
     TooLong,
-    /// The first test of what it says that fails.
+    /// The first test that fails, of what the certificate says.
     Rejected(Reject),
 }
 
@@ -41,9 +41,9 @@ pub enum Status {
     Missing(Which),
     /// The file could not be opened or read.
     ReadFault(Which),
-    /// The file is no series file: its first failing test.
+    /// The file is no series file: the first test that it fails.
     Format(Which, FileError),
-    /// The series of the two files have different lengths: of the collection, of the queries.
+    /// The series of the two files have different lengths: that of the collection, that of the queries.
     Mismatch(u32, u32),
     /// More segments were asked for than a series has values: the segments, the length.
     Settings(u32, u32),
@@ -53,7 +53,7 @@ pub enum Status {
     Memory,
     /// The certificate does not hold.
     Invalid(CertFault),
-    /// The saved index does not fit the series: the first of its faults over them.
+    /// The saved index does not fit the series: the first fault that it has over them.
     Index(IndexFault),
 }
 

@@ -31,10 +31,3 @@ pub use means::finer_length;
 pub use node::Node;
 pub use phases::build;
 pub use settings::Settings;
-
-#[cfg(test)]
-mod assembly_tests;
-#[cfg(test)]
-mod drawn;
-#[cfg(test)]
-mod tests;

@@ -1,7 +1,7 @@
 //! One search turn by turn: the stage, the list and the end of its worker after each turn, as worked by hand.
-use crate::Task;
 use crate::stage::Stage;
 use crate::team::Team;
+use crate::{Search, Task};
 use plain_search::two_points;
 use series_core::{Entry, Pair};
 use std::test::*;
@@ -27,7 +27,7 @@ fn eleven_turns_of_one_worker(rt: HostRuntime) -> Result<(), Fail> {
     let alloc = rt.alloc();
     let (rows, settings, index) = two_points(&rt, alloc, 1)?;
     let task = Task::new(&rows, &[0], 1, &settings.layout);
-    let mut team = Team::open(alloc, &task, &index, 1, 1)?;
+    let mut team = Team::open(alloc, Search::new(&task, &index), 1, 1)?;
     for (turn, (stage, nearest)) in STAGES.iter().enumerate() {
         for worker in &team.workers {
             assert_eq!(rt; worker.stage, *stage, "after {turn} turns");

@@ -7,13 +7,13 @@ ghost use Rattle.command_words.specs.Limits.{OptionsKeepLimits};
 ghost use Rattle.discord_query.specs.Discords.{discords};
 ghost use Rattle.search_run.specs.Commands.{file_plan, file_rest};
 ghost use Rattle.search_run.specs.DiscordLines.{discord_lines};
-ghost use Rattle.search_run.specs.Ends.{Follows, ended};
 ghost use Rattle.search_run.specs.Finding.{IsTreeFor};
 ghost use Rattle.search_run.specs.Indexes.{IsTreeText};
 ghost use Rattle.search_run.specs.Layouts.{settings_of};
 ghost use Rattle.search_run.specs.Pairs.{HasLabels};
 ghost use Rattle.search_run.specs.Plans.{HasSegments, Refuses, Writes};
-ghost use Rattle.search_run.specs.Traffic.{Reading, read_from, wrote_to};
+ghost use Rattle.search_run.specs.Serves.{Serves};
+ghost use Rattle.search_run.specs.Traffic.{Reading};
 ghost use Rattle.search_run.specs.declared.status.Status.{Status};
 ghost use Rattle.search_run.specs.declared.status.Which.{Which};
 
@@ -54,11 +54,7 @@ impl FileText {
         out: &mut S,
     ) -> Result<(), Status>
         requires { OptionsKeepLimits options.now }
-        ensures answers { Follows (file_plan self series.now options.now)
-            (read_from F.held F.faults F.misses F.blamed files.old files.new)
-            (wrote_to S.written S.faults S.sure out.old out.new) (ended result) }
-        ensures kept { F.held files.new ≡ F.held files.old }
-        ensures reliable { F.reliable files.old → (w : Which) → result ≢ Err (Status.ReadFault w) }
+        ensures { Serves F.Files S.Sink (file_plan self series.now options.now) files.old files.new out.old out.new result }
     {
         let form = form_of(options.raw);
         let loaded = load(crew.alloc, files, series.text.as_str(), Which::Series, form)?;

@@ -46,8 +46,8 @@ pub fn answer_search<
     requires callable { (base : _) (i : ℕ) (q : _) → IsGround search.now.options.now base.now
         → length q.now ≡ base.now.series.rows.points → P.pre piece_of.now base i q }
     ensures answers { EndsMaking (P.post piece_of.now)
-        (read_from F.held F.faults F.misses F.blamed files.old files.new)
-        (wrote_to S.written S.faults S.sure out.old out.new)
+        (read_from F.Files files.old files.new)
+        (wrote_to S.Sink out.old out.new)
         search.now.series.now search.now.queries.now search.now.options.now (ended result) }
     ensures kept { F.held files.new ≡ F.held files.old }
     ensures reliable { F.reliable files.old → (w : Which) → result ≢ Err (Status.ReadFault w) }

@@ -1,14 +1,15 @@
 //! The command `trial`: a search over random walks that are all made from one number, and the lines that sum it up.
 //! Series and queries are drawn from one stream, the series first.
 
-ghost use Rattle.std.specs.Prelude.{◌≢◌, ◌≡◌, IfOk};
+ghost use Rattle.std.specs.Prelude.{◌≢◌, ◌≡◌, ◌≤◌, IfOk, length};
 ghost use Rattle.command_words.specs.Limits.{OptionsKeepLimits};
+ghost use Rattle.command_words.specs.declared.limits.TheConstants.{MOST_QUERIES};
 ghost use Rattle.search_run.specs.Traffic.{Reading, wrote_to};
 ghost use Rattle.search_run.specs.Commands.{trial_plan};
-ghost use Rattle.search_run.specs.Batches.{IsTeam};
+ghost use Rattle.search_run.specs.Batches.{IsBatch, IsTeam};
 ghost use Rattle.search_run.specs.Ends.{Follows, ended};
 ghost use Rattle.search_run.specs.Plans.{HasSegments};
-ghost use Rattle.search_run.specs.Trials.{KeepsTrialLimits, trial_text};
+ghost use Rattle.search_run.specs.Trials.{KeepsTrialLimits, answers_of, summed, trial_text};
 ghost use Rattle.search_run.specs.declared.status.Status.{Status};
 ghost use Rattle.search_run.specs.declared.status.Which.{Which};
 
@@ -16,14 +17,14 @@ use crate::batch::Batch;
 use crate::crew::Crew;
 use crate::finding::{Asking, asking_of};
 use crate::input::lengths::check_segments;
-use crate::output::summary::{summary_of, summary_text};
+use crate::output::summary::{Summary, summary_text};
 use crate::status::{Status, Which};
 use crate::tree::{Tree, tree_of};
 use command_words::Options;
 use outside::{Gate, NoMemory, Sink, write_whole};
 use query_core::Outcome;
 use random_walks::{generator, walks};
-use series_core::Flat;
+use series_core::{Flat, Rows};
 use std::thread::Threads;
 
 /// What `trial` is asked for: `queries` walks among `count` walks of `length` values each, all from one seed.
@@ -61,7 +62,7 @@ pub fn answer_trial<
     requires options { OptionsKeepLimits options.now }
     requires team { IsTeam (λ rows. rows) (P.pre team.now) (P.post team.now) }
     ensures answers { (reading : Reading) → Follows (trial_plan seed count length queries options.now) reading
-        (wrote_to S.written S.faults S.sure out.old out.new) (ended result) }
+        (wrote_to S.Sink out.old out.new) (ended result) }
     ensures reads_nothing { (w : Which) → result ≢ Err (Status.ReadFault w) }
 {
     check_segments(options.segments, length)?;
@@ -109,4 +110,26 @@ fn text_of<
         trial.options.k,
         &summary,
     )
+}
+
+// The summary of the answers to the queries of a trial.
+fn summary_of<
+    T: Threads + Sync,
+    R: Rows + Sync,
+    G,
+    P: Fn(&R, &Tree, &[i16], Asking) -> Result<Outcome, NoMemory>,
+>(crew: &Crew<'_, T, G>, team: &P, batch: &Batch<'_, R>) -> Result<Summary, NoMemory>
+    requires batch { IsBatch R.collection batch.now }
+    requires team { IsTeam R.collection (P.pre team.now) (P.post team.now) }
+    requires few { length batch.now.queries.now.series ≤ MOST_QUERIES }
+    ensures { IfOk result (λ summary. summary
+        ≡ summed (answers_of (R.collection batch.now.rows.now) batch.now.asking.k batch.now.queries.now.series)) }
+{
+    let mut summary = Summary::NONE;
+    let mut ahead = Vec::new(crew.alloc);
+    for i in 0..batch.queries.count() {
+        let pairs = batch.answer(crew, team, i, &mut ahead)?;
+        summary.add(&pairs.items);
+    }
+    Ok(summary)
 }

@@ -1,30 +1,29 @@
 //! The command `windows`: for each query the nearest windows of one long series, chosen so that they lie apart.
 //! The windows are lent, not copied. So many of the nearest are sought that the choice from them is that from all.
 
-ghost use Rattle.std.specs.Prelude.{◌≡◌, ◌≢◌, ◌<◌, ◌≤◌, List, ℕ, length, None, IfOk, IfErr, OnOk};
+ghost use Rattle.std.specs.Prelude.{◌≡◌, ◌≢◌, ◌<◌, ◌≤◌, List, ℕ, length, None, IfOk, IfErr};
 ghost use Rattle.command_words.specs.Limits.{IsWithin, OptionsKeepLimits};
 ghost use Rattle.command_words.specs.Options.{windows_needed};
 ghost use Rattle.series_core.specs.declared.best.TheConstants.{MAX_BEST};
 ghost use Rattle.series_file.specs.Stages.{IsForm};
 ghost use Rattle.search_run.specs.Batches.{IsTeam};
-ghost use Rattle.search_run.specs.Ends.{Follows, ended};
 ghost use Rattle.search_run.specs.Loads.{form_of};
 ghost use Rattle.search_run.specs.Plans.{Refuses};
-ghost use Rattle.search_run.specs.Traffic.{read_from, wrote_to};
+ghost use Rattle.search_run.specs.Serves.{Serves, plan_by};
+ghost use Rattle.search_run.specs.Traffic.{read_from};
 ghost use Rattle.search_run.specs.Windows.{FitLong, HasFew, long_plan, nothing_behind, windows_plan};
 ghost use Rattle.search_run.specs.declared.status.Status.{Status};
 ghost use Rattle.search_run.specs.declared.status.Which.{Which};
 
+use crate::answers::{Telling, write_answers};
 use crate::batch::Batch;
 use crate::crew::Crew;
 use crate::finding::{Asking, asking_of};
 use crate::input::file::{form_of, load};
 use crate::input::lengths::check_segments;
 use crate::input::pair::{Both, Search};
-use crate::output::answers::{Telling, write_answers};
 use crate::status::{Status, Which};
 use crate::tree::{Tree, tree_of};
-use command_words::{Options, Text};
 use outside::{Files, Gate, NoMemory, Sink};
 use query_core::Outcome;
 use series_core::Rows;
@@ -44,29 +43,20 @@ pub fn answer_windows<
 >(
     crew: &Crew<'_, T, G>,
     team: &P,
-    series: &Text,
-    queries: &Text,
+    search: &Search<'_>,
     step: u32,
-    options: &Options,
     files: &mut F,
     out: &mut S,
 ) -> Result<(), Status>
-    requires limits { OptionsKeepLimits options.now }
+    requires limits { OptionsKeepLimits search.now.options.now }
     requires team { IsTeam (λ windows. windows) (P.pre team.now) (P.post team.now) }
     requires step { 1 ≤ step }
-    requires needed { windows_needed options.now ≤ MAX_BEST }
-    ensures answers { Follows (windows_plan series.now queries.now step options.now)
-        (read_from F.held F.faults F.misses F.blamed files.old files.new)
-        (wrote_to S.written S.faults S.sure out.old out.new) (ended result) }
-    ensures kept { F.held files.new ≡ F.held files.old }
-    ensures reliable { F.reliable files.old → (w : Which) → result ≢ Err (Status.ReadFault w) }
+    requires needed { windows_needed search.now.options.now ≤ MAX_BEST }
+    ensures { Serves F.Files S.Sink (plan_by (λ series queries o. windows_plan series queries step o) search.now)
+        files.old files.new out.old out.new result }
 {
-    let search = Search {
-        series,
-        queries,
-        options,
-    };
-    let both = read_long(crew.alloc, files, &search)?;
+    let options = search.options;
+    let both = read_long(crew.alloc, files, search)?;
     let windows = Windows::new(both.series.rows.values(), both.queries.rows.length(), step);
     let tree = tree_of(crew, &windows, options)?;
     let batch = Batch {
@@ -90,7 +80,7 @@ fn read_long<F: Files>(alloc: Global, files: &mut F, search: &Search<'_>) -> Res
     ensures found { IfOk result (λ both. FitLong (F.held files.old) search.now.series.now search.now.queries.now
         search.now.options.now both.series both.queries) }
     ensures few { IfOk result (λ both. HasFew both.series) }
-    ensures refused { IfErr result (Refuses (read_from F.held F.faults F.misses F.blamed files.old files.new)
+    ensures refused { IfErr result (Refuses (read_from F.Files files.old files.new)
         (long_plan search.now.series.now search.now.queries.now search.now.options.now nothing_behind)) }
     ensures kept { F.held files.new ≡ F.held files.old }
     ensures reliable { F.reliable files.old → (w : Which) → result ≢ Err (Status.ReadFault w) }

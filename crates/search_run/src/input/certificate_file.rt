@@ -21,7 +21,7 @@ use series_core::{LabelList, Rows};
 use std::alloc::Global;
 
 /// The most bytes that a certificate may have.
-const LONGEST: u64 = 1073741824;
+pub const MOST_BYTES: u64 = 1073741824;
 
 /// Reads the certificate of this name, and checks it against both files.
 pub fn check_certificate<F: Files>(
@@ -37,7 +37,7 @@ pub fn check_certificate<F: Files>(
         (IsValid (subject_of both.now.series both.now.queries options.now))) }
     ensures refused { IfErr result (RefusesCertificate
         (IsFault (subject_of both.now.series both.now.queries options.now))
-        (read_from F.held F.faults F.misses F.blamed files.old files.new) name.now) }
+        (read_from F.Files files.old files.new) name.now) }
     ensures kept { F.held files.new ≡ F.held files.old }
     ensures reliable { F.reliable files.old → (w : Which) → result ≢ Err (Status.ReadFault w) }
 {
@@ -50,12 +50,12 @@ fn read_bytes<F: Files>(alloc: Global, files: &mut F, name: &str) -> Result<Vec<
     ensures short { IfOk result (λ bytes. length bytes.items ≤ most_bytes) }
     ensures held { IfOk result (λ bytes. HoldsBytes (F.held files.old) name.now (λ held. bytes.items ≡ held)) }
     ensures refused { IfErr result (RefusesCertificate IsLong
-        (read_from F.held F.faults F.misses F.blamed files.old files.new) name.now) }
+        (read_from F.Files files.old files.new) name.now) }
     ensures kept { F.held files.new ≡ F.held files.old }
     ensures reliable { F.reliable files.old → (w : Which) → result ≢ Err (Status.ReadFault w) }
 {
     open(files, name, Which::Certificate)?;
-    match read_all(alloc, files, LONGEST) {
+    match read_all(alloc, files, MOST_BYTES) {
         Ok(bytes) => Ok(bytes),
         Err(AllError::Longer) => Err(Status::Invalid(CertFault::TooLong)),
         Err(AllError::ReadFault) => Err(Status::ReadFault(Which::Certificate)),

@@ -17,7 +17,7 @@ use std::alloc::Global;
 pub fn open<F: Files>(files: &mut F, name: &str, which: Which) -> Result<(), Status>
     ensures opened { OnOk result (Opens (F.held files.old) name.now (F.at files.new) (F.left files.new)) }
     ensures refused { IfErr result (RefusesNamed which (λ _. ⊥)
-        (read_from F.held F.faults F.misses F.blamed files.old files.new) name.now) }
+        (read_from F.Files files.old files.new) name.now) }
     ensures kept { F.held files.new ≡ F.held files.old }
     ensures counts { (F.faults files.old ≤ F.faults files.new) × (F.misses files.old ≤ F.misses files.new) }
     ensures reliable { F.reliable files.old → ((w : Which) → result ≢ Err (Status.ReadFault w)) × F.reliable files.new }
@@ -41,7 +41,7 @@ pub fn load<F: Files>(
     requires { IsForm form }
     ensures found { IfOk result (HoldsFile (F.held files.old) name.now form) }
     ensures refused { IfErr result (RefusesFile which
-        (read_from F.held F.faults F.misses F.blamed files.old files.new) name.now form) }
+        (read_from F.Files files.old files.new) name.now form) }
     ensures kept { F.held files.new ≡ F.held files.old }
     ensures counts { (F.faults files.old ≤ F.faults files.new) × (F.misses files.old ≤ F.misses files.new) }
     ensures reliable { F.reliable files.old → ((w : Which) → result ≢ Err (Status.ReadFault w)) × F.reliable files.new }

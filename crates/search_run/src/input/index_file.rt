@@ -1,4 +1,4 @@
-//! The saved index of a name, loaded over the series that are searched. Its bytes are believed in nothing.
+//! The saved index of a name, loaded over the series that are searched. Nothing in its bytes is believed before it is tested.
 
 ghost use Rattle.std.specs.Prelude.{◌≡◌, ◌≢◌, ◌≤◌, IfOk, IfErr};
 ghost use Rattle.search_run.specs.Finding.{IsTreeFor};
@@ -29,7 +29,7 @@ pub fn load_index<T: Threads + Sync, F: Files, G: Gate + Sync>(
     ensures fits { IfOk result (IsTreeFor rows.now) }
     ensures held { IfOk result (λ _. HoldsBytes (F.held files.old) name.now (IsFitIndex rows.now)) }
     ensures refused { IfErr result (RefusesIndex rows.now
-        (read_from F.held F.faults F.misses F.blamed files.old files.new) name.now) }
+        (read_from F.Files files.old files.new) name.now) }
     ensures kept { F.held files.new ≡ F.held files.old }
     ensures reliable { F.reliable files.old → (w : Which) → result ≢ Err (Status.ReadFault w) }
 {

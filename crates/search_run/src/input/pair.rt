@@ -4,7 +4,7 @@ ghost use Rattle.std.specs.Prelude.{◌≡◌, ◌≢◌, ◌≤◌, IfOk, IfErr
 ghost use Rattle.series_file.specs.Stages.{IsForm};
 ghost use Rattle.search_run.specs.Traffic.{read_from};
 ghost use Rattle.search_run.specs.Loads.{form_of};
-ghost use Rattle.search_run.specs.Pairs.{Alike, Fit, HoldBoth, files_plan, lengths_plan, loads_plan};
+ghost use Rattle.search_run.specs.Pairs.{Alike, Fit, files_plan, lengths_plan};
 ghost use Rattle.search_run.specs.Plans.{Refuses};
 ghost use Rattle.search_run.specs.declared.status.Status.{Status};
 ghost use Rattle.search_run.specs.declared.status.Which.{Which};
@@ -48,7 +48,7 @@ pub fn read_both<F: Files>(
     requires { IsForm (form_of search.now.options.now.raw) }
     ensures found { IfOk result (λ both. Fit (F.held files.old) search.now.series.now search.now.queries.now
         search.now.options.now both.series both.queries) }
-    ensures refused { IfErr result (Refuses (read_from F.held F.faults F.misses F.blamed files.old files.new)
+    ensures refused { IfErr result (Refuses (read_from F.Files files.old files.new)
         (files_plan search.now.series.now search.now.queries.now search.now.options.now)) }
     ensures kept { F.held files.new ≡ F.held files.old }
     ensures counts { (F.faults files.old ≤ F.faults files.new) × (F.misses files.old ≤ F.misses files.new) }
@@ -68,33 +68,17 @@ pub fn read_alike<F: Files>(
     requires { IsForm (form_of search.now.options.now.raw) }
     ensures found { IfOk result (λ both. Alike (F.held files.old) search.now.series.now search.now.queries.now
         search.now.options.now both.series both.queries) }
-    ensures refused { IfErr result (Refuses (read_from F.held F.faults F.misses F.blamed files.old files.new)
+    ensures refused { IfErr result (Refuses (read_from F.Files files.old files.new)
         (lengths_plan search.now.series.now search.now.queries.now search.now.options.now)) }
     ensures kept { F.held files.new ≡ F.held files.old }
     ensures counts { (F.faults files.old ≤ F.faults files.new) × (F.misses files.old ≤ F.misses files.new) }
     ensures reliable { F.reliable files.old → ((w : Which) → result ≢ Err (Status.ReadFault w)) × F.reliable files.new }
 {
-    let both = load_both(alloc, files, search)?;
-    check_lengths(both.series.rows.length(), both.queries.rows.length())?;
-    Ok(both)
-}
-
-// Reads the file of the series and then that of the queries.
-fn load_both<F: Files>(alloc: Global, files: &mut F, search: &Search<'_>) -> Result<Both, Status>
-    requires { IsForm (form_of search.now.options.now.raw) }
-    ensures found { IfOk result (λ both. HoldBoth (F.held files.old) search.now.series.now search.now.queries.now
-        search.now.options.now both.series both.queries) }
-    ensures refused { IfErr result (Refuses (read_from F.held F.faults F.misses F.blamed files.old files.new)
-        (loads_plan search.now.series.now search.now.queries.now search.now.options.now)) }
-    ensures kept { F.held files.new ≡ F.held files.old }
-    ensures counts { (F.faults files.old ≤ F.faults files.new) × (F.misses files.old ≤ F.misses files.new) }
-    ensures reliable { F.reliable files.old → ((w : Which) → result ≢ Err (Status.ReadFault w)) × F.reliable files.new }
-{
-    let options = search.options;
-    let form = form_of(options.raw);
+    let form = form_of(search.options.raw);
     let name = search.series;
     let series = load(alloc, files, name.text.as_str(), Which::Series, form)?;
     let name = search.queries;
     let queries = load(alloc, files, name.text.as_str(), Which::Queries, form)?;
+    check_lengths(series.rows.length(), queries.rows.length())?;
     Ok(Both { series, queries })
 }

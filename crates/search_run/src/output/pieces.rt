@@ -1,13 +1,14 @@
 //! The pieces of a text, one a query, one after another: each is made whole and then written.
 //! A piece is written only once all of it stands in memory, so what is written is a prefix of the pieces made.
 
-ghost use Rattle.std.specs.Prelude.{◌≡◌, ℕ, ◌<◌, ◌≤◌, List, length, [], get_or, OnOk, IfErr};
+ghost use Rattle.std.specs.Prelude.{◌≡◌, ℕ, ◌<◌, ◌≤◌, List, length, OnOk, IfErr};
 ghost use Rattle.std.specs.Io.KnownBytes.{append_known};
 ghost use Rattle.search_run.specs.Stops.{Stops};
 ghost use Rattle.search_run.specs.Texts.{IsMade, IsTextOf};
 ghost use Rattle.search_run.specs.Traffic.{wrote_to};
 
-use crate::output::stop::Stop;
+use crate::row::row_of;
+use crate::stop::Stop;
 use outside::{NoMemory, Sink, write_whole};
 use series_core::Rows;
 
@@ -24,7 +25,7 @@ pub fn write_pieces<C, Q: Rows, S: Sink, P: Fn(&C, u32, &[i16]) -> Result<Vec<u8
         × IsTextOf (IsMade (P.post piece_of.now) context.now) (Q.collection queries.now).series text
         × (S.written out.new ≡ append_known (S.written out.old) text)) }
     ensures stops { IfErr result (Stops (IsMade (P.post piece_of.now) context.now) (Q.collection queries.now).series
-        (wrote_to S.written S.faults S.sure out.old out.new)) }
+        (wrote_to S.Sink out.old out.new)) }
     ensures counts { S.faults out.old ≤ S.faults out.new }
 {
     for i in 0..queries.count() {
@@ -32,15 +33,4 @@ pub fn write_pieces<C, Q: Rows, S: Sink, P: Fn(&C, u32, &[i16]) -> Result<Vec<u8
         write_whole(out, &text)?;
     }
     Ok(())
-}
-
-/// Series i, which is as long as the collection says.
-pub fn row_of<R: Rows>(rows: &R, i: u32) -> &[i16]
-    requires below { i < length (R.collection rows.now).series }
-    ensures row { result.now ≡ get_or (R.collection rows.now).series i [] }
-    ensures length { length result.now ≡ (R.collection rows.now).points }
-    ensures limit { length result.now ≤ 65536 }
-{
-    let _ = rows.length();
-    rows.row(i)
 }

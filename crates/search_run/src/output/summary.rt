@@ -3,19 +3,12 @@
 ghost use Rattle.std.specs.Prelude.{◌≡◌, ◌+◌, ◌*◌, ◌^◌, ◌≤◌, ◌++◌, length, IfOk, OnOk};
 ghost use Rattle.list_totals.specs.Totals.{total};
 ghost use Rattle.series_core.specs.declared.best.TheConstants.{MAX_BEST};
-ghost use Rattle.search_run.specs.Batches.{IsBatch, IsTeam};
-ghost use Rattle.search_run.specs.Trials.{answers_of, counted, summary_lines, summed};
+ghost use Rattle.search_run.specs.Trials.{counted, summary_lines};
 
-use crate::batch::Batch;
-use crate::crew::Crew;
-use crate::finding::Asking;
-use crate::tree::Tree;
 use itoa::Buffer;
 use outside::NoMemory;
-use query_core::Outcome;
-use series_core::{Pair, Rows};
+use series_core::Pair;
 use std::alloc::Global;
-use std::thread::Threads;
 
 /// How many answers there are, and the sums of their distances and of their numbers.
 #[derive(Clone, Copy, Debug, PartialEq, Eq)]
@@ -29,15 +22,15 @@ pub struct Summary {
 }
 
 impl Summary {
-    // The answers to no query.
-    const NONE: Summary = Summary {
+    /// The answers to no query.
+    pub const NONE: Summary = Summary {
         answers: 0,
         distances: 0,
         numbers: 0,
     };
 
-    // Adds the answers to one query.
-    fn add(&mut self, pairs: &[Pair])
+    /// Adds the answers to one query.
+    pub fn add(&mut self, pairs: &[Pair])
         requires short { length pairs.now ≤ MAX_BEST }
         requires answers { self.old.answers ≤ 2 ^ 20 }
         requires distances { self.old.distances ≤ 2 ^ 84 }
@@ -55,28 +48,6 @@ impl Summary {
             self.numbers += u128::from(pair.number);
         }
     }
-}
-
-/// The summary of the answers to at most 1000 queries.
-pub fn summary_of<
-    T: Threads + Sync,
-    R: Rows + Sync,
-    G,
-    P: Fn(&R, &Tree, &[i16], Asking) -> Result<Outcome, NoMemory>,
->(crew: &Crew<'_, T, G>, team: &P, batch: &Batch<'_, R>) -> Result<Summary, NoMemory>
-    requires batch { IsBatch R.collection batch.now }
-    requires team { IsTeam R.collection (P.pre team.now) (P.post team.now) }
-    requires few { length batch.now.queries.now.series ≤ 1000 }
-    ensures { IfOk result (λ summary. summary
-        ≡ summed (answers_of (R.collection batch.now.rows.now) batch.now.asking.k batch.now.queries.now.series)) }
-{
-    let mut summary = Summary::NONE;
-    let mut ahead = Vec::new(crew.alloc);
-    for i in 0..batch.queries.count() {
-        let pairs = batch.answer(crew, team, i, &mut ahead)?;
-        summary.add(&pairs.items);
-    }
-    Ok(summary)
 }
 
 /// The four lines.

@@ -1,7 +1,7 @@
 -- Behind the answer lines stand the lines that certify them.
 use Rattle.std.proofs.Common.{◌++◌, ℕ, List, ap, subst, ◌∙◌}
 use Rattle.search_machine.specs.Legal.{Legal}
-use Rattle.query_core.specs.Questions.{IsQuestion, Question, search_over}
+use Rattle.search_task.specs.Questions.{IsQuestion, Question, search_over}
 use Rattle.examples.proofs.certified.written.Goals as goal
 
 pub returns : goal.returns

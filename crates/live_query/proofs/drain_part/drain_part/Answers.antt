@@ -1,7 +1,7 @@
 -- What the searchers are before the drain part, and what the closed runs say after it.
 use Rattle.std.proofs.Common.{◌≡◌, All, List, arith, length, refl, subst, sym}
 use Rattle.sealed_runs.specs.Entries.{run_at}
-use Rattle.query_core.specs.Questions.{view_in}
+use Rattle.search_task.specs.Questions.{view_in}
 use Rattle.live_query.specs.Marked.{IsRunOf}
 use Rattle.live_query.specs.Parts.{Resting, marks_of}
 use Rattle.live_query.proofs.DrainGather.{Outset, Turned, all_busy, all_drain, all_draining, all_over, all_runs, all_word}
@@ -13,10 +13,10 @@ use Rattle.live_query.proofs.drain_part.drain_part.Goals.{After-from-roots, Afte
 
 -- the searchers have filled, and there is a run for each queue
 outset : (g : given.Over) (c : After-from-roots g)
-    → Outset c.args.search.now.task.now c.args.search.now.index.now c.args.search.now.queues c.args.word.now c.args.team.items
+    → Outset c.args.plan.now.search.question c.args.plan.now.search.index c.args.plan.now.queues c.args.word.now c.args.team.items
     c.in_ok-runs.runs.runs c.from-roots.result
 outset g c = record {
-  searches = c.requires.searches;
+  searches = c.root_count.ensures.searched;
   some = omega (arith, c.requires.queues.0);
   filled = c.requires.filled;
   count = c.in_ok-runs.ensures.count;
@@ -25,9 +25,9 @@ outset g c = record {
 
 pub seal_marked-requires-clause-over : goal.seal_marked-requires-clause-over
 seal_marked-requires-clause-over g c =
-    let a = c.args.search.now in
-    subst (All (λ (s : Resting). (s.worker.question ≡ a.task.now) × (s.worker.index ≡ a.index.now))) (sym c.deref.ensures.value)
-    (filled_over a.task.now a.index.now a.queues c.args.word.now c.args.team.items c.requires.filled)
+    let a = c.args.plan.now in
+    subst (All (λ (s : Resting). (s.worker.question ≡ a.search.question) × (s.worker.index ≡ a.search.index))) (sym c.deref.ensures.value)
+    (filled_over a.search.question a.search.index a.queues c.args.word.now c.args.team.items c.requires.filled)
 
 pub equip-requires-clause-word : goal.equip-requires-clause-word
 equip-requires-clause-word g c = all_word (outset g (goal.at.equip-requires-clause-word g c).After-from-roots)
@@ -73,8 +73,8 @@ returns-clause-ends g c =
     let at = goal.at.returns-clause-ends g c in
     ends_right (outset g at.After-from-roots) (turned g at.After-drain_together)
     (length c.args.team.items) (omega (arith, c.requires.team.0)) refl c.requires.word c.drain_together.ensures.done
-    (λ j low. subst (λ (t : List Resting). IsRunOf (view_in c.args.search.now.task.now) c.args.search.now.index.now
-    (marks_of t) c.args.search.now.queues j (run_at c.in_ok-runs.runs.runs j).entries) c.deref.ensures.value
+    (λ j low. subst (λ (t : List Resting). IsRunOf (view_in c.args.plan.now.search.question) c.args.plan.now.search.index
+    (marks_of t) c.args.plan.now.queues j (run_at c.in_ok-runs.runs.runs j).entries) c.deref.ensures.value
     (c.in_ok-runs.ensures.runs j low)) c.in_ok-workers.passes.items c.in_ok-workers.ensures.passes
     (c.in_ok-workers.ensures.own c.in_ok-runs.runs.runs (all_runs (outset g at.After-from-roots) (turned g at.After-drain_together)))
     c.close.result c.close.ensures c.in_ok-workers.workers.items c.in_ok-lines.lines c.in_ok-workers.ensures.workers

@@ -27,19 +27,19 @@ loop-searcher-preserved g c =
       drawn = h.drawn;
       best = b;
       floor = h.floor;
-      queues = c.args.search.now.queues;
+      queues = c.args.plan.now.queues;
       marks = marks;
     } in
     record {
       whole = cut_later done c.in-Some.ensures.steps.0 was.whole;
       len = omega (arith, c.push_reserved.ensures.len, was.len, length-append done (searcher ∷ []));
       room = omega (arith, c.push_reserved.ensures.capacity, was.room);
-      ready = map_more (filling c.args.claims.now c.args.search.now.queues (length c.args.search.now.index.now.leaves)) done searcher
+      ready = map_more (filling c.args.claims.now c.args.plan.now.queues (length c.args.plan.now.search.index.leaves)) done searcher
           c.take.result c.loop-searcher.ready.items c.push_reserved.new.self.items c.push_reserved.ensures.items was.ready
           (hand_taken searcher c.let_go-hand.ensures.rest c.take.ensures
           (c.new.ensures
           ∙ ap (λ (h : Held). over c.args.word.now h c.in_ok-marks.marks.items) (c.hand.view_is ∙ c.let_go-hand.ensures.hand)
           ∙ ap (over c.args.word.now searcher.hand)
           (c.in_ok-marks.ensures ∙ ap (λ (n : ℕ). replicate n false) c.leaf_count-leaves.ensures.count)
-          ∙ ap (λ (b : Best). over b searcher.hand (replicate (length c.args.search.now.index.now.leaves) false)) (sym word)));
+          ∙ ap (λ (b : Best). over b searcher.hand (replicate (length c.args.plan.now.search.index.leaves) false)) (sym word)));
     }

@@ -9,5 +9,5 @@ invariant-loop-searcher g l = record {
   whole : l.yielded ++ into_iter_items l.searcher-iterator ≡ l.fn.team.items;
   len : vec_len l.ready ≡ length l.yielded;
   room : length l.fn.team.items ≤ vec_capacity l.ready;
-  ready : l.ready.items ≡ map (filling l.claims l.search.queues (length l.search.index.now.leaves)) l.yielded;
+  ready : l.ready.items ≡ map (filling l.claims l.plan.queues (length l.plan.search.index.leaves)) l.yielded;
 }

@@ -6,27 +6,27 @@ use Rattle.live_query.proofs.fill_part.fill_part.Goals as goal
 
 pub equip-requires : goal.equip-requires
 equip-requires g c =
-    let a = c.args.search.now.task.now in
-    let ix = c.args.search.now.index.now in
-    let some : 0 < c.args.search.now.queues = omega (arith, c.requires.queues.0) in
+    let a = c.args.plan.now.search.question in
+    let ix = c.args.plan.now.search.index in
+    let some : 0 < c.args.plan.now.queues = omega (arith, c.requires.queues.0) in
     record {
-      word = all_word a ix c.args.search.now.queues c.args.claims c.args.word.now some c.args.team.items c.requires.opens;
-      own = all_own a ix c.args.search.now.queues c.args.claims c.args.word.now some c.args.team.items c.requires.opens;
+      word = all_word a ix c.args.plan.now.queues c.args.claims c.args.word.now some c.args.team.items c.requires.opens;
+      own = all_own a ix c.args.plan.now.queues c.args.claims c.args.word.now some c.args.team.items c.requires.opens;
     }
 
 pub fill_together-requires-clause-serves : goal.fill_together-requires-clause-serves
 fill_together-requires-clause-serves g c κs within =
-    all_serving c.args.search.now.task.now c.args.search.now.index.now c.args.search.now.queues c.args.claims c.args.word.now
+    all_serving c.args.plan.now.search.question c.args.plan.now.search.index c.args.plan.now.queues c.args.claims c.args.word.now
     (omega (arith, c.requires.queues.0)) c.args.team.items c.requires.opens c.in_ok-team.team.items c.in_ok-team.ensures
 
 pub fill_together-requires-clause-knows : goal.fill_together-requires-clause-knows
 fill_together-requires-clause-knows g c κs within =
-    all_knowing c.args.search.now.task.now c.args.search.now.index.now c.args.search.now.queues c.args.claims c.args.word.now
+    all_knowing c.args.plan.now.search.question c.args.plan.now.search.index c.args.plan.now.queues c.args.claims c.args.word.now
     (omega (arith, c.requires.queues.0)) c.args.team.items c.requires.opens c.in_ok-team.team.items c.in_ok-team.ensures
 
 pub close-requires-clause-own : goal.close-requires-clause-own
 close-requires-clause-own g c =
-    own_passes c.args.search.now.task.now c.args.search.now.index.now c.args.search.now.queues c.args.claims c.args.word.now
+    own_passes c.args.plan.now.search.question c.args.plan.now.search.index c.args.plan.now.queues c.args.claims c.args.word.now
     (omega (arith, c.requires.queues.0)) c.args.team.items c.requires.opens
     c.in_ok-team.team.items c.fill_together.new.team.items c.in_ok-team.ensures
     (omega (arith, c.fill_together.ensures.len, c.fill_together.new.team.ok.0, c.in_ok-team.team.ok.0))
@@ -34,7 +34,7 @@ close-requires-clause-own g c =
 
 pub returns-clause-filled : goal.returns-clause-filled
 returns-clause-filled g c =
-    all_filled c.args.search.now.task.now c.args.search.now.index.now c.args.search.now.queues c.args.claims c.args.word.now
+    all_filled c.args.plan.now.search.question c.args.plan.now.search.index c.args.plan.now.queues c.args.claims c.args.word.now
     (omega (arith, c.requires.queues.0)) c.args.team.items c.requires.opens
     c.in_ok-team.team.items c.fill_together.new.team.items c.in_ok-team.ensures
     (omega (arith, c.fill_together.ensures.len, c.fill_together.new.team.ok.0, c.in_ok-team.team.ok.0))

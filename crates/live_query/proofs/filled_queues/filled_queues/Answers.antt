@@ -8,16 +8,16 @@ use Rattle.search_machine.specs.Ground.{Ground}
 use Rattle.search_machine.specs.Machine.{empty_queues}
 use Rattle.search_machine.proofs.Places.{get_some}
 use Rattle.queue_histories.specs.Rooms.{opened_for}
-use Rattle.query_core.specs.Questions.{search_over}
+use Rattle.search_task.specs.Questions.{search_over}
 use Rattle.live_query.specs.FilledQueues.{IsFilledBy}
 use Rattle.live_query.proofs.QueuesFilled.{empty_at, is_filled}
 use Rattle.live_query.proofs.filled_queues.filled_queues.Goals as goal
 
 pub returns-clause-filled : goal.returns-clause-filled
 returns-clause-filled g c j q at =
-    let a = c.args.search.now.task.now in
-    let ix = c.args.search.now.index.now in
-    let m = c.args.search.now.queues in
+    let a = c.args.plan.now.search.question in
+    let ix = c.args.plan.now.search.index in
+    let m = c.args.plan.now.queues in
     let ground : Ground = search_over a ix 1 m in
     let opened : List PlainQueue = c.in_ok-queues.queues.items in
     let empty : opened ≡ empty_queues ground 0 m = c.in_ok-queues.ensures.queues ground refl (sym c.leaf_count.ensures.count) in

@@ -16,10 +16,10 @@ use Rattle.live_query.proofs.locked_part.locked_part.Goals.{After-from-roots, In
 
 -- the searchers have filled, and there is a queue for each number
 queued : (g : given.Over) (c : After-from-roots g)
-    → Queued c.args.search.now.task.now c.args.search.now.index.now c.args.search.now.queues c.args.word.now c.args.team.items
+    → Queued c.args.plan.now.search.question c.args.plan.now.search.index c.args.plan.now.queues c.args.word.now c.args.team.items
     c.in_ok-queues.queues.items c.from-roots.result
 queued g c = record {
-  searches = c.requires.searches;
+  searches = c.root_count.ensures.searched;
   some = omega (arith, c.requires.queues.0);
   filled = c.requires.filled;
   count = c.in_ok-queues.ensures.count;
@@ -28,9 +28,9 @@ queued g c = record {
 
 pub filled_queues-requires-clause-over : goal.filled_queues-requires-clause-over
 filled_queues-requires-clause-over g c =
-    let a = c.args.search.now in
-    subst (All (λ (s : Resting). (s.worker.question ≡ a.task.now) × (s.worker.index ≡ a.index.now))) (sym c.deref.ensures.value)
-    (filled_over a.task.now a.index.now a.queues c.args.word.now c.args.team.items c.requires.filled)
+    let a = c.args.plan.now in
+    subst (All (λ (s : Resting). (s.worker.question ≡ a.search.question) × (s.worker.index ≡ a.search.index))) (sym c.deref.ensures.value)
+    (filled_over a.search.question a.search.index a.queues c.args.word.now c.args.team.items c.requires.filled)
 
 pub equip-requires-clause-word : goal.equip-requires-clause-word
 equip-requires-clause-word g c = all_words (queued g (goal.at.equip-requires-clause-word g c).After-from-roots)
@@ -117,7 +117,7 @@ returns-clause-ends g c =
     let locks : List QueueLock = c.in_ok-locks.locks.items in
     let count : length back ≡ length locks = omega (arith, c.in_ok-queues-2.ensures.len, c.in_ok-queues-2.queues.ok.0) in
     ends_right (queued g at.After-from-roots)
-    (subst (λ (t : List Resting). AreFilled c.args.search.now.task.now c.args.search.now.index.now t c.args.search.now.queues
+    (subst (λ (t : List Resting). AreFilled c.args.plan.now.search.question c.args.plan.now.search.index t c.args.plan.now.queues
     c.in_ok-queues.queues.items) c.deref.ensures.value c.in_ok-queues.ensures.filled)
     (ready g at.In_ok-team) (worked g at.In_ok-workers) (length c.args.team.items) (omega (arith, c.requires.team.0)) refl
     c.requires.word c.drain_locked.ensures.done back count c.in_ok-queues-2.ensures.went

@@ -9,4 +9,4 @@ seal-requires-clause-leaves g c = marked_differ _ _ _ _ _ c.in_ok-entries.ensure
 pub returns-clause-runs : goal.returns-clause-runs
 returns-clause-runs g c =
     IfOk-weaker c.seal.result _ _ (λ r are m low.
-    run_of_marked _ _ _ c.args.search.now.queues m _ _ c.in_ok-entries.ensures (are m low)) c.seal.ensures.runs
+    run_of_marked _ _ _ c.args.plan.now.queues m _ _ c.in_ok-entries.ensures (are m low)) c.seal.ensures.runs

@@ -3,7 +3,8 @@ use Rattle.std.proofs.Common.{◌≡◌, ◌∷◌, ◌++◌, [], List, length, 
 use Rattle.std.specs.Prelude.{replicate}
 use Rattle.best_word.specs.Passes.{Best, fresh_pass}
 use Rattle.query_core.specs.Portions.{portion_last}
-use Rattle.query_core.specs.Questions.{search_over}
+use Rattle.search_task.specs.Questions.{search_over}
+use Rattle.search_task.proofs.OfIndex.{search_fits}
 use Rattle.query_core.proofs.Portions.{portion_none}
 use Rattle.live_query.specs.PortionRows.{AreRows, PassRow}
 use Rattle.live_query.proofs.PortionsDealt.{rows_more}
@@ -11,15 +12,16 @@ use Rattle.live_query.proofs.portions.begin_limits.Goals as goal
 
 pub begin-requires-clause-floor : goal.begin-requires-clause-floor
 begin-requires-clause-floor g c =
-    let a = c.args.search.now in
-    portion_none (search_over a.task.now a.index.now 1 a.queues) (c.search_law.ensures.fits 1 a.queues (omega arith) c.requires.queues.0)
+    let a = c.args.plan.now in
+    portion_none (search_over a.search.question a.search.index 1 a.queues)
+    (search_fits a.search.question a.search.index 1 a.queues c.k-k.ensures.searched (omega arith) c.requires.queues.0)
     c.loop-number.number
 
 pub loop-number-preserved : goal.loop-number-preserved
 loop-number-preserved g c =
     let was = c.loop-number.invariant in
-    let a = c.args.search.now in
-    let search = search_over a.task.now a.index.now 1 a.queues in
+    let a = c.args.plan.now in
+    let search = search_over a.search.question a.search.index 1 a.queues in
     let word : Best = c.in_ok-word.word in
     let row : PassRow = c.in_ok-word.passes in
     let place : length c.loop-number.words.items ≡ c.loop-number.number = omega (arith, was.len, c.loop-number.words.ok.0) in

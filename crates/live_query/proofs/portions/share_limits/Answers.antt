@@ -6,7 +6,7 @@ use Rattle.std.proofs.lemmas.Option.{slice_get-get_or, slice_get_within}
 use Rattle.search_machine.specs.Ground.{Ground}
 use Rattle.search_machine.proofs.Places.{get_some}
 use Rattle.query_core.specs.Portions.{AreLimits, Limited}
-use Rattle.query_core.specs.Questions.{search_over}
+use Rattle.search_task.specs.Questions.{search_over}
 use Rattle.query_core.specs.Turning.{search_of}
 use Rattle.query_core.specs.Working.{IsOf, Shows, Working, opens_as}
 use Rattle.live_query.proofs.Openers.{search_at}
@@ -26,7 +26,7 @@ worker_at g c =
 
 -- and so has its place
 place_at : (g : Over) (c : goal.After-new g)
-    → IsOf c.args.search.now.task.now c.args.search.now.index.now c.args.search.now.queues c.loop-i.i c.index_mut.result.now
+    → IsOf c.args.plan.now.search.question c.args.plan.now.search.index c.args.plan.now.queues c.loop-i.i c.index_mut.result.now
 place_at g c = c.requires.hired.places c.loop-i.i c.index_mut.result.now (worker_at g c)
 
 pub take_passes-requires : goal.take_passes-requires
@@ -45,28 +45,28 @@ pub share-requires-clause-opens : goal.share-requires-clause-opens
 share-requires-clause-opens g c =
     let w : Working = c.index_mut.result.now in
     let place = place_at g c in
-    let same = search_at c.args.search.now.task.now c.args.search.now.index.now c.args.search.now.queues c.loop-i.i w place in
+    let same = search_at c.args.plan.now.search.question c.args.plan.now.search.index c.args.plan.now.queues c.loop-i.i w place in
     subst (λ (n : ℕ). Shows w (opens_as (search_of w 1) n)) (sym place.number)
     (subst (λ (s : Ground). Shows w (opens_as s c.loop-i.i)) (sym same) (c.requires.hired.opens c.loop-i.i w (worker_at g c)))
 
 pub share-requires-clause-limits : goal.share-requires-clause-limits
 share-requires-clause-limits g c =
-    let a = c.args.search.now in
+    let a = c.args.plan.now in
     let i = c.loop-i.i in
-    let g0 = search_over a.task.now a.index.now 1 a.queues in
+    let g0 = search_over a.search.question a.search.index 1 a.queues in
     let left : ℕ = vec_len c.args.workers.now - i - 1 in
     let are = c.loop-i.invariant.left (suc left) (omega (arith, c.loop-i-test.true, c.len-i-end.ensures, c.loop-i.invariant.len)) in
     subst (λ (s : Ground). AreLimits s c.new.result)
-    (sym (search_at a.task.now a.index.now a.queues i c.index_mut.result.now (place_at g c)))
+    (sym (search_at a.search.question a.search.index a.queues i c.index_mut.result.now (place_at g c)))
     (subst (AreLimits g0) (sym c.new.ensures)
-    (limits_dealt g0 c.args.words.now c.in_ok-passes.passes.items i c.requires.queues.0 (omega (arith, c.if-words-search.false))
+    (limits_dealt g0 c.args.words.now c.in_ok-passes.passes.items i c.requires.queues.0 (omega (arith, c.if-words-plan.false))
     (c.in_ok-passes.ensures.dealt g0 c.args.words.now left are).0))
 
 pub share-requires-clause-home : goal.share-requires-clause-home
 share-requires-clause-home g c =
     let w : Working = c.index_mut.result.now in
     let place = place_at g c in (
-      ap (λ (l : Limited). l.home) c.new.ensures ∙ ap (λ (n : ℕ). n % c.args.search.now.queues) (sym place.number)
+      ap (λ (l : Limited). l.home) c.new.ensures ∙ ap (λ (n : ℕ). n % c.args.plan.now.queues) (sym place.number)
           ∙ ap (λ (q : ℕ). w.number % q) (sym place.queues),
       ap (λ (l : Limited). l.at_home) c.new.ensures,
     )
@@ -74,8 +74,8 @@ share-requires-clause-home g c =
 pub loop-i-preserved : goal.loop-i-preserved
 loop-i-preserved g c =
     let was = c.loop-i.invariant in
-    let a = c.args.search.now in
-    let g0 = search_over a.task.now a.index.now 1 a.queues in
+    let a = c.args.plan.now in
+    let g0 = search_over a.search.question a.search.index 1 a.queues in
     record {
       same = ap (set c.loop-i.workers.items c.loop-i.i) (c.share.ensures.same ∙ c.index_mut.ensures.value)
           ∙ set-get_or c.loop-i.workers.items c.loop-i.i c.index_mut.result.now ∙ was.same;

@@ -11,7 +11,7 @@ use Rattle.live_run.proofs.file.load.Goals as goal
 
 pub returns-in-Err-clause-refused : goal.returns-in-Err-clause-refused
 returns-in-Err-clause-refused g c =
-    let reading = read_from g.F.Files.held g.F.Files.faults g.F.Files.misses g.F.Files.blamed c.args.files.now
+    let reading = read_from g.F.Files c.args.files.now
     c.read_series.new.files in
     let at = g.F.Files.at c.open.new.files in
     let left = g.F.Files.left c.open.new.files in

@@ -16,7 +16,7 @@ returns-in_err-queries-clause-refused g c whole ends =
     let a = c.asking-item.result in
     let i = c.loop-asking.asking-index in
     let same : a ≡ get_or c.args.askings.now i a = search (rules, c.asking-item.is) in
-    let part = read_from g.F.Files.held g.F.Files.faults g.F.Files.misses g.F.Files.blamed c.args.files.now c.load_fitting.new.files in
+    let part = read_from g.F.Files c.args.files.now c.load_fitting.new.files in
     let later = ends_later whole part (g.F.Files.held c.loop-asking.files) (g.F.Files.faults c.loop-asking.files)
     (g.F.Files.misses c.loop-asking.files) ends inv.kept inv.faults inv.misses in
     let status = c.in_err-queries.field-0.0 in
@@ -28,7 +28,7 @@ returns-in_err-queries-clause-refused g c whole ends =
 pub returns-in_err-put-clause-refused : goal.returns-in_err-put-clause-refused
 returns-in_err-put-clause-refused g c whole ends =
     let inv = c.loop-asking.invariant in
-    let part = read_from g.F.Files.held g.F.Files.faults g.F.Files.misses g.F.Files.blamed c.args.files.now c.load_fitting.new.files in
+    let part = read_from g.F.Files c.args.files.now c.load_fitting.new.files in
     let told = err_from_is_err_and c.from_residual-in_err-put.result c.from_residual-in_err-put.ensures.1 in
     rw (told.1, told.2) (askings_refused whole part c.args.points c.args.askings.now c.loop-asking.asking-index c.asking-item.result
     c.loop-asking.loaded.items Memory c.loop-asking-test.true ends inv.passed (inl tt))

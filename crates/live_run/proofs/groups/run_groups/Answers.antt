@@ -18,10 +18,10 @@ returns-in_err-contents-clause-ends g c whole ends =
     let at = c.loop-at.at in
     let group = c.index-groups-at.result in
     let same : group ≡ get_or c.args.groups.now at group = search (rules, c.index-groups-at.is) in
-    let part = read_from g.F.Files.held g.F.Files.faults g.F.Files.misses g.F.Files.blamed c.args.files.now c.load_group.new.files in
+    let part = read_from g.F.Files c.args.files.now c.load_group.new.files in
     let later = ends_later whole part (g.F.Files.held c.loop-at.files) (g.F.Files.faults c.loop-at.files)
     (g.F.Files.misses c.loop-at.files) ends inv.kept inv.faults inv.misses in
-    let writing = wrote_to g.S.Sink.written g.S.Sink.faults g.S.Sink.sure c.args.out.now c.loop-at.out in
+    let writing = wrote_to g.S.Sink c.args.out.now c.loop-at.out in
     let want = c.length_of.ensures ∙ wanted cs c.loop-at.dialogue inv.behind.stands in
     let status = c.in_err-contents.field-0.0 in
     let refused = subst (λ (x : Group). RefusesGroup whole (want_of cs) x status) same
@@ -33,7 +33,7 @@ returns-in_err-contents-clause-ends g c whole ends =
 
 pub returns-in_err-current-clause-ends : goal.returns-in_err-current-clause-ends
 returns-in_err-current-clause-ends g c whole ends =
-    let writing = wrote_to g.S.Sink.written g.S.Sink.faults g.S.Sink.sure c.args.out.now c.loop-at.out in
+    let writing = wrote_to g.S.Sink c.args.out.now c.loop-at.out in
     by_status (GroupsEnd whole writing c.args.groups.now) c.from_residual-in_err-current.result Memory
     c.from_residual-in_err-current.ensures.1
     (behind_stops whole writing (g.F.Files.held c.args.files.now) ends.held c.args.groups.now c.loop-at.at
@@ -57,7 +57,7 @@ returns-in_err-next-clause-ends g c whole ends =
     let next = next_at c.loop-at.invariant.behind.contents c.loop-at.dialogue c.args.groups.now c.loop-at.at
     c.index-groups-at.result (search (rules, c.index-groups-at.is)) c.loop-at.invariant.kept c.length_of.ensures
     c.length-points.ensures.length c.loop-at.invariant.behind.stands c.in_ok-contents.ensures.holds c.in_ok-current.ensures in
-    let writing = wrote_to g.S.Sink.written g.S.Sink.faults g.S.Sink.sure c.args.out.now c.loop-at.out in
+    let writing = wrote_to g.S.Sink c.args.out.now c.loop-at.out in
     let status = c.in_err-next.field-0.0 in
     let at = get_or c.args.groups.now c.loop-at.at c.index-groups-at.result in
     let cs = c.loop-at.invariant.behind.contents in
@@ -78,7 +78,7 @@ returns-in_err-write_whole-clause-ends g c whole ends =
     c.length-points.ensures.length c.loop-at.invariant.behind.stands c.in_ok-contents.ensures.holds c.in_ok-current.ensures in
     let took = c.in_ok-next.ensures in
     let failed = c.in_err-write_whole.ensures in
-    let writing = wrote_to g.S.Sink.written g.S.Sink.faults g.S.Sink.sure c.args.out.now c.write_whole.new.sink in
+    let writing = wrote_to g.S.Sink c.args.out.now c.write_whole.new.sink in
     by_status (GroupsEnd whole writing c.args.groups.now) c.from_residual-in_err-write_whole.result WriteFault
     c.from_residual-in_err-write_whole.ensures.1
     (behind_fault whole writing (g.F.Files.held c.args.files.now) ends.held c.args.groups.now c.loop-at.at

@@ -7,7 +7,7 @@ use Rattle.live_run.proofs.run.live_run.Goals as goal
 
 pub returns-clause-complete : goal.returns-clause-complete
 returns-clause-complete g c can =
-    let reading = read_from g.F.Files.held g.F.Files.faults g.F.Files.misses g.F.Files.blamed c.args.files.now c.run.new.files in
-    let writing = wrote_to g.S.Sink.written g.S.Sink.faults g.S.Sink.sure c.args.out.now c.run.new.out in
+    let reading = read_from g.F.Files c.args.files.now c.run.new.files in
+    let writing = wrote_to g.S.Sink c.args.out.now c.run.new.out in
     subst (λ s. IsAnswered reading.faults reading.later writing.faults writing.later s) (sym c.ended-status.ensures)
     (run_answered (map string_bytes c.args.words.now) reading writing (ended c.run.result) c.run.ensures.ends can)

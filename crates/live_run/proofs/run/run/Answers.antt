@@ -18,8 +18,8 @@ run_groups-requires-clause-few g c κs within =
 
 pub returns-clause-ends : goal.returns-clause-ends
 returns-clause-ends g c =
-    let whole = read_from g.F.Files.held g.F.Files.faults g.F.Files.misses g.F.Files.blamed c.args.files.now c.run_groups.new.files in
-    let writing = wrote_to g.S.Sink.written g.S.Sink.faults g.S.Sink.sure c.args.out.now c.run_groups.new.out in
+    let whole = read_from g.F.Files c.args.files.now c.run_groups.new.files in
+    let writing = wrote_to g.S.Sink c.args.out.now c.run_groups.new.out in
     let loaded = c.in_ok-script.ensures in
     let same : c.deref.result.now ≡ c.in_ok-script.script = c.deref.ensures.value ∙ c.script.view_is in
     let later = ends_later whole whole (g.F.Files.held c.load_script.new.files) (g.F.Files.faults c.load_script.new.files)

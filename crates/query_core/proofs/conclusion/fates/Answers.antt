@@ -5,7 +5,7 @@ use Rattle.search_machine.specs.declared.outcome.Fate.{Fate}
 use Rattle.search_machine.specs.declared.outcome.QueueLine.{QueueLine}
 use Rattle.search_machine.specs.Outcome.{fate, line_of}
 use Rattle.query_core.specs.Fates.{fate_queued, fate_unqueued, leaf_of}
-use Rattle.query_core.specs.Questions.{search_over}
+use Rattle.search_task.specs.Questions.{search_over}
 use Rattle.query_core.proofs.FatesWritten.{fates_listed, queued_fate}
 use Rattle.query_core.proofs.conclusion.fates.Goals as goal
 
@@ -14,7 +14,7 @@ loop-m-init g c = record {
   within = omega arith;
   count = λ s shown. (c.in_ok-fates.ensures 1 1 s shown).count;
   each = λ n q s shown k low.
-      let f : Fate = fate_unqueued (search_over c.args.task.now c.args.index.now n q) s k in
+      let f : Fate = fate_unqueued (search_over c.args.search.now.question c.args.search.now.index n q) s k in
       subst (λ (ls : List QueueLine). slice_get c.in_ok-fates.fates.items k
       ≡ Some (fate_queued (leaf_of c.args.start) (length c.args.lines.now) ls k f))
       (sym (drop-length c.args.lines.now)) ((c.in_ok-fates.ensures n q s shown).each k low);
@@ -26,15 +26,15 @@ returns g c =
     let none : c.loop-m.m ≡ 0 = omega arith in
     let rest : drop c.loop-m.m c.args.lines.now ≡ map line_of s.queues =
     ap (λ (i : ℕ). drop i c.args.lines.now) none ∙ ends.lines in
-    fates_listed (search_over c.args.task.now c.args.index.now n q) s (length c.args.index.now.leaves) 0
+    fates_listed (search_over c.args.search.now.question c.args.search.now.index n q) s (length c.args.search.now.index.leaves) 0
     c.loop-m.fates.items (c.loop-m.invariant.count s ends.workers)
     (λ k low.
     let z : k ≡ 0 + k = omega arith in
-    let f : Fate = fate_unqueued (search_over c.args.task.now c.args.index.now n q) s k in
+    let f : Fate = fate_unqueued (search_over c.args.search.now.question c.args.search.now.index n q) s k in
     c.loop-m.invariant.each n q s ends.workers k low
     ∙ ap (λ (o : Option ℕ). Some (fate_queued o c.loop-m.m (drop c.loop-m.m c.args.lines.now) k f)) c.requires.ended.start_is
-    ∙ ap (λ (m : ℕ). Some (fate_queued (search_over c.args.task.now c.args.index.now n q).start m
+    ∙ ap (λ (m : ℕ). Some (fate_queued (search_over c.args.search.now.question c.args.search.now.index n q).start m
     (drop c.loop-m.m c.args.lines.now) k f)) none
-    ∙ ap (λ (ls : List QueueLine). Some (fate_queued (search_over c.args.task.now c.args.index.now n q).start 0 ls k f)) rest
-    ∙ ap (λ (x : Fate). Some x) (queued_fate (search_over c.args.task.now c.args.index.now n q) s k)
-    ∙ ap (λ (j : ℕ). Some (fate (search_over c.args.task.now c.args.index.now n q) s j)) z)
+    ∙ ap (λ (ls : List QueueLine). Some (fate_queued (search_over c.args.search.now.question c.args.search.now.index n q).start 0 ls k f)) rest
+    ∙ ap (λ (x : Fate). Some x) (queued_fate (search_over c.args.search.now.question c.args.search.now.index n q) s k)
+    ∙ ap (λ (j : ℕ). Some (fate (search_over c.args.search.now.question c.args.search.now.index n q) s j)) z)

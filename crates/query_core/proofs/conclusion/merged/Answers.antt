@@ -12,16 +12,15 @@ pub merge-requires : goal.merge-requires
 merge-requires g c = record {
   ordered = (
     subst (λ (ps : List Pair). ascending ps ≡ ps) (sym c.pairs.ensures.pairs) c.pairs.ensures.sound.ordered,
-    held_ascends c.args.task.now.k (all_lists (take c.loop-worker.worker-index c.args.workers.now)) c.deref.result.now
+    held_ascends c.args.k (all_lists (take c.loop-worker.worker-index c.args.workers.now)) c.deref.result.now
         (c.deref.ensures.value ∙ c.loop-worker.invariant),
   );
 }
 
 pub loop-worker-preserved : goal.loop-worker-preserved
 loop-worker-preserved g c =
-    let k : ℕ = c.args.task.now.k in
+    let k : ℕ = c.args.k in
     c.in_ok-pairs.ensures
-    ∙ ap (λ (n : ℕ). smallest n (c.pairs.result.now ++ c.deref.result.now)) c.k.ensures.k
     ∙ ap (λ (ps : List Pair). smallest k (ps ++ c.deref.result.now))
     (c.pairs.ensures.pairs ∙ ap (λ (b : Best). b.pairs) c.list.ensures.list)
     ∙ merge_next k c.args.workers.now c.loop-worker.worker-index

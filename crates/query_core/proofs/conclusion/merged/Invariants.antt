@@ -5,4 +5,4 @@ use Rattle.query_core.proofs.conclusion.merged.Given as goal
 
 abbrev pub invariant-loop-worker : goal.invariant-loop-worker
 invariant-loop-worker g l =
-    l.pairs.items ≡ smallest l.task.k (all_lists (take l.worker-index l.workers))
+    l.pairs.items ≡ smallest l.k (all_lists (take l.worker-index l.workers))

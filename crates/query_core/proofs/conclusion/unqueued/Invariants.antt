@@ -1,7 +1,7 @@
 use Rattle.std.proofs.Common.{◌≡◌, ◌≤◌, ℕ, vec_capacity, vec_len}
 use Rattle.query_core.specs.Fates.{AreUnqueued}
 use Rattle.search_machine.specs.Machine.{State}
-use Rattle.query_core.specs.Questions.{search_over}
+use Rattle.search_task.specs.Questions.{search_over}
 use Rattle.query_core.specs.Teams.{AreShown}
 use Rattle.query_core.proofs.conclusion.unqueued.Given as goal
 
@@ -10,5 +10,5 @@ invariant-loop-leaf g l = record {
   len : vec_len l.fates ≡ l.leaf;
   room : l.leaves ≤ vec_capacity l.fates;
   each : (n m : ℕ) (s : State) → AreShown l.workers s.workers
-      → AreUnqueued (search_over l.task l.index n m) s l.leaf l.fates.items;
+      → AreUnqueued (search_over l.search.question l.search.index n m) s l.leaf l.fates.items;
 }

@@ -1,6 +1,6 @@
 use Rattle.std.proofs.Common.{ap, ◌∙◌, ◌-◌}
 use Rattle.series_core.specs.Answer.{distance_or_none}
-use Rattle.query_core.proofs.Meeting.{distance_there}
+use Rattle.search_task.proofs.Meeting.{distance_there}
 use Rattle.query_core.proofs.limits.distance_of_rank.Goals as goal
 
 pub returns-in-Some : goal.returns-in-Some

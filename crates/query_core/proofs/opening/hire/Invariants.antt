@@ -7,5 +7,5 @@ invariant-loop-number g l = record {
   some : 1 ≤ l.number;
   len : vec_len l.hired ≡ l.number;
   room : l.workers ≤ vec_capacity l.hired;
-  hired : AreHired l.task l.index l.queues l.hired.items;
+  hired : AreHired l.search.question l.search.index l.queues l.hired.items;
 }

@@ -1,6 +1,6 @@
 -- The next leaf is passed over, or is the first that is given.
 use Rattle.std.proofs.Common.{◌∙◌, arith}
-use Rattle.query_core.specs.Questions.{leaf_bound}
+use Rattle.search_task.specs.Questions.{leaf_bound}
 use Rattle.query_core.proofs.Advancing.{nothing_left, given_first, passed_over}
 use Rattle.query_core.proofs.walk.first_given.Goals as goal
 

@@ -2,7 +2,7 @@
 use Rattle.std.proofs.Common.{◌≡◌, ◌≤◌}
 use Rattle.search_machine.specs.Ground.{Ground}
 use Rattle.search_machine.specs.Workers.{skip, without}
-use Rattle.query_core.specs.Questions.{leaf_bound}
+use Rattle.search_task.specs.Questions.{leaf_bound}
 use Rattle.query_core.specs.Walks.{leaves_between}
 use Rattle.query_core.proofs.walk.first_given.Given as goal
 

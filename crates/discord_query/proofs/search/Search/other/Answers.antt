@@ -3,7 +3,7 @@ use Rattle.std.proofs.Common.{◌≡◌, [], take, sym, ap, ◌∙◌}
 use Rattle.std.specs.List.{filter}
 use Rattle.std.proofs.lemmas.Option.{get_or_from_slice_get}
 use Rattle.series_core.specs.Answer.{answer}
-use Rattle.query_core.specs.Questions.{Question}
+use Rattle.search_task.specs.Questions.{Question}
 use Rattle.subtree_build.specs.Members.{series_at}
 use Rattle.discord_query.specs.Discords.{is_other}
 use Rattle.discord_query.proofs.Others.{other_of_two}

@@ -1,6 +1,6 @@
 -- The index fits the series that the task asks of.
 use Rattle.std.proofs.Common.{subst, sym}
-use Rattle.query_core.specs.Questions.{Question}
+use Rattle.search_task.specs.Questions.{Question}
 use Rattle.subtree_build.specs.Fits.{Fits}
 use Rattle.live_collection.proofs.Fitting.{Fits-had}
 use Rattle.live_collection.proofs.batch.Batch.nearest.Goals as goal

@@ -9,13 +9,13 @@ use Rattle.search_machine.specs.Machine.{State}
 use Rattle.search_machine.specs.Outcome.{line_of, outcome}
 use Rattle.query_core.specs.Teams.{StandsAt, TeamParts, searched}
 use Rattle.query_core.specs.Working.{Working}
-use Rattle.query_core.proofs.TeamOpening.{start_same}
+use Rattle.search_task.proofs.Openings.{start_same}
 use Rattle.query_core.proofs.team.Team.ended.Goals as goal
 
 pub conclude-requires-clause-start : goal.conclude-requires-clause-start
 conclude-requires-clause-start g c =
     c.self.invariant.begins
-    ∙ start_same c.self.inside.task.now c.self.inside.index.now (length c.self.inside.workers.items)
+    ∙ start_same c.self.inside.search.question c.self.inside.search.index (length c.self.inside.workers.items)
     c.self.inside.queues 1 1
 
 pub conclude-requires-clause-over : goal.conclude-requires-clause-over

@@ -40,8 +40,8 @@ returns-clause-turns g c =
     let same : c.index.result.now ≡ c.index_mut.result.now =
     same_Some c.index.result.now c.index_mut.result.now (sym first ∙ at) in
     let new : TeamParts = record {
-      question = c.self.inside.task.now;
-      index = c.self.inside.index.now;
+      question = c.self.inside.search.question;
+      index = c.self.inside.search.index;
       queues = c.self.inside.queues;
       start = c.self.inside.start;
       hand = c.turn.new.hand;

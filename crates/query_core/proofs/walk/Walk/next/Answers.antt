@@ -4,7 +4,7 @@ use Rattle.subtree_build.specs.Index.{IndexParts}
 use Rattle.subtree_build.specs.Outline.{leaf_numbers}
 use Rattle.subtree_build.specs.Start.{node_at}
 use Rattle.search_machine.specs.Workers.{skip, without}
-use Rattle.query_core.specs.Questions.{leaf_bound}
+use Rattle.search_task.specs.Questions.{leaf_bound}
 use Rattle.query_core.specs.Walks.{Walked, leaves_between}
 use Rattle.query_core.proofs.Advancing.{none_between, root_cut}
 use Rattle.query_core.proofs.walk.Walk.next.Goals as goal

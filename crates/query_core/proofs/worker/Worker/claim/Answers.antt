@@ -12,7 +12,7 @@ returns-in-Some g c =
     let inside = c.self.inside in
     let kept = c.self.invariant.0 in
     let root = c.in-Some.root in
-    let real : root < length inside.index.now.nodes =
+    let real : root < length inside.search.index.nodes =
     omega (
       arith,
       c.in-Some.ensures.bound,
@@ -20,15 +20,15 @@ returns-in-Some g c =
           (sym c.self.view_is) c.requires.roots,
       kept.searched.index.one_node_each,
     ) in
-    let left : c.begin.new.self.leaves ≡ leaf_numbers (node_at inside.index.now root) =
+    let left : c.begin.new.self.leaves ≡ leaf_numbers (node_at inside.search.index root) =
     ap (λ (w : Walked). w.leaves) c.begin.ensures
     ∙ ap (λ ix. leaf_numbers (node_at ix root)) kept.walk_index in
-    let there : slice_get (map leaf_numbers inside.index.now.nodes) root ≡ Some c.begin.new.self.leaves =
-    root_there inside.index.now.nodes root real ∙ ap (λ (ls : List ℕ). Some ls) (sym left) in
+    let there : slice_get (map leaf_numbers inside.search.index.nodes) root ≡ Some c.begin.new.self.leaves =
+    root_there inside.search.index.nodes root real ∙ ap (λ (ls : List ℕ). Some ls) (sym left) in
     record {
       turns = turned g.S.Shared.did c.args.hand.now c.claim.new.self _ c.args.self.now _ _ _ c.self.view_is c.requires.phase
           (λ workers m shows. c.in-Some.ensures.did)
-          (λ workers. subst (λ (n : ℕ). root < n) (sym (length-map inside.index.now.nodes leaf_numbers)) real)
+          (λ workers. subst (λ (n : ℕ). root < n) (sym (length-map inside.search.index.nodes leaf_numbers)) real)
           tt
           (λ workers m shows. claim_shows workers _ m root c.begin.new.self.leaves inside.start shows there kept.start_is);
       place = stays _ c.args.self.now _ _ c.self.view_is;

@@ -1,5 +1,5 @@
 use Rattle.std.proofs.Common.{ap, subst}
-use Rattle.query_core.specs.Questions.{search_over}
+use Rattle.search_task.specs.Questions.{search_over}
 use Rattle.query_core.specs.Working.{HoldsSeries, Working}
 use Rattle.query_core.proofs.Different.{distinct_series}
 use Rattle.query_core.proofs.worker.Worker.list.Goals as goal
@@ -12,6 +12,6 @@ returns-clause-series g c =
     (record {
       ascending = found.ascending;
       known = λ p there. ((found.known p there).0, ap (λ q. q.distance) (found.known p there).1);
-      different = distinct_series (search_over inside.task.now inside.index.now 1 inside.queues) inside.list.pairs
+      different = distinct_series (search_over inside.search.question inside.search.index 1 inside.queues) inside.list.pairs
           found.ascending (λ p there. (found.known p there).1);
     })

@@ -1,15 +1,15 @@
 -- What is read is no less than the last distance.
 use Rattle.std.proofs.Common.{◌≤◌, subst, arith}
-use Rattle.query_core.specs.Questions.{last_of, search_over}
+use Rattle.search_task.specs.Questions.{last_of, search_over}
 use Rattle.query_core.specs.Working.{Working}
-use Rattle.query_core.proofs.OfIndex.{last_is, search_fits}
+use Rattle.search_task.proofs.OfIndex.{last_is, search_fits}
 use Rattle.query_core.proofs.LimitsKept.{keeps_read, kept_limits, read_low}
 use Rattle.query_core.proofs.worker.Worker.most.Goals as goal
 
 pub most_of-requires : goal.most_of-requires
 most_of-requires g c =
     let inside = c.self.inside in
-    let search = search_over inside.task.now inside.index.now 1 inside.queues in
+    let search = search_over inside.search.question inside.search.index 1 inside.queues in
     record { limits = (search, kept_limits search inside.marks.items inside.limits c.self.invariant.1) }
 
 pub invariant_of-self : goal.invariant_of-self
@@ -17,8 +17,8 @@ invariant_of-self g c =
     let inside = c.self.inside in
     let kept = c.self.invariant.0 in
     let keeps = c.self.invariant.1 in
-    let search = search_over inside.task.now inside.index.now 1 inside.queues in
-    let fits = search_fits inside.task.now inside.index.now 1 inside.queues kept.searched (omega arith) kept.some_queue in
+    let search = search_over inside.search.question inside.search.index 1 inside.queues in
+    let fits = search_fits inside.search.question inside.search.index 1 inside.queues kept.searched (omega arith) kept.some_queue in
     let read = c.most_of.ensures.read search (kept_limits search inside.marks.items inside.limits keeps) in (
       kept,
       keeps_read search fits inside.marks.items inside.limits c.most_of.new.limits c.most_of.result keeps read,
@@ -29,9 +29,9 @@ pub returns-clause-low : goal.returns-clause-low
 returns-clause-low g c =
     let inside = c.self.inside in
     let kept = c.self.invariant.0 in
-    let search = search_over inside.task.now inside.index.now 1 inside.queues in
-    let fits = search_fits inside.task.now inside.index.now 1 inside.queues kept.searched (omega arith) kept.some_queue in
+    let search = search_over inside.search.question inside.search.index 1 inside.queues in
+    let fits = search_fits inside.search.question inside.search.index 1 inside.queues kept.searched (omega arith) kept.some_queue in
     let read = c.most_of.ensures.read search (kept_limits search inside.marks.items inside.limits c.self.invariant.1) in
     let low = read_low search fits inside.limits c.most_of.new.limits c.most_of.result read in
-    let last = last_is inside.task.now inside.index.now 1 inside.queues kept.searched.question in
+    let last = last_is inside.search.question inside.search.index 1 inside.queues kept.searched.question in
     subst (λ (w : Working). last_of w.question ≤ c.most_of.result) c.self.view_is (omega (arith, low, last))

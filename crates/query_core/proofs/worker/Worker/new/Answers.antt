@@ -1,12 +1,15 @@
 use Rattle.std.proofs.Common.{◌≡◌, List, [], refl, sym, ap, ◌∙◌, subst, arith}
 use Rattle.series_core.specs.Best.{Best}
 use Rattle.series_core.specs.declared.pair.Pair.{Pair}
+use Rattle.search_machine.specs.declared.phase.Phase.TheVariants.{Claim}
 use Rattle.search_machine.specs.Workers.{without}
-use Rattle.query_core.specs.Questions.{CanBeSearched, search_over, view_in}
+use Rattle.search_task.specs.Questions.{CanBeSearched, Searched, search_over, view_in}
 use Rattle.query_core.specs.Walks.{Walked}
-use Rattle.query_core.specs.Working.{IsFound}
+use Rattle.query_core.specs.BoundShares.{AreBounds}
+use Rattle.query_core.specs.Working.{IsFound, IsWorking, working}
+use Rattle.query_core.specs.declared.stage.Stage.TheVariants.{Claim as ClaimStage}
 use Rattle.query_core.proofs.BoundShares.{no_bounds}
-use Rattle.query_core.proofs.OfIndex.{search_fits}
+use Rattle.search_task.proofs.OfIndex.{search_fits}
 use Rattle.query_core.proofs.Openers.{opener_found, opener_leaf, opener_marks, opener_shows, opener_start}
 use Rattle.query_core.proofs.TurnLaws.{none_without}
 use Rattle.query_core.proofs.worker.Worker.new.Goals as goal
@@ -24,9 +27,14 @@ invariant_of-result g c =
     let marks =
     opener_marks a ix c.args.queues c.args.start c.leaf_of-start.result c.requires.start c.leaf_of-start.ensures
     c.args.number c.leaf_count.result c.in_ok-marks.marks.items c.leaf_count.ensures.count c.in_ok-marks.ensures in
-    let searched : CanBeSearched a ix =
-    record { question = c.k-k.ensures.question; index = c.leaf_count.ensures.is_index; fits = c.requires.fits } in
-    let fits = search_fits a ix 1 c.args.queues searched (omega arith) c.requires.queues.0 in (
+    let searched : CanBeSearched a ix = c.new-search.ensures.searched in
+    let fits = search_fits a ix 1 c.args.queues searched (omega arith) c.requires.queues.0 in
+    let start = c.leaf_of-start.result in
+    let rest = without start c.new-walk.result.leaves in
+    subst (λ (s : Searched).
+    IsWorking start c.new-walk.result c.args.list ClaimStage
+    (working s.question s.index c.args.number c.args.queues Claim rest c.args.list.pairs c.in_ok-marks.marks.items)
+    × Unit {0} × AreBounds (view_in s.question) s.index c.none.result) (sym c.new-search.ensures.search) (
       record {
         searched = searched;
         number_limit = c.requires.number;

@@ -1,7 +1,7 @@
 -- The start leaf is of the first portion, where worker 0 begins.
 use Rattle.std.proofs.Common.{◌≡◌, ◌%◌, ℕ, sym, subst}
 use Rattle.query_core.specs.Portions.{AreLimits, StayAt}
-use Rattle.query_core.specs.Questions.{search_over}
+use Rattle.search_task.specs.Questions.{search_over}
 use Rattle.query_core.specs.Turning.{search_of}
 use Rattle.query_core.specs.Working.{Shows, Working, opens_as}
 use Rattle.query_core.proofs.LimitsKept.{opened_stay}
@@ -12,7 +12,7 @@ invariant_of-self g c =
     let inside = c.self.inside in
     let kept = c.self.invariant.0 in
     let back = sym c.self.view_is in
-    let search = search_over inside.task.now inside.index.now 1 inside.queues in
+    let search = search_over inside.search.question inside.search.index 1 inside.queues in
     let shows = subst (λ (w : Working). Shows w (opens_as (search_of w 1) w.number)) back c.requires.opens in
     let home : c.args.limits.home ≡ inside.number % inside.queues
     = subst (λ (w : Working). c.args.limits.home ≡ w.number % w.queues) back c.requires.home.0 in (

@@ -1,18 +1,18 @@
-use Rattle.search_run.proofs.Nearests.{nearest_as, pieces_as}
+use Rattle.search_run.proofs.Served.{nearest_serves, pieces_serves}
 use Rattle.search_run.proofs.commands.nearest.answer_nearest.Goals as goal
 
-pub returns-in-Some-clause-answers : goal.returns-in-Some-clause-answers
-returns-in-Some-clause-answers g c =
-    nearest_as _ _ c.args.series.now c.args.queries.now c.args.options.now _ _ c.in-Some.is c.answer_indexed.ensures.answers
+pub returns-in-Some : goal.returns-in-Some
+returns-in-Some g c =
+    let s = c.args.search.now in nearest_serves s.series.now s.queries.now s.options.now _ c.in-Some.is c.indexed.ensures
 
-pub returns-in-None-clause-answers : goal.returns-in-None-clause-answers
-returns-in-None-clause-answers g c =
-    let o = c.args.options.now in
-    nearest_as _ _ c.args.series.now c.args.queries.now o _ _ c.in-None.is
-    (pieces_as _ _ c.args.series.now c.args.queries.now o _ _ c.if-options.true c.answer_certified.ensures.answers)
+pub returns-in-None : goal.returns-in-None
+returns-in-None g c =
+    let s = c.args.search.now in
+    nearest_serves s.series.now s.queries.now s.options.now _ c.in-None.is
+    (pieces_serves s.series.now s.queries.now s.options.now _ c.if-search.true c.certified.ensures)
 
-pub returns-in-None-2-clause-answers : goal.returns-in-None-2-clause-answers
-returns-in-None-2-clause-answers g c =
-    let o = c.args.options.now in
-    nearest_as _ _ c.args.series.now c.args.queries.now o _ _ c.in-None-2.is
-    (pieces_as _ _ c.args.series.now c.args.queries.now o _ _ c.if-options.false c.answer_plain.ensures.answers)
+pub returns-in-None-2 : goal.returns-in-None-2
+returns-in-None-2 g c =
+    let s = c.args.search.now in
+    nearest_serves s.series.now s.queries.now s.options.now _ c.in-None-2.is
+    (pieces_serves s.series.now s.queries.now s.options.now _ c.if-search.false c.plain.ensures)

@@ -2,7 +2,7 @@ use Rattle.std.proofs.Common.{ℕ, List, ◌++◌, ap, subst, ◌∙◌}
 use Rattle.series_core.specs.Answer.{answer}
 use Rattle.series_core.specs.declared.pair.Pair.{Pair}
 use Rattle.search_machine.specs.Legal.{Legal}
-use Rattle.query_core.specs.Questions.{IsQuestion, search_over}
+use Rattle.search_task.specs.Questions.{IsQuestion, search_over}
 use Rattle.search_run.specs.Finding.{asked_of}
 use Rattle.search_run.specs.Texts.{query_text}
 use Rattle.search_run.specs.declared.finding.Asking.{Asking}

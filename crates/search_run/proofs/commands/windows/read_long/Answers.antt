@@ -10,7 +10,7 @@ use Rattle.search_run.proofs.commands.windows.read_long.Goals as goal
 
 pub returns-in_err-queries-clause-refused : goal.returns-in_err-queries-clause-refused
 returns-in_err-queries-clause-refused g c =
-    let whole = read_from g.F.Files.held g.F.Files.faults g.F.Files.misses g.F.Files.blamed c.args.files.now
+    let whole = read_from g.F.Files c.args.files.now
     c.load-2.new.files in
     let asked = c.args.search.now in
     let first : c.as_str.result.now ≡ asked.series.now = search rules in

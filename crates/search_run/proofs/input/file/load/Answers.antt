@@ -9,7 +9,7 @@ use Rattle.search_run.proofs.input.file.load.Goals as goal
 
 pub returns-in-Err-clause-refused : goal.returns-in-Err-clause-refused
 returns-in-Err-clause-refused g c =
-    let reading = read_from g.F.Files.held g.F.Files.faults g.F.Files.misses g.F.Files.blamed c.args.files.now
+    let reading = read_from g.F.Files c.args.files.now
     c.read_series.new.files in
     rw c.refusal.ensures
     (file_refused c.args.which reading c.args.name.now (g.F.Files.at c.open.new.files)

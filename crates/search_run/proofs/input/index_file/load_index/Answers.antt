@@ -18,7 +18,7 @@ returns-in-Ok-clause-held g c =
 
 pub returns-in-Err-clause-refused : goal.returns-in-Err-clause-refused
 returns-in-Err-clause-refused g c =
-    let reading = read_from g.F.Files.held g.F.Files.faults g.F.Files.misses g.F.Files.blamed c.args.files.now
+    let reading = read_from g.F.Files c.args.files.now
     c.load.new.files in
     rw c.refusal.ensures
     (index_refused c.args.rows.now reading c.args.name.now (g.F.Files.at c.open.new.files)

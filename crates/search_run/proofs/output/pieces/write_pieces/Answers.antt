@@ -6,7 +6,7 @@ use Rattle.search_run.proofs.output.pieces.write_pieces.Given as given
 use Rattle.search_run.proofs.output.pieces.write_pieces.Goals as goal
 
 pub loop-i-init : goal.loop-i-init
-loop-i-init g c = ([], refl, Going-start g.S.Sink.written g.S.Sink.faults g.S.Sink.sure c.args.out.now)
+loop-i-init g c = ([], refl, Going-start g.S.Sink c.args.out.now)
 
 pub returns : goal.returns
 returns g c =
@@ -17,13 +17,13 @@ returns g c =
 
 pub returns-in_err-text-clause-stops : goal.returns-in_err-text-clause-stops
 returns-in_err-text-clause-stops g c =
-    left_stops _ _ _ c.args.out.now c.loop-i.out _ c.loop-i.i _ c.from_residual.result c.from_residual.ensures.1 c.loop-i.invariant
+    left_stops g.S.Sink c.args.out.now c.loop-i.out _ c.loop-i.i _ c.from_residual.result c.from_residual.ensures.1 c.loop-i.invariant
 
 pub returns-in_err-write_whole-clause-stops : goal.returns-in_err-write_whole-clause-stops
 returns-in_err-write_whole-clause-stops g c =
     let made = IsMade (given.P-post g c.args.piece_of.now) c.args.context.now in
     let failed = c.in_err-write_whole.ensures in
-    failed_stops g.S.Sink.written g.S.Sink.faults g.S.Sink.sure c.args.out.now c.loop-i.out c.write_whole.new.sink made
+    failed_stops g.S.Sink c.args.out.now c.loop-i.out c.write_whole.new.sink made
     c.loop-i.i (g.Q.Rows.collection c.args.queries.now).series c.deref.result.now
     c.from_residual-in_err-write_whole.result c.from_residual-in_err-write_whole.ensures.1
     (omega (arith, c.loop-i-test.true, c.count-i-end.ensures.count))

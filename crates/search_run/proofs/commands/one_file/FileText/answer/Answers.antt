@@ -1,32 +1,34 @@
-use Rattle.std.proofs.Common.{rules, ◌≡◌, ◌<◌, ◌≤◌, length, subst, sym, inl, inr, refl, ⊎_elim}
+use Rattle.std.proofs.Common.{rules, ℕ, ◌≡◌, ◌<◌, ◌≤◌, length, subst, sym, inl, inr, refl, ⊎_elim}
 use Rattle.std.proofs.lemmas.Bool.{cases_lt}
 use Rattle.std.proofs.lemmas.Result.{err_from_is_err_and}
+use Rattle.std.specs.Global.{Vec}
 use Rattle.search_run.specs.Commands.{file_plan, file_rest}
 use Rattle.search_run.specs.Loads.{HoldsFile, form_of}
 use Rattle.search_run.specs.Plans.{Refuses, Writes}
 use Rattle.search_run.specs.Traffic.{read_from}
 use Rattle.search_run.specs.declared.status.Status.{Status}
 use Rattle.search_run.specs.declared.status.Status.TheVariants.{Memory}
-use Rattle.search_run.proofs.Stopped.{refused_ends}
+use Rattle.search_run.proofs.Served.{refused_serves}
 use Rattle.search_run.proofs.Writing.{false_is_not_true}
 use Rattle.search_run.proofs.commands.one_file.FileText.answer.Goals as goal
 
-pub returns-in_err-text-clause-answers : goal.returns-in_err-text-clause-answers
-returns-in_err-text-clause-answers g c =
-    let reading = read_from g.F.Files.held g.F.Files.faults g.F.Files.misses g.F.Files.blamed c.args.files.now
+pub returns-in_err-text : goal.returns-in_err-text
+returns-in_err-text g c =
+    let reading = read_from g.F.Files c.args.files.now
     c.load.new.files in
     let x = c.in_ok-loaded.loaded in
     let o = c.args.options.now in
     let plan = file_plan c.args.self c.args.series.now o in
     let holds : HoldsFile reading.held c.args.series.now (form_of o.raw) x = search rules in
     let status : Status = c.in_err-text.field-0.0 in
-    refused_ends reading plan _ status c.from_residual-in_err-text.result c.from_residual-in_err-text.ensures.1
+    refused_serves (Vec ℕ) g.F.Files g.S.Sink plan _ _ _ status c.from_residual-in_err-text.result
+    c.from_residual-in_err-text.ensures.1
     (⊎_elim (λ (memory : status ≡ Memory). subst (Refuses reading plan) (sym memory) (inl tt))
     (λ (rest : Refuses reading (file_rest c.args.self o x) status). inr (x, holds, rest))
-    (c.in_err-text.ensures.refused reading)) refl
+    (c.in_err-text.ensures.refused reading)) c.in_ok-loaded.ensures.kept (λ sound. c.in_err-text.ensures.reads_nothing)
 
-pub returns-in_err-write_whole-clause-answers : goal.returns-in_err-write_whole-clause-answers
-returns-in_err-write_whole-clause-answers g c =
+pub returns-in_err-write_whole : goal.returns-in_err-write_whole
+returns-in_err-write_whole g c =
     let x = c.in_ok-loaded.loaded in
     let o = c.args.options.now in
     let files = g.F.Files.held c.args.files.now in
@@ -40,4 +42,8 @@ returns-in_err-write_whole-clause-answers g c =
     (cases_lt (g.S.Sink.sure c.args.out.now) (length bytes)) in
     let told = err_from_is_err_and c.from_residual-in_err-write_whole.result
     c.from_residual-in_err-write_whole.ensures.1 in
-    rw (told.1, told.2) (bytes, (x, holds, is), wrote.prefix, wrote.failed, short)
+    record {
+      answers = rw (told.1, told.2) (bytes, (x, holds, is), wrote.prefix, wrote.failed, short);
+      kept = c.in_ok-loaded.ensures.kept;
+      reliable = λ sound w reads. search rules;
+    }

@@ -1,0 +1,5 @@
+-- The lemmas of this crate.
+mod Nearest
+mod LeavesNear
+mod LeavesMet
+mod Ranges

@@ -1,0 +1,16 @@
+//! The search for the answer alone: the k nearest rows, by one worker, with nothing of the way to them.
+//! It takes no turns. A first limit is found, and then the leaves that are near enough are scanned, or all members or rows where the
+//! bounds of leaves tell too little.
+#![tactic(auto)]
+
+mod all_rows;
+mod answer;
+mod by_leaves;
+mod first_limit;
+mod near_leaves;
+mod sweep;
+mod telling;
+mod tuning;
+
+pub use answer::one_worker_answer;
+pub use search_task::{Search, Task};

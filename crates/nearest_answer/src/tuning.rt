@@ -1,0 +1,50 @@
+//! The numbers by which a search for the answer alone is tuned. Each changes how long a search takes, and never what it finds.
+
+/// How many members are scanned for a first limit, at least. Fewer give a limit that leaves many more leaves near.
+pub(crate) const FIRST_MEMBERS: usize = 128;
+
+/// Which pair of these members is the guess for a great k: the tenth, as a place from 0. It lies nearer than the k-th as a rule, so where
+/// nothing tells members apart by it, nothing does by the k-th.
+pub(crate) const GUESSED_PLACE: usize = 9;
+
+/// Up to which k the first limit decides what tells members apart. Above it this limit is poor, and to decide by it took five times as
+/// long for 1000 of 500,000 walks.
+pub(crate) const MOST_RANKS_BY_SAMPLE: u32 = 64;
+
+/// Up to which k the leaves next to the start leaf are scanned until they hold k members. For a greater k all leaves are listed anyway.
+pub(crate) const MOST_RANKS_OF_NEXT_LEAVES: u32 = 256;
+
+/// How many members are scanned for a closer limit where means tell little by the first one.
+pub(crate) const CLOSER_MEMBERS: usize = 512;
+
+/// Which part of that limit is taken off for the guess what tells members apart, since the last distance lies below it: a quarter.
+pub(crate) const CLOSER_PART: u64 = 4;
+
+/// How many leaves of least bound are scanned for a closer limit, at least.
+pub(crate) const CLOSEST_LEAVES: u64 = 64;
+
+/// How many members these leaves are to have, as far as all leaves have as many.
+pub(crate) const CLOSEST_MEMBERS: u64 = 512;
+
+/// How many members they are to have for each of the k.
+pub(crate) const CLOSEST_MEMBERS_EACH: u64 = 2;
+
+/// Up to how many entries of leaves are sorted by number. More are listed anew by the closer limit: to sort tens of thousands takes as
+/// long as to look at their members.
+pub(crate) const MOST_SORTED_ENTRIES: usize = 4096;
+
+/// Of how many leaves the sample takes members.
+pub(crate) const SAMPLE_LEAVES: u32 = 64;
+
+/// How many members of each of these leaves it takes, at most.
+pub(crate) const SAMPLE_MEMBERS: usize = 8;
+
+/// Of how many members of the sample the two shares below are told.
+pub(crate) const SHARE_OF: u64 = 32;
+
+/// How many of these finer means may leave near for a search by leaves: more, and nearly each row of the near leaves would be read, at
+/// random places, which costs more than to read all rows in order.
+pub(crate) const SHARE_BY_LEAVES: u64 = 3;
+
+/// How many they may leave near for a sweep, which takes less time than boxes and means that pass over next to nothing.
+pub(crate) const SHARE_TO_SWEEP: u64 = 5;

@@ -1,0 +1,49 @@
+-- Codes of whole rows: a row is cut into blocks of 256 values, and each block has a step of its own. What the codes forget of the row is
+-- told by one length that grows from block to block.
+use Rattle.std.specs.Prelude.{ℕ, ℤ, zero, suc, ◌+◌, ◌-◌, ◌/◌, List, [], ◌∷◌, ◌++◌, cond, drop, length, map, nat_lt, replicate, take}
+use Rattle.series_core.specs.Distance.{squared_distance}
+use Rattle.row_codes.specs.Roots.{root_up}
+use Rattle.row_codes.specs.Codes.{code_of, doubled, packed, pictured, places_squared, step_of}
+
+-- what is kept of a block: its codes in 64 words, the step, the squares of the places of its codes added up, and how long what is
+-- forgotten up to its end is
+pub record Block : Type 0 where
+  pub words : List ℕ
+  pub step : ℕ
+  pub squares : ℕ
+  pub rest : ℕ
+
+-- how many blocks a row of length n has: none where it has fewer than 16 values, else one for each 256 of them and one for what is left
+abbrev pub block_count : ℕ → ℕ
+block_count n = cond (nat_lt n 16) 0 ((n + 255) / 256)
+
+-- the codes of the values of a block
+abbrev pub value_codes : List ℤ → List ℕ
+value_codes xs = map (code_of (step_of xs)) xs
+
+-- those of a whole block: where it has fewer than 256 values, the code of 0 stands in the other places
+abbrev pub block_codes : List ℤ → List ℕ
+block_codes xs = value_codes xs ++ replicate (256 - length xs) 8
+
+-- what the codes of a block forget: how far twice its values lie from twice what the codes stand for, squared
+abbrev pub forgotten : List ℤ → ℕ
+forgotten xs = squared_distance (doubled xs) (pictured (step_of xs) (value_codes xs))
+
+-- what is kept of a block, where so much is forgotten before it
+abbrev pub block_of : ℕ → List ℤ → Block
+block_of before xs = record {
+  words = packed (block_codes xs);
+  step = step_of xs;
+  squares = places_squared (value_codes xs);
+  rest = root_up (before + forgotten xs);
+}
+
+-- what is kept of so many blocks
+abbrev pub blocks_of : ℕ → ℕ → List ℤ → List Block
+blocks_of zero before xs = []
+blocks_of (suc k) before xs =
+    block_of before (take 256 xs) ∷ blocks_of k (before + forgotten (take 256 xs)) (drop 256 xs)
+
+-- the codes of a row
+abbrev pub row_codes : List ℤ → List Block
+row_codes xs = blocks_of (block_count (length xs)) 0 xs

@@ -1,0 +1,97 @@
+//! What is kept of a row: blocks of 256 values each, in 4 bits a value. A row of fewer than 16 values has none.
+ghost use Rattle.std.specs.Prelude.{◌≡◌, ◌+◌, ◌*◌, ◌≤◌, [], length, replicate};
+ghost use Rattle.row_codes.specs.Rows.{block_count, block_of, forgotten, row_codes};
+
+use crate::coding::{codes_of, forgotten_of, packed, squares_of, step_of};
+use crate::roots::root_up_of;
+use series_core::values_fit;
+use std::marker::Model;
+
+/// The number of values of a block.
+pub(crate) const BLOCK: usize = 256;
+
+/// What is kept of a block of at most 256 values of a row, in 136 bytes: a code of 4 bits for each value, four in a word; their step, from 1
+/// to 4096; the squares of the places of the codes, added up; and twice how long what the codes of the row forget up to the end of this
+/// block is, rounded up: the approximation of a VA-file (Weber, Schek and Blott, VLDB 1998), but with a step for each block.
+#[derive(Clone, Copy)]
+pub struct CodeBlock {
+    pub(crate) words: [u16; 64],
+    pub(crate) step: u16,
+    pub(crate) squares: u16,
+    pub(crate) rest: u32,
+}
+
+impl Model for CodeBlock {
+    ghost use Rattle.std.specs.Prelude.{◌≡◌, ◌≤◌, length};
+    ghost use Rattle.row_codes.specs.Rows.{Block};
+
+    ghost Value = { Block };
+
+    ghost view = { λ b. record { words = b.words; step = b.step; squares = b.squares; rest = b.rest } };
+
+    ghost invariant = { λ b. (length b.words ≡ 64) × (b.step ≤ 4096) × (b.rest ≤ 33554432) };
+
+    ghost inverse = { λ b. record { words = b.words; step = b.step; squares = b.squares; rest = b.rest } };
+}
+
+impl CodeBlock {
+    /// A block of zeros, for places that are filled later.
+    pub fn zeros() -> CodeBlock
+        ensures { result ≡ record { words = replicate 64 0; step = 0; squares = 0; rest = 0 } }
+    {
+        CodeBlock {
+            words: [0; 64],
+            step: 0,
+            squares: 0,
+            rest: 0,
+        }
+    }
+
+    // What is kept of a block, where so much is forgotten before it, and how much is up to its end.
+    fn of(values: &[i16], before: u64) -> (CodeBlock, u64)
+        requires few { length values.now ≤ 256 }
+        requires before { before ≤ 65280 * 17179869184 }
+        ensures block { result.0 ≡ block_of before values.now }
+        ensures forgotten { result.1 ≡ before + forgotten values.now }
+        ensures small { result.1 ≤ before + length values.now * 17179869184 }
+    {
+        let step = step_of(values);
+        let codes = codes_of(values, step);
+        let own = &codes[..values.len()];
+        let after = before + forgotten_of(values, own, step);
+        let block = CodeBlock {
+            words: packed(&codes),
+            step,
+            squares: squares_of(own),
+            rest: root_up_of(after) as u32,
+        };
+        (block, after)
+    }
+}
+
+/// How many blocks are kept of a row of `n` values: none where there are fewer than 16, else one for each 256 of them and one for what is
+/// left.
+pub fn block_count(n: u32) -> u32
+    requires { n ≤ 65536 }
+    ensures value { result ≡ block_count n }
+    ensures few { result ≤ 256 }
+{
+    if n < 16 { 0 } else { (n + 255) / 256 }
+}
+
+/// Puts the codes of a row of at most 65536 values in their places, of which there are as many as the row has blocks (`block_count`). Several
+/// rows of one length may stand one behind the other in a table, and be coded side by side. It takes no memory, and is never refused.
+pub fn code_row(row: &[i16], codes: &mut [CodeBlock])
+    requires limit { length row.now ≤ 65536 }
+    requires places { length codes.old ≡ block_count (length row.now) }
+    ensures { codes.new ≡ row_codes row.now }
+{
+    let mut before = 0;
+    for k in 0..codes.len() {
+        let from = BLOCK * k;
+        let to = row.len().min(from + BLOCK);
+        let (block, after) = CodeBlock::of(&row[from..to], before);
+        codes[k] = block;
+        before = after;
+    }
+}

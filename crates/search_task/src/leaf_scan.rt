@@ -1,0 +1,147 @@
+//! Scanning a leaf: a member is passed over by its means, or else by its finer means, or else measured; and a whole leaf by the box of
+//! its means. A row that is passed over is not read.
+ghost use Rattle.std.specs.Prelude.{◌≡◌, ◌+◌, ◌*◌, ◌<◌, ◌≤◌, false, length, take, drop};
+ghost use Rattle.series_core.specs.Distance.{squared_distance};
+ghost use Rattle.subtree_build.specs.Means.{finer_of, means_of};
+ghost use Rattle.subtree_build.specs.Members.{series_at};
+ghost use Rattle.search_task.specs.LeafBounds.{IsBelowLeaf, IsBelowLeaves};
+ghost use Rattle.search_task.specs.Questions.{IsMemberOf, ground_of, leaf_bound, leaf_series, view_in};
+ghost use Rattle.search_task.specs.Scanning.{AreScanned, IsScannedOne, MayAdd};
+
+use crate::scan::most_to_add;
+use crate::search::Search;
+use crate::task::Task;
+use isax_word::Member;
+use mean_bound::{MeanCells, Means};
+use series_core::{KBest, Rows};
+
+impl<'a, R: Rows> Search<'a, R> {
+    /// Scans a leaf with this limit into a list, which then has the k smallest of its pairs and of the members' pairs with a
+    /// distance not above the limit.
+    pub fn scan_leaf(&self, leaf: u32, limit: u64, list: &mut KBest)
+        requires leaf { leaf < length self.now.index.leaves }
+        requires k { list.old.k ≡ self.now.question.k }
+        ensures k { list.new.k ≡ self.now.question.k }
+        ensures pairs { AreScanned self.now.question limit (leaf_series self.now.index leaf) list.old.pairs list.new.pairs }
+    {
+        let task = self.task;
+        let index = self.index;
+        let members = index.leaf_members(leaf);
+        let means = index.leaf_means(leaf);
+        let finer = index.leaf_finer(leaf);
+        let parts = task.finer().parts() as usize;
+        let mut most = most_to_add(limit, list);
+        for i in 0..members.len() {
+            let member = &members[i];
+            let own = finer_of_member(finer, parts, i);
+            let near = task.may_be_within(member, &means[i], own, most);
+            most = task.measure_near(near, member, limit, most, list);
+        }
+    }
+
+    /// The same for each member of a leaf, but where the box of their means is too far, nothing of the leaf is read.
+    pub fn scan_boxed(&self, leaf: u32, limit: u64, list: &mut KBest)
+        requires leaf { leaf < length self.now.index.leaves }
+        requires k { list.old.k ≡ self.now.question.k }
+        ensures k { list.new.k ≡ self.now.question.k }
+        ensures pairs { AreScanned self.now.question limit (leaf_series self.now.index leaf) list.old.pairs list.new.pairs }
+    {
+        // for the fact that the index can be searched
+        let _k = self.k();
+        if self.leaf_bound(leaf) > most_to_add(limit, list) {
+            return;
+        }
+        self.scan_leaf(leaf, limit, list);
+    }
+
+    /// A bound that is above the distance of no member of the leaf: that of the box of their means.
+    pub fn leaf_bound(&self, leaf: u32) -> u64
+        requires leaf { leaf < length self.now.index.leaves }
+        ensures { IsBelowLeaf (ground_of self.now) leaf result }
+    {
+        self.task.means().bound_box(self.index.leaf_box(leaf))
+    }
+
+    /// The lower bound of a leaf's word, which an outcome tells.
+    pub fn word_bound(&self, leaf: u32) -> u64
+        requires leaf { leaf < length self.now.index.leaves }
+        ensures { result ≡ leaf_bound (view_in self.now.question) self.now.index leaf }
+    {
+        self.task.view().bound_word(self.index.leaf_word(leaf))
+    }
+
+    /// What `leaf_bound` tells of one leaf, of all sixteen leaves of a group.
+    pub fn group_bound(&self, group: u32) -> u64
+        requires group { group * 16 < length self.now.index.leaves }
+        ensures { IsBelowLeaves (ground_of self.now) (group * 16) (group * 16 + 16) result }
+    {
+        self.task.means().bound_box(self.index.group_box(group))
+    }
+
+    /// And so of all 256 leaves of a wide group.
+    pub fn wide_group_bound(&self, group: u32) -> u64
+        requires group { group * 256 < length self.now.index.leaves }
+        ensures { IsBelowLeaves (ground_of self.now) (group * 256) (group * 256 + 256) result }
+    {
+        self.task
+            .means()
+            .bound_box(self.index.wide_group_box(group))
+    }
+}
+
+impl<'a, R: Rows> Task<'a, R> {
+    /// Adds the member's pair where it is near and its distance is at most `most`, and tells what is then the most.
+    pub fn measure_near(
+        &self,
+        near: bool,
+        member: &Member,
+        limit: u64,
+        most: u64,
+        list: &mut KBest,
+    ) -> u64
+        requires member { IsMemberOf self.now member.now }
+        requires far { near ≡ false
+            → most < squared_distance (series_at self.now.collection member.now.number) self.now.query }
+        requires list { MayAdd self.now limit list.old most }
+        ensures list { MayAdd self.now limit list.new result }
+        ensures pairs { IsScannedOne self.now limit member.now.number list.old.pairs list.new.pairs }
+    {
+        // for the fact that the task is a question
+        let _k = self.k();
+        if !near {
+            return most;
+        }
+        self.measure(member.number, limit, most, list)
+    }
+
+    // Whether neither the member's means nor its finer means lie above the limit. Where they do, so does its distance.
+    fn may_be_within(&self, member: &Member, means: &Means, finer: &[MeanCells], limit: u64) -> bool
+        requires member { IsMemberOf self.now member.now }
+        requires means { means.now ≡ means_of self.now.collection self.now.layout member.now }
+        requires finer { finer.now ≡ finer_of self.now.collection member.now }
+        ensures { result ≡ false
+            → limit < squared_distance (series_at self.now.collection member.now.number) self.now.query }
+    {
+        self.means().bound(means) <= limit && self.finer_may_be_within(member, finer, limit)
+    }
+
+    /// Whether the member's finer means do not lie above the limit. Where they do, so does its distance.
+    pub fn finer_may_be_within(&self, member: &Member, finer: &[MeanCells], limit: u64) -> bool
+        requires member { IsMemberOf self.now member.now }
+        requires finer { finer.now ≡ finer_of self.now.collection member.now }
+        ensures { result ≡ false
+            → limit < squared_distance (series_at self.now.collection member.now.number) self.now.query }
+    {
+        let _ = member;
+        self.finer().is_within(finer, limit)
+    }
+}
+
+/// The finer means of member `i` among those of all, with `parts` parts a member.
+pub fn finer_of_member(finer: &[MeanCells], parts: usize, i: usize) -> &[MeanCells]
+    requires { i * parts + parts ≤ length finer.now }
+    ensures { result.now ≡ take parts (drop (i * parts) finer.now) }
+{
+    let first = i * parts;
+    &finer[first..first + parts]
+}

@@ -1,0 +1,153 @@
+//! Small collections of every kind of data, of lengths below and above 128: the answer alone is that of a plain sort.
+use breakpoints::Table;
+use nearest_answer::{Task, one_worker_answer};
+use outside::{NoGate, NoMemory};
+use plain_search::{are_same, plain_nearest};
+use rand_xoshiro::SplitMix64;
+use rand_xoshiro::rand_core::{Rng, SeedableRng};
+use series_core::{Flat, Rows};
+use std::alloc::Global;
+use std::test::*;
+use std::thread::Threads;
+use subtree_build::{Settings, build};
+
+/// What the values of a series are like.
+#[derive(Clone, Copy, Debug)]
+enum Kind {
+    Walk,
+    Noise,
+    Resonance,
+    Constant,
+    Flutter,
+}
+
+/// The value at a place of a series, after these two. A flutter swings every other value, and by a pattern of the series' own, so that
+/// eight values in a row have a mean near 0.
+fn next_value(
+    kind: Kind,
+    rng: &mut SplitMix64,
+    pattern: u32,
+    place: u32,
+    last: i32,
+    before: i32,
+) -> i32 {
+    let drawn = (rng.next_u32() >> 16) as i32 - 32768;
+    let value = match kind {
+        Kind::Walk => last.wrapping_add(drawn / 128),
+        Kind::Noise => drawn,
+        Kind::Resonance => {
+            let swing = last
+                .wrapping_mul(1900)
+                .wrapping_sub(before.wrapping_mul(1000));
+            (swing / 1024).wrapping_add(drawn / 16)
+        }
+        Kind::Constant => last,
+        Kind::Flutter if (place / 2 & pattern).count_ones() % 2 == 1 => drawn / 8 - 9000,
+        Kind::Flutter => drawn / 8 + 9000,
+    };
+    value.clamp(-32768, 32767)
+}
+
+/// The values of `count` series of `length` values.
+fn values_of(
+    alloc: Global,
+    rng: &mut SplitMix64,
+    kind: Kind,
+    count: u32,
+    length: u32,
+) -> Result<Vec<i16>, NoMemory> {
+    let mut values = Vec::new(alloc);
+    for _series in 0..count {
+        let mut before = 0;
+        let mut last = (rng.next_u32() % 7) as i32 * 1000;
+        let pattern = rng.next_u32() | 1;
+        for place in 0..length {
+            let value = next_value(kind, rng, pattern, place, last, before);
+            before = last;
+            last = value;
+            values.push(value.clamp(-32768, 32767) as i16)?;
+        }
+    }
+    Ok(values)
+}
+
+/// Whether the answers to each of the last two series, by an index of the others, are those of a plain sort.
+fn agree<T: Threads + Sync>(
+    rt: &T,
+    alloc: Global,
+    values: Vec<i16>,
+    length: u32,
+    k: u32,
+) -> Result<bool, NoMemory> {
+    if length < 1 || length > 65536 || k < 1 || k > 1024 {
+        return Err(NoMemory);
+    }
+    let n = length as usize;
+    if values.len() % n != 0 || values.len() > 16777216 {
+        return Err(NoMemory);
+    }
+    let rows = Flat::from_values(length, values);
+    let settings = Settings::new(length, length.min(16), Table::Bent, 8);
+    let index = build(rt, alloc, &rows, &settings, 1, &NoGate)?;
+    for number in 0..rows.count().min(3) {
+        let mut query = rows.row(number).to_vec(alloc)?;
+        for value in &mut query {
+            *value = value.wrapping_add(3);
+        }
+        if query.len() != n {
+            return Err(NoMemory);
+        }
+        let task = Task::new(&rows, &query, k, &settings.layout);
+        let found = one_worker_answer(alloc, &task, &index)?;
+        if !are_same(&found.items, &plain_nearest(alloc, &rows, &query, k)?) {
+            return Ok(false);
+        }
+    }
+    Ok(true)
+}
+
+#[test]
+fn every_kind_of_data(rt: HostRuntime) -> Result<(), Fail> {
+    let alloc = rt.alloc();
+    let mut rng = SplitMix64::seed_from_u64(5);
+    for kind in [Kind::Walk, Kind::Noise, Kind::Resonance, Kind::Constant] {
+        for (length, k) in [(1, 2), (5, 1), (100, 40), (130, 10), (260, 3)] {
+            let values = values_of(alloc, &mut rng, kind, 60, length)?;
+            assert!(rt;
+                agree(&rt, alloc, values, length, k)?,
+                "{k} of 60 series of {length} values, {kind:?}"
+            );
+        }
+    }
+    Ok(())
+}
+
+#[test]
+fn many_of_every_kind(rt: HostRuntime) -> Result<(), Fail> {
+    let alloc = rt.alloc();
+    let mut rng = SplitMix64::seed_from_u64(7);
+    for kind in [Kind::Walk, Kind::Noise, Kind::Resonance, Kind::Constant] {
+        for (length, k) in [(16, 65), (64, 300), (130, 1000)] {
+            let values = values_of(alloc, &mut rng, kind, 2000, length)?;
+            assert!(rt;
+                agree(&rt, alloc, values, length, k)?,
+                "{k} of 2000 series of {length} values, {kind:?}"
+            );
+        }
+    }
+    Ok(())
+}
+
+#[test]
+fn data_that_finer_means_alone_tell(rt: HostRuntime) -> Result<(), Fail> {
+    let alloc = rt.alloc();
+    let mut rng = SplitMix64::seed_from_u64(6);
+    for (length, k) in [(256, 1), (256, 3), (130, 2), (128, 3), (128, 100)] {
+        let values = values_of(alloc, &mut rng, Kind::Flutter, 3000, length)?;
+        assert!(rt;
+            agree(&rt, alloc, values, length, k)?,
+            "{k} of 3000 series of {length} values that flutter"
+        );
+    }
+    Ok(())
+}

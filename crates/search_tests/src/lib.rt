@@ -1,0 +1,16 @@
+//! Tests of the searches and of certificates, in a crate of their own: the gate proves a crate that has tests twice.
+//! It has no code: what a search promises stands at its own calls.
+#![tactic(auto)]
+
+#[cfg(test)]
+mod answers;
+#[cfg(test)]
+mod certificates;
+#[cfg(test)]
+mod discords;
+#[cfg(test)]
+mod radius;
+#[cfg(test)]
+mod threads;
+#[cfg(test)]
+mod workers;

@@ -1,0 +1,179 @@
+//! Indexes put together from parts: the worked one, and parts that make none.
+ghost use Rattle.std.specs.Prelude.{◌≤◌};
+
+use crate::worked::is_leaf;
+use breakpoints::Table;
+use isax_word::{Full, Layout};
+use segment_sums::Cuts;
+use std::alloc::Global;
+use std::test::Fail;
+use subtree_build::{Assembly, Index, MemberList, Node};
+use summary_phase::Member;
+
+/// The worked collection: four series of four values.
+const ROWS: [[i16; 4]; 4] = [
+    [0, 0, 0, 0],
+    [10, 10, 10, 10],
+    [-10, -10, -10, -10],
+    [0, 0, 10, 10],
+];
+
+/// The series of these numbers as members by two segments.
+fn listed(alloc: Global, numbers: &[u32]) -> Result<MemberList, Fail> {
+    let layout = Layout {
+        cuts: Cuts::new(4, 2),
+        table: Table::Flat,
+    };
+    let mut items = Vec::new(alloc);
+    for number in numbers {
+        let Some(row) = ROWS.get(*number as usize) else {
+            return Err(Fail::new("no such series"));
+        };
+        items.push(Member {
+            number: *number,
+            full: Full::of(&layout, row),
+        })?;
+    }
+    Ok(MemberList { items })
+}
+
+#[test]
+fn the_worked_parts(rt: HostRuntime) -> Result<(), Fail> {
+    let alloc = rt.alloc();
+    let mut leaves = Vec::new(alloc);
+    leaves.push(listed(alloc, &[2])?)?;
+    leaves.push(listed(alloc, &[0, 1, 3])?)?;
+    if leaves.len() > 2 {
+        return Err(Fail::new("two leaves were listed"));
+    }
+    let roots = vec![in alloc; 0, 3]?;
+    let nodes = vec![in alloc; Node::Leaf(0), Node::Leaf(1)]?;
+    let Ok(index) = Index::assemble(alloc, 2, roots, nodes, leaves) else {
+        return Err(Fail::new("the parts make an index"));
+    };
+    assert_eq!(rt; index.leaf_count(), 2, "leaves");
+    assert_eq!(rt; index.root_count(), 2, "root children");
+    assert!(rt;
+        is_leaf(&index, 0, &[(0, 1), (0, 1)], &[2]),
+        "the first leaf"
+    );
+    assert!(rt;
+        is_leaf(&index, 1, &[(1, 1), (1, 1)], &[0, 1, 3]),
+        "the second leaf"
+    );
+    Ok(())
+}
+
+/// A node that is split so often in one segment, each split with its low child alone, down to leaf 0.
+fn chain(alloc: Global, segment: u32, splits: u32) -> Result<Node, Fail> {
+    let mut node = Node::Leaf(0);
+    for _ in 0..splits {
+        let low = Box::new(alloc, node)?;
+        node = Node::Split {
+            segment,
+            low: Some(low),
+            high: None,
+        };
+    }
+    Ok(node)
+}
+
+/// A node that is split in segment 0 into leaves of two numbers.
+fn pair(alloc: Global, low: u32, high: u32) -> Result<Node, Fail> {
+    Ok(Node::Split {
+        segment: 0,
+        low: Some(Box::new(alloc, Node::Leaf(low))?),
+        high: Some(Box::new(alloc, Node::Leaf(high))?),
+    })
+}
+
+/// Whether root numbers of two segments, nodes and `count` empty leaves are refused.
+fn are_refused(alloc: Global, roots: &[u32], nodes: Vec<Node>, count: u32) -> Result<bool, Fail> {
+    let mut leaves = Vec::new(alloc);
+    for _ in 0..count {
+        leaves.push(listed(alloc, &[])?)?;
+    }
+    if leaves.len() > 10 {
+        return Err(Fail::new("that many leaves are not tried"));
+    }
+    let roots = roots.to_vec(alloc)?;
+    match Index::assemble(alloc, 2, roots, nodes, leaves) {
+        Ok(index) if index.leaf_count() == count => Ok(false),
+        Ok(_) => Err(Fail::new("another number of leaves")),
+        Err(Assembly::Parts) => Ok(true),
+        Err(Assembly::NoMemory) => Err(Fail::new("no memory for the index")),
+    }
+}
+
+/// A node that is split and has no child.
+fn childless() -> Node {
+    Node::Split {
+        segment: 0,
+        low: None,
+        high: None,
+    }
+}
+
+#[test]
+fn parts_that_make_an_index(rt: HostRuntime) -> Result<(), Fail> {
+    let alloc = rt.alloc();
+    let none = are_refused(alloc, &[], Vec::new(alloc), 0)?;
+    assert!(rt; !none, "no root child");
+    let deep = vec![in alloc; chain(alloc, 1, 7)?]?;
+    assert!(rt;
+        !are_refused(alloc, &[3], deep, 1)?,
+        "eight bits in a segment"
+    );
+    let both = vec![in alloc; pair(alloc, 0, 1)?, Node::Leaf(2)]?;
+    assert!(rt;
+        !are_refused(alloc, &[0, 2], both, 3)?,
+        "two children and a leaf"
+    );
+    Ok(())
+}
+
+#[test]
+fn parts_that_make_none(rt: HostRuntime) -> Result<(), Fail> {
+    let alloc = rt.alloc();
+    let two = vec![in alloc; Node::Leaf(0), Node::Leaf(1)]?;
+    assert!(rt; are_refused(alloc, &[1, 1], two, 2)?, "equal root numbers");
+    let two = vec![in alloc; Node::Leaf(0), Node::Leaf(1)]?;
+    assert!(rt;
+        are_refused(alloc, &[2, 1], two, 2)?,
+        "descending root numbers"
+    );
+    let one = vec![in alloc; Node::Leaf(0)]?;
+    assert!(rt;
+        are_refused(alloc, &[4], one, 1)?,
+        "a root number of three bits"
+    );
+    let one = vec![in alloc; Node::Leaf(0)]?;
+    assert!(rt;
+        are_refused(alloc, &[0, 1], one, 1)?,
+        "a root number without a node"
+    );
+    let deep = vec![in alloc; chain(alloc, 1, 8)?]?;
+    assert!(rt;
+        are_refused(alloc, &[3], deep, 1)?,
+        "nine bits in a segment"
+    );
+    let aside = vec![in alloc; chain(alloc, 2, 1)?]?;
+    assert!(rt;
+        are_refused(alloc, &[3], aside, 1)?,
+        "a segment past the last"
+    );
+    let empty = vec![in alloc; childless()]?;
+    assert!(rt;
+        are_refused(alloc, &[3], empty, 0)?,
+        "a split without child"
+    );
+    let turned = vec![in alloc; pair(alloc, 1, 0)?]?;
+    assert!(rt; are_refused(alloc, &[3], turned, 2)?, "leaves out of order");
+    let same = vec![in alloc; pair(alloc, 0, 0)?]?;
+    assert!(rt; are_refused(alloc, &[3], same, 1)?, "one leaf twice");
+    let few = vec![in alloc; Node::Leaf(0)]?;
+    assert!(rt; are_refused(alloc, &[3], few, 2)?, "a leaf below no node");
+    let many = vec![in alloc; pair(alloc, 0, 1)?]?;
+    assert!(rt; are_refused(alloc, &[3], many, 1)?, "a node of no leaf");
+    Ok(())
+}

@@ -1,0 +1,10 @@
+//! Tests of building, in a crate of their own: the gate proves a crate that has tests twice.
+//! It has no code: what an index promises stands at its own calls.
+#![tactic(auto)]
+
+#[cfg(test)]
+mod assembled;
+#[cfg(test)]
+mod drawn;
+#[cfg(test)]
+mod worked;
