@@ -1,5 +1,5 @@
 -- Rows of members, one behind another: how long they are (`values_long`), one row more (`one_row_more`),
--- where the row of a member lies (`row_there`), and so what its means are (`part_means`, `part_finer`).
+-- where the row of a member lies (`row_there`), and so what its means are (`part_means`, `part_codes`).
 use Rattle.std.proofs.Common.{◌≡◌, ℕ, ℤ, zero, suc, ◌+◌, ◌-◌, ◌*◌, ◌<◌, ◌≤◌, arith, sym, ap, ◌∙◌, List, [], ◌∷◌, ◌++◌, length, take, drop, get_or, All, append-nil, length-append, subst}
 use Rattle.std.specs.Prelude.{flat_map}
 use Rattle.std.proofs.Math.Nat.{mul-le-mul_right}
@@ -13,7 +13,7 @@ use Rattle.isax_word.specs.declared.member.Member.{Member}
 use Rattle.mean_bound.specs.Cells.{no_cells}
 use Rattle.mean_bound.specs.Finer.{part_cells, part_count}
 use Rattle.mean_bound.specs.Means.{row_means}
-use Rattle.subtree_build.specs.Means.{all_finer, all_means, all_values, finer_points}
+use Rattle.subtree_build.specs.Means.{all_codes, all_means, all_values, coded_points}
 use Rattle.subtree_build.specs.Members.{series_at}
 use Rattle.subtree_build.proofs.Meaning.{finer_place, means_there}
 
@@ -112,14 +112,14 @@ module _ (c : Collection) (members : List Member) (values : List ℤ) (i l : ℕ
       let some = element members i is.inside in
       ap (row_means layout.cuts) (own_row some.0 some.1) ∙ means_there c layout members i some.0 is.inside some.1
 
-  pub part_finer : (n p : ℕ) → n ≡ finer_points c → p < part_count n
+  pub part_codes : (n p : ℕ) → n ≡ coded_points c → p < part_count n
       → part_cells n (take (i * l + l - i * l) (drop (i * l) values)) p
-      ≡ get_or (all_finer c members) (i * part_count n + p) no_cells
-  part_finer n p same =
+      ≡ get_or (all_codes c members) (i * part_count n + p) no_cells
+  part_codes n p same =
       let some = element members i is.inside in
       subst (λ k. p < part_count k → part_cells k (take (i * l + l - i * l) (drop (i * l) values)) p
-      ≡ get_or (all_finer c members) (i * part_count k + p) no_cells) (sym same)
-      (λ low. ap (λ (xs : List ℤ). part_cells (finer_points c) xs p) (own_row some.0 some.1)
+      ≡ get_or (all_codes c members) (i * part_count k + p) no_cells) (sym same)
+      (λ low. ap (λ (xs : List ℤ). part_cells (coded_points c) xs p) (own_row some.0 some.1)
       ∙ finer_place c members i p some.0 is.inside low some.1)
 
 -- the values of a member alone are its row

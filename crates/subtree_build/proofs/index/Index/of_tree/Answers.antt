@@ -12,9 +12,9 @@ use Rattle.series_core.specs.Collection.{Collection}
 use Rattle.isax_word.specs.declared.layout.Layout.{Layout}
 use Rattle.subtree_build.specs.declared.part.Joined.{Joined}
 use Rattle.subtree_build.specs.Grown.{cut_leaves}
-use Rattle.subtree_build.specs.Places.{places_from, means_seen, finer_seen, AreAllSeen}
+use Rattle.subtree_build.specs.Places.{places_from, means_seen, codes_seen, AreAllSeen}
 use Rattle.subtree_build.proofs.Fitting.{tree_fits, real_in_tree}
-use Rattle.subtree_build.proofs.Meaning.{all_cut, means_are_own, finer_are_own, own_tables, tables_are}
+use Rattle.subtree_build.proofs.Meaning.{all_cut, means_are_own, codes_are_own, own_tables, tables_are}
 use Rattle.subtree_build.proofs.OfCollection.{IsReal}
 use Rattle.subtree_build.proofs.Growing.{length-cut}
 use Rattle.subtree_build.proofs.Indexing.{length-all_numbered, tree_is_index}
@@ -79,7 +79,7 @@ invariant_of-result g c =
     = c.in_ok-leaves.ensures ∙ ap (places_from 0) c.as_slice.ensures.value in
     let seen = tree_is_seen rows layout size c.segments-segments.result c.args.roots.items joined c.in_ok-leaves.leaves.items
     (means_seen c.in_ok-tables.tables.means.items c.in_ok-leaves.leaves.items)
-    (finer_seen c.in_ok-tables.tables.parts c.in_ok-tables.tables.finer.items c.in_ok-leaves.leaves.items)
+    (codes_seen c.in_ok-tables.tables.parts c.in_ok-tables.tables.codes.items c.in_ok-leaves.leaves.items)
     c.segments-segments.ensures.value c.requires.roots c.requires.nodes c.requires.leaves places in
     let long : length c.in_ok-leaves.leaves.items ≡ length (tree_leaves rows layout size) = omega (
       arith,
@@ -122,9 +122,9 @@ returns-clause-fits g c =
     tree_fits rows layout size _ c.segments-segments.ensures.divides
     (tree_is_seen rows layout size c.segments-segments.result c.args.roots.items joined c.in_ok-leaves.leaves.items
     (means_seen c.in_ok-tables.tables.means.items c.in_ok-leaves.leaves.items)
-    (finer_seen c.in_ok-tables.tables.parts c.in_ok-tables.tables.finer.items c.in_ok-leaves.leaves.items) c.segments-segments.ensures.value
+    (codes_seen c.in_ok-tables.tables.parts c.in_ok-tables.tables.codes.items c.in_ok-leaves.leaves.items) c.segments-segments.ensures.value
     c.requires.roots c.requires.nodes c.requires.leaves
     (c.in_ok-leaves.ensures ∙ ap (places_from 0) c.as_slice.ensures.value))
     (means_are_own rows layout joined.members.items c.in_ok-tables.tables.means.items c.in_ok-leaves.leaves.items own.means)
-    (ap (λ n. finer_seen n c.in_ok-tables.tables.finer.items c.in_ok-leaves.leaves.items) own.parts
-    ∙ finer_are_own rows joined.members.items c.in_ok-tables.tables.finer.items c.in_ok-leaves.leaves.items own.finer)
+    (ap (λ n. codes_seen n c.in_ok-tables.tables.codes.items c.in_ok-leaves.leaves.items) own.parts
+    ∙ codes_are_own rows joined.members.items c.in_ok-tables.tables.codes.items c.in_ok-leaves.leaves.items own.codes)

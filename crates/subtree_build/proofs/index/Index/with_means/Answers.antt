@@ -4,11 +4,11 @@ use Rattle.isax_word.specs.declared.member.Member.{Member}
 use Rattle.subtree_build.specs.declared.leaf.TreeLeaf.{TreeLeaf}
 use Rattle.subtree_build.specs.Assembly.{HasMeansOf}
 use Rattle.subtree_build.specs.Index.{IndexParts}
-use Rattle.subtree_build.specs.Places.{leaves_seen, means_seen, finer_seen}
+use Rattle.subtree_build.specs.Places.{leaves_seen, means_seen, codes_seen}
 use Rattle.subtree_build.proofs.Assembled.{other_means}
 use Rattle.subtree_build.proofs.InRow.{members_seen}
 use Rattle.subtree_build.proofs.LeafWords.{all_pieces}
-use Rattle.subtree_build.proofs.Meaning.{finer_are_own, means_are_own, own_tables, tables_are}
+use Rattle.subtree_build.proofs.Meaning.{codes_are_own, means_are_own, own_tables, tables_are}
 use Rattle.subtree_build.proofs.index.Index.with_means.Goals as goal
 
 pub tables_of-requires-clause-series : goal.tables_of-requires-clause-series
@@ -52,7 +52,7 @@ returns g c =
       nodes = x.nodes.items;
       leaves = leaves_seen x.members.items x.leaves.items;
       means = means_seen t.means.items x.leaves.items;
-      finer = finer_seen t.parts t.finer.items x.leaves.items;
+      codes = codes_seen t.parts t.codes.items x.leaves.items;
     } in
     let P : IndexParts → Type 0 = λ ix. HasMeansOf rows layout ix after in
     subst P c.self.view_is (record {
@@ -61,6 +61,6 @@ returns g c =
       nodes = refl;
       leaves = refl;
       own_means = means_are_own rows layout x.members.items t.means.items x.leaves.items own.means;
-      own_finer = ap (λ n. finer_seen n t.finer.items x.leaves.items) own.parts
-          ∙ finer_are_own rows x.members.items t.finer.items x.leaves.items own.finer;
+      own_codes = ap (λ n. codes_seen n t.codes.items x.leaves.items) own.parts
+          ∙ codes_are_own rows x.members.items t.codes.items x.leaves.items own.codes;
     })
