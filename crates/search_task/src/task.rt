@@ -116,8 +116,11 @@ impl<'a, R: Rows> Task<'a, R> {
 
     /// How many blocks of codes stand for a row.
     pub fn code_blocks(&self) -> usize
-        ensures { result ≡ block_count (coded_points self.now.collection) }
+        ensures count { result ≡ block_count (coded_points self.now.collection) }
+        ensures question { IsQuestion self.now }
     {
+        // for the fact that the task is a question
+        let _k = self.k();
         block_count(coded_length(self.rows)) as usize
     }
 
