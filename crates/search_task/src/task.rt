@@ -98,6 +98,13 @@ impl<'a, R: Rows> Task<'a, R> {
         self.rows.count()
     }
 
+    /// How many values each row has.
+    pub fn row_length(&self) -> usize
+        ensures { result ≡ length self.now.query }
+    {
+        self.query.len()
+    }
+
     /// The query as bounds by means see it.
     pub fn means(&self) -> &MeanView
         ensures means { result.now ≡ mean_view_of self.now.layout.cuts self.now.query }
