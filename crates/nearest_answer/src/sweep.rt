@@ -13,11 +13,7 @@ use search_task::{Search, Task, codes_at_place, most_to_add};
 use series_core::{KBest, Rows};
 
 /// The list of the answer, by the codes of all members' rows, in an empty list's room.
-pub(crate) fn answer_by_codes<R: Rows>(
-    search: &Search<'_, R>,
-    limit: u64,
-    mut list: KBest,
-) -> KBest
+pub(crate) fn answer_by_codes<R: Rows>(search: &Search<'_, R>, limit: u64, mut list: KBest) -> KBest
     requires limit { last_of search.now.question ≤ limit }
     requires empty { list ≡ record { k = search.now.question.k; pairs = [] } }
     ensures { let a = search.now.question in result.pairs ≡ answer a.collection a.query a.k }

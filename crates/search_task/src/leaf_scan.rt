@@ -40,19 +40,6 @@ impl<'a, R: Rows> Search<'a, R> {
         }
     }
 
-    /// Whether the codes of the member at a place of a leaf do not lie above the limit. Where they do, so does its distance.
-    pub fn codes_may_be_within(&self, leaf: u32, place: usize, limit: &CodeLimit) -> bool
-        requires leaf { leaf < length self.now.index.leaves }
-        requires place { place < length (leaf_series self.now.index leaf) }
-        ensures { result ≡ false
-            → limit.now < (ground_of self.now).distance (slice_index (leaf_series self.now.index leaf) place) }
-    {
-        let members = self.index.leaf_members(leaf);
-        let codes = self.index.leaf_codes(leaf);
-        let own = codes_at_place(codes, self.task.code_blocks(), place);
-        self.task.codes_may_be_within(&members[place], own, limit)
-    }
-
     /// The same for each member of a leaf, but where the box of their means is too far, nothing of the leaf is read.
     pub fn scan_boxed(&self, leaf: u32, limit: u64, list: &mut KBest)
         requires leaf { leaf < length self.now.index.leaves }
@@ -66,6 +53,20 @@ impl<'a, R: Rows> Search<'a, R> {
             return;
         }
         self.scan_leaf(leaf, limit, list);
+    }
+
+    /// Whether the codes of the member at a place of a leaf do not lie above the limit. Where they do, so does its distance.
+    pub fn codes_may_be_within(&self, leaf: u32, place: usize, limit: &CodeLimit) -> bool
+        requires leaf { leaf < length self.now.index.leaves }
+        requires place { place < length (leaf_series self.now.index leaf) }
+        ensures { result ≡ false
+            → limit.now < (ground_of self.now).distance (slice_index (leaf_series self.now.index leaf) place) }
+    {
+        let members = self.index.leaf_members(leaf);
+        let codes = self.index.leaf_codes(leaf);
+        let member = &members[place];
+        let own = codes_at_place(codes, self.task.code_blocks(), place);
+        self.task.codes_may_be_within(member, own, limit)
     }
 
     /// A bound that is above the distance of no member of the leaf: that of the box of their means.
@@ -148,7 +149,12 @@ impl<'a, R: Rows> Task<'a, R> {
     }
 
     /// Whether the member's codes do not lie above the limit. Where they do, so does its distance.
-    pub fn codes_may_be_within(&self, member: &Member, codes: &[CodeBlock], limit: &CodeLimit) -> bool
+    pub fn codes_may_be_within(
+        &self,
+        member: &Member,
+        codes: &[CodeBlock],
+        limit: &CodeLimit,
+    ) -> bool
         requires member { IsMemberOf self.now member.now }
         requires codes { codes.now ≡ codes_of_member self.now.collection member.now }
         ensures { result ≡ false
