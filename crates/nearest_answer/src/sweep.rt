@@ -1,11 +1,10 @@
 //! The sweep: the answer by the codes of all members' rows, one after another as they lie in memory. No box and no means of a leaf are
 //! looked at.
-ghost use Rattle.std.specs.Prelude.{◌≡◌, ◌≤◌, [], All};
+ghost use Rattle.std.specs.Prelude.{◌≡◌, ◌≤◌, []};
 ghost use Rattle.series_core.specs.Answer.{answer};
-ghost use Rattle.subtree_build.specs.Means.{all_codes};
 ghost use Rattle.subtree_build.specs.Members.{numbers_of};
-ghost use Rattle.search_task.specs.Questions.{IsMemberOf, last_of};
-ghost use Rattle.search_task.specs.Scanning.{AreScanned};
+ghost use Rattle.search_task.specs.Questions.{last_of};
+ghost use Rattle.search_task.specs.Scanning.{AreCoded, AreScanned};
 
 use isax_word::Member;
 use row_codes::{CodeBlock, CodeLimit};
@@ -37,8 +36,7 @@ fn sweep<R: Rows>(
     limit: u64,
     list: &mut KBest,
 )
-    requires members { All (IsMemberOf task.now) members.now }
-    requires codes { codes.now ≡ all_codes task.now.collection members.now }
+    requires coded { AreCoded task.now members.now codes.now }
     requires k { list.old.k ≡ task.now.k }
     ensures k { list.new.k ≡ task.now.k }
     ensures pairs { AreScanned task.now limit (numbers_of members.now) list.old.pairs list.new.pairs }

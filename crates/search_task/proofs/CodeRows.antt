@@ -1,6 +1,6 @@
--- The codes of members in one row: those of each stand behind those of the members before it (`HaveCodes`, `codes_within`, `codes_at_one`), and they are
+-- The codes of members in one row, as of a leaf (`leaf_coded`): those of each stand behind those of the members before it (`codes_within`, `codes_at_one`), and they are
 -- codes for the query (`codes_fit`), whose bound is at most the distance (`codes_are_below`). An index has them in one row for all its
--- members (`all_are_members`, `all_code_rows`), and so meets each series once (`each_met`).
+-- members (`all_coded`), and so meets each series once (`each_met`).
 use Rattle.std.proofs.Common.{◌≡◌, ◌∙◌, ◌+◌, ◌*◌, ◌<◌, ◌≤◌, ◌++◌, Bool, true, false, cond, ℕ, ℤ, List, length, map, take, drop, get_or, [], ◌∷◌, refl, ap, sym, subst, arith}
 use Rattle.std.specs.Prelude.{flat_map, ltb}
 use Rattle.std.specs.List.{All}
@@ -27,43 +27,35 @@ use Rattle.subtree_build.proofs.LeafWords.{all_pieces}
 use Rattle.subtree_build.proofs.MemberCodes.{codes_of_leaf, codes_of_one, length_codes}
 use Rattle.subtree_build.proofs.OfCollection.{IsReal}
 use Rattle.search_task.specs.Questions.{CanBeSearched, IsMemberOf, IsQuestion, Question, coded_query}
+use Rattle.search_task.specs.Scanning.{AreCoded}
 use Rattle.search_task.proofs.Homes.{leaf_is_members}
 
 -- members of a question are series of its collection
 pub are_real : (a : Question) (members : List Member) → All (IsMemberOf a) members → All (IsReal a.collection) members
 are_real a members are i d inside = (are i d inside).series
 
--- members of the question's collection and their codes, with so many blocks each
-pub record HaveCodes (a : Question) (members : List Member) (codes : List Block) (n : ℕ) : Type 0 where
-  pub question : IsQuestion a
-  pub members : All (IsMemberOf a) members
-  pub codes : codes ≡ all_codes a.collection members
-  pub blocks : n ≡ block_count (coded_points a.collection)
-
--- a leaf's members have their codes
-pub leaf_has_codes : (a : Question) (ix : IndexParts) (l : ℕ) (members : List Member) (codes : List Block) (n : ℕ)
+-- a leaf's members and their codes
+pub leaf_coded : (a : Question) (ix : IndexParts) (l : ℕ) (members : List Member) (codes : List Block)
     → CanBeSearched a ix → l < length ix.leaves → members ≡ (leaf_at ix.leaves l).members → codes ≡ codes_at ix.codes l
-    → n ≡ block_count (coded_points a.collection) → HaveCodes a members codes n
-leaf_has_codes a ix l members codes n searched real are is blocks = record {
-  question = searched.question;
+    → AreCoded a members codes
+leaf_coded a ix l members codes searched real are is = record {
   members = subst (λ (ms : List Member). All (IsMemberOf a) ms) (sym are) (leaf_is_members a ix l searched real);
   codes = is ∙ codes_of_leaf a.collection a.layout ix l searched.fits real ∙ ap (all_codes a.collection) (sym are);
-  blocks = blocks;
 }
 
-module _ (a : Question) (members : List Member) (codes : List Block) (n i : ℕ) (have : HaveCodes a members codes n)
-    (inside : i < length members) where
+module _ (a : Question) (members : List Member) (codes : List Block) (n i : ℕ) (question : IsQuestion a)
+    (coded : AreCoded a members codes) (blocks : n ≡ block_count (coded_points a.collection)) (inside : i < length members) where
   -- each member is one of the collection
   pub member_at : (m : Member) → m ≡ get_or members i m → IsMemberOf a m
-  member_at m item = subst (IsMemberOf a) (sym item) (All-get_or (IsMemberOf a) members i m inside have.members)
+  member_at m item = subst (IsMemberOf a) (sym item) (All-get_or (IsMemberOf a) members i m inside coded.members)
 
   -- what stands for one member lies within what stands for all
   pub codes_within : i * n + n ≤ length codes
   codes_within =
       let long : length codes ≡ length members * n
-      = ap (λ (cs : List Block). length cs) have.codes
-      ∙ length_codes a.collection have.question.collection members (are_real a members have.members)
-      ∙ ap (λ k. length members * k) (sym have.blocks) in
+      = ap (λ (cs : List Block). length cs) coded.codes
+      ∙ length_codes a.collection question.collection members (are_real a members coded.members)
+      ∙ ap (λ k. length members * k) (sym blocks) in
       let low : (i + 1) * n ≤ length members * n = mul-le-mul_right n (omega (arith, inside)) in
       omega (arith, low, long)
 
@@ -72,9 +64,9 @@ module _ (a : Question) (members : List Member) (codes : List Block) (n i : ℕ)
       → own ≡ codes_of_member a.collection m
   codes_at_one own m item is =
       is
-      ∙ ap (λ (cs : List Block). take n (drop (i * n) cs)) have.codes
-      ∙ ap (λ k. take k (drop (i * k) (all_codes a.collection members))) have.blocks
-      ∙ codes_of_one a.collection have.question.collection members i m (are_real a members have.members) inside item
+      ∙ ap (λ (cs : List Block). take n (drop (i * n) cs)) coded.codes
+      ∙ ap (λ k. take k (drop (i * k) (all_codes a.collection members))) blocks
+      ∙ codes_of_one a.collection question.collection members i m (are_real a members coded.members) inside item
 
 -- of a row that is coded as far as it is long, or by one value, as many values are coded as of a query of its length
 coded_alike : (none : Bool) (n : ℕ) (x q : List ℤ) → length x ≡ n → length q ≡ n → 0 < n
@@ -123,7 +115,7 @@ module _ (a : Question) (m : Member) (is : IsQuestion a) (real : m.number < leng
       (is.query ∙ sym is.points)
 
 -- the members of all leaves are members of the question's collection
-pub all_are_members : (a : Question) (ix : IndexParts) → CanBeSearched a ix
+all_are_members : (a : Question) (ix : IndexParts) → CanBeSearched a ix
     → All (IsMemberOf a) (flat_map (λ (x : TreeLeaf). x.members) ix.leaves)
 all_are_members a ix searched =
     let P : TreeLeaf → Type 0 = λ x. All (IsMemberOf a) x.members in
@@ -139,11 +131,15 @@ of_leaves c (x ∷ leaves) =
     ap (λ (cs : List Block). leaf_codes c x ++ cs) (of_leaves c leaves)
     ∙ sym (flat_map-append (codes_of_member c) x.members (flat_map (λ (y : TreeLeaf). y.members) leaves))
 
--- so are those of an index that fits
-pub all_code_rows : (c : Collection) (layout : Layout) (ix : IndexParts) → IndexFits c layout ix
-    → flat_map (λ (cs : List Block). cs) ix.codes ≡ all_codes c (flat_map (λ (x : TreeLeaf). x.members) ix.leaves)
-all_code_rows c layout ix fits =
-    ap (flat_map (λ (cs : List Block). cs)) fits.own_codes ∙ of_leaves c ix.leaves
+-- so all members of an index that fits have their codes
+pub all_coded : (a : Question) (ix : IndexParts) (members : List Member) (codes : List Block) → CanBeSearched a ix
+    → members ≡ flat_map (λ (x : TreeLeaf). x.members) ix.leaves → codes ≡ flat_map (λ (cs : List Block). cs) ix.codes
+    → AreCoded a members codes
+all_coded a ix members codes searched are is = record {
+  members = subst (λ (ms : List Member). All (IsMemberOf a) ms) (sym are) (all_are_members a ix searched);
+  codes = is ∙ ap (flat_map (λ (cs : List Block). cs)) searched.fits.own_codes ∙ of_leaves a.collection ix.leaves
+      ∙ ap (all_codes a.collection) (sym are);
+}
 
 -- a number stands among those of all members as often as in all leaves
 times_in_all : (s : ℕ) (leaves : List TreeLeaf)

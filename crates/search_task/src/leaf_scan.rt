@@ -2,11 +2,11 @@
 //! of its means. A row that is passed over is not read.
 ghost use Rattle.std.specs.Prelude.{◌≡◌, ◌+◌, ◌*◌, ◌<◌, ◌≤◌, false, length, take, drop, slice_index};
 ghost use Rattle.series_core.specs.Distance.{squared_distance};
-ghost use Rattle.subtree_build.specs.Means.{codes_of_member, means_of};
-ghost use Rattle.subtree_build.specs.Members.{series_at};
+ghost use Rattle.subtree_build.specs.Means.{all_means, codes_of_member, means_of};
+ghost use Rattle.subtree_build.specs.Members.{numbers_of, series_at};
 ghost use Rattle.search_task.specs.LeafBounds.{IsBelowLeaf, IsBelowLeaves};
 ghost use Rattle.search_task.specs.Questions.{IsMemberOf, ground_of, leaf_bound, leaf_series, view_in};
-ghost use Rattle.search_task.specs.Scanning.{AreScanned, IsScannedOne, MayAdd};
+ghost use Rattle.search_task.specs.Scanning.{AreCoded, AreScanned, IsScannedOne, MayAdd};
 
 use crate::scan::most_to_add;
 use crate::search::Search;
@@ -25,19 +25,11 @@ impl<'a, R: Rows> Search<'a, R> {
         ensures k { list.new.k ≡ self.now.question.k }
         ensures pairs { AreScanned self.now.question limit (leaf_series self.now.index leaf) list.old.pairs list.new.pairs }
     {
-        let task = self.task;
         let index = self.index;
         let members = index.leaf_members(leaf);
         let means = index.leaf_means(leaf);
         let codes = index.leaf_codes(leaf);
-        let blocks = task.code_blocks();
-        let mut most = CodeLimit::new(most_to_add(limit, list));
-        for i in 0..members.len() {
-            let member = &members[i];
-            let own = codes_at_place(codes, blocks, i);
-            let near = task.may_be_within(member, &means[i], own, &most);
-            most = task.measure_near(near, member, limit, most, list);
-        }
+        self.task.scan_members(members, means, codes, limit, list);
     }
 
     /// The same for each member of a leaf, but where the box of their means is too far, nothing of the leaf is read.
@@ -105,6 +97,31 @@ impl<'a, R: Rows> Search<'a, R> {
 }
 
 impl<'a, R: Rows> Task<'a, R> {
+    // Scans members with this limit into a list: one is passed over by its means, or else by the codes of its row, or else measured.
+    fn scan_members(
+        &self,
+        members: &[Member],
+        means: &[Means],
+        codes: &[CodeBlock],
+        limit: u64,
+        list: &mut KBest,
+    )
+        requires means { means.now ≡ all_means self.now.collection self.now.layout members.now }
+        requires coded { AreCoded self.now members.now codes.now }
+        requires k { list.old.k ≡ self.now.k }
+        ensures k { list.new.k ≡ self.now.k }
+        ensures pairs { AreScanned self.now limit (numbers_of members.now) list.old.pairs list.new.pairs }
+    {
+        let blocks = self.code_blocks();
+        let mut most = CodeLimit::new(most_to_add(limit, list));
+        for i in 0..members.len() {
+            let member = &members[i];
+            let own = codes_at_place(codes, blocks, i);
+            let near = self.may_be_within(member, &means[i], own, &most);
+            most = self.measure_near(near, member, limit, most, list);
+        }
+    }
+
     /// Adds the member's pair where it is near and its distance is at most `most`, and tells what is then the most. As a limit of codes it
     /// is made anew only where it changes.
     pub fn measure_near(

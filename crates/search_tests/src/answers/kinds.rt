@@ -113,7 +113,7 @@ const KINDS: [Kind; 6] = [
     Kind::Constant,
 ];
 
-// Lengths beside those at which a row has one block of codes more, each with how many of 60 series are asked for.
+// Lengths beside those at which a row has one block of codes more, each with how many of 24 series are asked for.
 const LENGTHS: [(u32, u32); 14] = [
     (1, 2),
     (5, 1),
@@ -137,10 +137,10 @@ fn every_kind_of_data(rt: HostRuntime) -> Result<(), Fail> {
     let mut rng = SplitMix64::seed_from_u64(5);
     for kind in KINDS {
         for (length, k) in LENGTHS {
-            let values = values_of(alloc, &mut rng, kind, 60, length)?;
+            let values = values_of(alloc, &mut rng, kind, 24, length)?;
             assert!(rt;
                 agree(&rt, alloc, values, length, k)?,
-                "{k} of 60 series of {length} values, {kind:?}"
+                "{k} of 24 series of {length} values, {kind:?}"
             );
         }
     }
@@ -152,11 +152,11 @@ fn many_of_every_kind(rt: HostRuntime) -> Result<(), Fail> {
     let alloc = rt.alloc();
     let mut rng = SplitMix64::seed_from_u64(7);
     for kind in KINDS {
-        for (length, k) in [(16, 65), (64, 300), (130, 1000), (256, 1), (257, 10)] {
-            let values = values_of(alloc, &mut rng, kind, 1200, length)?;
+        for (length, k) in [(16, 65), (130, 1000), (256, 1), (257, 10)] {
+            let values = values_of(alloc, &mut rng, kind, 200, length)?;
             assert!(rt;
                 agree(&rt, alloc, values, length, k)?,
-                "{k} of 1200 series of {length} values, {kind:?}"
+                "{k} of 200 series of {length} values, {kind:?}"
             );
         }
     }

@@ -1,38 +1,27 @@
 -- All members were scanned, each series once, so the list is the answer.
 use Rattle.std.proofs.Common.{◌≡◌, ◌∙◌, ◌≤◌, List, [], ap, sym, subst, arith}
 use Rattle.std.specs.Prelude.{flat_map}
-use Rattle.std.specs.List.{All}
 use Rattle.isax_word.specs.declared.member.Member.{Member}
 use Rattle.series_core.specs.Answer.{answer}
 use Rattle.series_core.specs.Best.{Best}
 use Rattle.series_core.specs.declared.pair.Pair.{Pair}
 use Rattle.subtree_build.specs.declared.leaf.TreeLeaf.{TreeLeaf}
-use Rattle.subtree_build.specs.Means.{all_codes}
 use Rattle.subtree_build.specs.Members.{numbers_of}
 use Rattle.search_machine.specs.Ground.{last, scan}
-use Rattle.search_task.specs.Questions.{IsMemberOf, Question, last_of, search_over}
-use Rattle.search_task.proofs.CodeRows.{all_are_members, all_code_rows, each_met}
+use Rattle.search_task.specs.Questions.{Question, last_of, search_over}
+use Rattle.search_task.proofs.CodeRows.{all_coded, each_met}
 use Rattle.search_task.proofs.OfIndex.{answer_is, last_is, search_fits}
 use Rattle.search_task.proofs.Searching.{lent_searched}
 use Rattle.nearest_answer.proofs.Nearest.{answer_scanned}
 use Rattle.nearest_answer.proofs.sweep.answer_by_codes.Goals as goal
 
-pub sweep-requires-clause-members : goal.sweep-requires-clause-members
-sweep-requires-clause-members g c =
+pub sweep-requires-clause-coded : goal.sweep-requires-clause-coded
+sweep-requires-clause-coded g c =
     let a = c.task.result.now in
     let ix = c.index-index.result.now in
-    subst (λ (ms : List Member). All (IsMemberOf a) ms) (sym c.members.ensures)
-    (all_are_members a ix (lent_searched c.args.search.now a ix c.task.ensures.task c.index-index.ensures.index c.task.ensures.searched))
-
-pub sweep-requires-clause-codes : goal.sweep-requires-clause-codes
-sweep-requires-clause-codes g c =
-    let a = c.task.result.now in
-    let ix = c.index-index.result.now in
-    let searched
-    = lent_searched c.args.search.now a ix c.task.ensures.task c.index-index.ensures.index c.task.ensures.searched in
-    c.codes.ensures
-    ∙ all_code_rows a.collection a.layout ix searched.fits
-    ∙ ap (all_codes a.collection) (sym c.members.ensures)
+    all_coded a ix c.members.result.now c.codes.result.now
+    (lent_searched c.args.search.now a ix c.task.ensures.task c.index-index.ensures.index c.task.ensures.searched)
+    c.members.ensures c.codes.ensures
 
 pub returns : goal.returns
 returns g c =

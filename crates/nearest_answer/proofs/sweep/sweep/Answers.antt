@@ -1,29 +1,30 @@
 -- One member more was scanned; its codes stand behind those of the members before it.
-use Rattle.search_task.proofs.CodeRows.{codes_at_one, codes_within}
+use Rattle.search_task.proofs.CodeRows.{codes_at_one, codes_within, member_at}
 use Rattle.search_task.proofs.Meeting.{all_scanned, member_scanned}
 use Rattle.nearest_answer.proofs.sweep.sweep.Goals as goal
 
 pub codes_at_place-own-requires : goal.codes_at_place-own-requires
 codes_at_place-own-requires g c =
-    codes_within c.args.task.now c.args.members.now c.args.codes.now c.code_blocks-blocks.result c.loop-i.i
-    (record {
-      question = c.code_blocks-blocks.ensures.question;
-      members = c.requires.members;
-      codes = c.requires.codes;
-      blocks = c.code_blocks-blocks.ensures.count;
-    })
-    c.loop-i-test.true
+    codes_within c.args.task.now c.args.members.now c.args.codes.now c.code_blocks-blocks.result c.loop-i.i c.code_blocks-blocks.ensures.question
+    c.requires.coded c.code_blocks-blocks.ensures.count c.loop-i-test.true
+
+pub codes_may_be_within-near-requires-clause-member : goal.codes_may_be_within-near-requires-clause-member
+codes_may_be_within-near-requires-clause-member g c =
+    member_at c.args.task.now c.args.members.now c.args.codes.now c.code_blocks-blocks.result c.loop-i.i c.code_blocks-blocks.ensures.question
+    c.requires.coded c.code_blocks-blocks.ensures.count c.loop-i-test.true
+    c.index-members-i.result c.index-members-i.is
+
+pub measure_near-most-requires-clause-member : goal.measure_near-most-requires-clause-member
+measure_near-most-requires-clause-member g c =
+    member_at c.args.task.now c.args.members.now c.args.codes.now c.code_blocks-blocks.result c.loop-i.i c.code_blocks-blocks.ensures.question
+    c.requires.coded c.code_blocks-blocks.ensures.count c.loop-i-test.true
+    c.index-members-i.result c.index-members-i.is
 
 pub codes_may_be_within-near-requires-clause-codes : goal.codes_may_be_within-near-requires-clause-codes
 codes_may_be_within-near-requires-clause-codes g c =
-    codes_at_one c.args.task.now c.args.members.now c.args.codes.now c.code_blocks-blocks.result c.loop-i.i
-    (record {
-      question = c.code_blocks-blocks.ensures.question;
-      members = c.requires.members;
-      codes = c.requires.codes;
-      blocks = c.code_blocks-blocks.ensures.count;
-    })
-    c.loop-i-test.true c.codes_at_place-own.result.now c.index-members-i.result c.index-members-i.is c.codes_at_place-own.ensures
+    codes_at_one c.args.task.now c.args.members.now c.args.codes.now c.code_blocks-blocks.result c.loop-i.i c.code_blocks-blocks.ensures.question
+    c.requires.coded c.code_blocks-blocks.ensures.count c.loop-i-test.true
+    c.codes_at_place-own.result.now c.index-members-i.result c.index-members-i.is c.codes_at_place-own.ensures
 
 pub loop-i-preserved : goal.loop-i-preserved
 loop-i-preserved g c =

@@ -8,7 +8,7 @@ use Rattle.subtree_build.specs.Index.{leaf_at}
 use Rattle.subtree_build.specs.Members.{numbers_of, series_at}
 use Rattle.search_task.specs.Questions.{Searched, ground_of, leaf_series}
 use Rattle.search_task.proofs.Searching.{leaf_is_there}
-use Rattle.search_task.proofs.CodeRows.{codes_at_one, codes_within, leaf_has_codes, member_at}
+use Rattle.search_task.proofs.CodeRows.{codes_at_one, codes_within, leaf_coded, member_at}
 use Rattle.search_task.proofs.search.Search.codes_may_be_within.Goals as goal
 
 -- a place of a leaf is one of its members, as they are lent

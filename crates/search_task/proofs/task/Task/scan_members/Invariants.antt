@@ -2,7 +2,7 @@
 use Rattle.std.proofs.Common.{take}
 use Rattle.subtree_build.specs.Members.{numbers_of}
 use Rattle.search_task.proofs.Meeting.{IsScanning}
-use Rattle.search_task.proofs.search.Search.scan_leaf.Given as goal
+use Rattle.search_task.proofs.task.Task.scan_members.Given as goal
 
 abbrev pub invariant-loop-i : goal.invariant-loop-i
-invariant-loop-i g l = IsScanning l.task l.fn.limit (numbers_of (take l.i l.members)) l.fn.list.pairs l.list l.most
+invariant-loop-i g l = IsScanning l.self l.fn.limit (numbers_of (take l.i l.fn.members)) l.fn.list.pairs l.list l.most
