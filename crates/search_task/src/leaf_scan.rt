@@ -142,6 +142,7 @@ impl<'a, R: Rows> Task<'a, R> {
 
     /// Adds the member's pair where it is near and its distance is at most `most`, and tells what is then the most. As a limit of codes it
     /// is made anew only where it changes.
+    #[inline(always)]
     pub fn measure_near(
         &self,
         near: bool,
