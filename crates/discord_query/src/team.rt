@@ -16,8 +16,8 @@ use claim_word::{ClaimPass, Claims};
 use outside::{Gate, NoMemory};
 use series_core::{KBest, NONE, Pair, Rows};
 use std::alloc::Global;
-use std::thread;
 use std::thread::Threads;
+use worker_team::for_each_mut;
 
 /// A worker for each fresh pass over the series, with a fresh pass over the limit and an empty list.
 pub(crate) fn hire<R: Rows>(
@@ -157,7 +157,7 @@ fn work<R: Rows, G: Gate>(
     worker.ended = draw_all(alloc, search, claims, best, gate, worker).is_ok();
 }
 
-/// Lets the workers draw side by side, each in a thread of its own; a worker alone starts no thread.
+/// Lets the workers draw side by side, each in a thread of its own that the caller starts; a worker alone starts no thread.
 pub(crate) fn draw_together<T: Threads + Sync, R: Rows + Sync, G: Gate + Sync>(
     rt: &T,
     alloc: Global,
@@ -177,11 +177,9 @@ pub(crate) fn draw_together<T: Threads + Sync, R: Rows + Sync, G: Gate + Sync>(
     ensures done { let c = R.collection search.now.rows.now in
         All (λ w. w.ended ≡ true → IsDone c search.now.k w.pass w.list) team.new.items }
 {
-    let workers = team.len();
-    thread::for_each_mut(
+    for_each_mut(
         rt,
         team.as_mut_slice(),
-        workers,
         &|_, worker| work(alloc, search, claims, best, gate, worker),
     );
 }

@@ -7,7 +7,7 @@ ghost use Rattle.subtree_build.specs.Fits.{Fits as IndexFits};
 use crate::all_rows::answer_by_rows;
 use crate::by_leaves::nearest_by_leaves;
 use crate::first_limit::{first_limit, limit_and_guess};
-use crate::sweep::answer_by_finer_means;
+use crate::sweep::answer_by_codes;
 use crate::telling::{ApartBy, means_tell_little, what_tells};
 use crate::tuning::{CLOSER_MEMBERS, CLOSER_PART, FIRST_MEMBERS, MOST_RANKS_BY_SAMPLE};
 use outside::NoMemory;
@@ -32,7 +32,7 @@ pub fn one_worker_answer<R: Rows>(
     })
 }
 
-// The list of the answer: by leaves where means tell series apart, else by their finer means alone, and else by all rows.
+// The list of the answer: by leaves where means tell series apart, else by the codes of all rows, and else by all rows themselves.
 fn nearest<R: Rows>(alloc: Global, search: &Search<'_, R>) -> Result<KBest, NoMemory>
     ensures { let a = search.now.question in IfOk result (λ best. best.pairs ≡ answer a.collection a.query a.k) }
 {
@@ -54,7 +54,7 @@ fn nearest_of_many<R: Rows>(alloc: Global, search: &Search<'_, R>) -> Result<KBe
     let (wide, guess) = limit_and_guess(alloc, search)?;
     match what_tells(search, guess) {
         ApartBy::Nothing => answer_by_rows(alloc, search, wide),
-        ApartBy::Means | ApartBy::FinerMeans => nearest_by_leaves(alloc, search, wide),
+        ApartBy::Means | ApartBy::Codes => nearest_by_leaves(alloc, search, wide),
     }
 }
 
@@ -66,9 +66,9 @@ fn nearest_by_sample<R: Rows>(alloc: Global, search: &Search<'_, R>) -> Result<K
     let close = first_limit(alloc, search, CLOSER_MEMBERS)?;
     match what_tells(search, close - close / CLOSER_PART) {
         ApartBy::Means => nearest_by_leaves(alloc, search, close),
-        ApartBy::FinerMeans => {
+        ApartBy::Codes => {
             let empty = KBest::new(alloc, search.k())?;
-            Ok(answer_by_finer_means(search, close, empty))
+            Ok(answer_by_codes(search, close, empty))
         }
         ApartBy::Nothing => answer_by_rows(alloc, search, close),
     }

@@ -11,7 +11,7 @@ ghost use Rattle.nearest_answer.specs.NearLeaves.{IsLeafEntry, leaves_in, within
 
 use crate::all_rows::answer_by_rows;
 use crate::near_leaves::{near_leaves, scan_entries, scan_entry};
-use crate::sweep::answer_by_finer_means;
+use crate::sweep::answer_by_codes;
 use crate::telling::{ApartBy, what_tells};
 use crate::tuning::{
     CLOSEST_LEAVES, CLOSEST_MEMBERS, CLOSEST_MEMBERS_EACH, MOST_RANKS_BY_SAMPLE,
@@ -32,7 +32,7 @@ enum Order {
 }
 
 /// The list of the answer, by the leaves that may have a member within the limit, or where the closer limit shows that means tell
-/// too little, by the finer means of all members or by all rows.
+/// too little, by the codes of all members' rows or by these themselves.
 pub(crate) fn nearest_by_leaves<R: Rows>(
     alloc: Global,
     search: &Search<'_, R>,
@@ -53,9 +53,9 @@ pub(crate) fn nearest_by_leaves<R: Rows>(
     let limit = scan_closest(alloc, search, closest, first, &mut list)?;
     match what_tells(search, limit) {
         ApartBy::Means => {}
-        ApartBy::FinerMeans => {
+        ApartBy::Codes => {
             let empty = KBest::new(alloc, k)?;
-            return Ok(answer_by_finer_means(search, limit, empty));
+            return Ok(answer_by_codes(search, limit, empty));
         }
         ApartBy::Nothing => return answer_by_rows(alloc, search, limit),
     }

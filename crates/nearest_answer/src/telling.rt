@@ -1,21 +1,26 @@
-//! What tells members apart for a limit, as a sample of leaves shows it: their means, their finer means alone, or nothing.
+//! What tells members apart for a limit, as a sample of leaves shows it: their means, the codes of their rows alone, or nothing.
 //! A wrong guess costs time, and never changes what is found.
-use crate::tuning::{SAMPLE_LEAVES, SAMPLE_MEMBERS, SHARE_BY_LEAVES, SHARE_OF, SHARE_TO_SWEEP};
-use mean_bound::{MeanCells, Means};
-use search_task::{Search, Task};
+ghost use Rattle.std.specs.Prelude.{◌<◌, length};
+ghost use Rattle.search_task.specs.Questions.{leaf_series};
+
+use crate::tuning::{
+    LEAST_VALUES_TO_SWEEP, SAMPLE_LEAVES, SAMPLE_MEMBERS, SHARE_BY_LEAVES, SHARE_OF, SHARE_TO_SWEEP,
+};
+use row_codes::CodeLimit;
+use search_task::Search;
 use series_core::Rows;
 
 /// What tells the members apart that are farther than a limit.
 pub(crate) enum ApartBy {
-    /// Their means tell it of half of them at least, and their finer means of nearly all.
+    /// Their means tell it of half of them at least, and codes of most others.
     Means,
-    /// Their means tell it of fewer than half of them, but their finer means of nearly all.
-    FinerMeans,
-    /// Neither tells it of nearly all.
+    /// Their means tell it of fewer than half of them, but codes of most.
+    Codes,
+    /// Neither tells it of most.
     Nothing,
 }
 
-// How many members were tried, how many of them their means leave near, and how many of these their finer means too.
+// How many members were tried, how many of them their means leave near, and how many of these their codes too.
 #[derive(Clone, Copy)]
 struct Sample {
     members: u64,
@@ -35,10 +40,13 @@ pub(crate) fn what_tells<R: Rows>(search: &Search<'_, R>, limit: u64) -> ApartBy
     if sample.left.saturating_mul(SHARE_OF) > sample.members.saturating_mul(share) {
         return ApartBy::Nothing;
     }
-    if little {
-        return ApartBy::FinerMeans;
+    if !little {
+        return ApartBy::Means;
     }
-    ApartBy::Means
+    if search.task().row_length() < LEAST_VALUES_TO_SWEEP {
+        return ApartBy::Nothing;
+    }
+    ApartBy::Codes
 }
 
 /// Whether means leave more than half of the members near, by one member of each leaf of the sample.
@@ -50,6 +58,7 @@ pub(crate) fn means_tell_little<R: Rows>(search: &Search<'_, R>, limit: u64) -> 
 fn sample_of<R: Rows>(search: &Search<'_, R>, limit: u64, each: usize) -> Sample {
     let index = search.index();
     let leaves = index.leaf_count();
+    let most = CodeLimit::new(limit);
     let step = leaves / SAMPLE_LEAVES + 1;
     let mut sample = Sample {
         members: 0,
@@ -61,44 +70,33 @@ fn sample_of<R: Rows>(search: &Search<'_, R>, limit: u64, each: usize) -> Sample
         if leaf >= leaves {
             break;
         }
-        let finer = index.leaf_finer(leaf);
-        for (place, means) in index.leaf_means(leaf).iter().enumerate().take(each) {
-            sample = with_member(search.task(), sample, means, finer, place, limit);
+        for place in 0..each.min(search.leaf_size(leaf)) {
+            sample = with_member(search, sample, leaf, place, &most);
         }
     }
     sample
 }
 
-// The sample with one more member, that at a place of a leaf with these finer means.
+// The sample with one more member, that at a place of a leaf.
 fn with_member<R: Rows>(
-    task: &Task<'_, R>,
+    search: &Search<'_, R>,
     sample: Sample,
-    means: &Means,
-    finer: &[MeanCells],
+    leaf: u32,
     place: usize,
-    limit: u64,
-) -> Sample {
-    let near = task.means().bound(means) <= limit;
-    let left = near && finer_may_be_near(task, finer, place, limit);
+    limit: &CodeLimit,
+) -> Sample
+    requires leaf { leaf < length search.now.index.leaves }
+    requires place { place < length (leaf_series search.now.index leaf) }
+{
+    let near = match search.index().leaf_means(leaf).get(place) {
+        Some(means) => search.task().means().bound(means) <= limit.limit(),
+        None => true,
+    };
+    let left = near && search.codes_may_be_within(leaf, place, limit);
     Sample {
         members: sample.members.wrapping_add(1),
         near: sample.near.wrapping_add(u64::from(near)),
         left: sample.left.wrapping_add(u64::from(left)),
-    }
-}
-
-// Whether the finer means of the member at a place of a leaf do not lie above the limit.
-fn finer_may_be_near<R: Rows>(
-    task: &Task<'_, R>,
-    finer: &[MeanCells],
-    place: usize,
-    limit: u64,
-) -> bool {
-    let parts = task.finer().parts() as usize;
-    let first = place.saturating_mul(parts);
-    match finer.get(first..first.saturating_add(parts)) {
-        Some(own) if own.len() == parts => task.finer().is_within(own, limit),
-        _ => true,
     }
 }
 

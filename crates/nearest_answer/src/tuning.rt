@@ -42,9 +42,13 @@ pub(crate) const SAMPLE_MEMBERS: usize = 8;
 /// Of how many members of the sample the two shares below are told.
 pub(crate) const SHARE_OF: u64 = 32;
 
-/// How many of these finer means may leave near for a search by leaves: more, and nearly each row of the near leaves would be read, at
-/// random places, which costs more than to read all rows in order.
+/// How many of these codes may leave near for a search by leaves: more, and nearly each row of the near leaves would be read, at random
+/// places, which costs more than to read all rows in order.
 pub(crate) const SHARE_BY_LEAVES: u64 = 3;
 
-/// How many they may leave near for a sweep, which takes less time than boxes and means that pass over next to nothing.
-pub(crate) const SHARE_TO_SWEEP: u64 = 5;
+/// How many they may leave near for a sweep, which takes a third of the time of all rows, and for each row that is left two or three
+/// times that of a row in order.
+pub(crate) const SHARE_TO_SWEEP: u64 = 8;
+
+/// How many values rows have, at least, for a sweep: shorter ones are read as fast as their codes.
+pub(crate) const LEAST_VALUES_TO_SWEEP: usize = 96;

@@ -1,22 +1,18 @@
 -- Bounds by means are at most the distances: that of a member's means (`means_are_below`), that of the box of a leaf's means for each of
--- its members (`box_is_below`), that of the box of leaves in a row for each of theirs (`group_is_below`, `group_bounded`), and that of a
--- member's finer means (`finer_is_below`).
-use Rattle.std.proofs.Common.{◌≡◌, ◌+◌, ◌-◌, ◌*◌, ◌<◌, ◌≤◌, ℕ, ℤ, Bool, true, false, cond, List, [], length, map, take, drop, ap, sym, subst, ◌∙◌, arith}
-use Rattle.std.specs.Prelude.{ltb, slice_index_or}
+-- its members (`box_is_below`), and that of the box of leaves in a row for each of theirs (`group_is_below`, `group_bounded`).
+use Rattle.std.proofs.Common.{◌≡◌, ◌+◌, ◌-◌, ◌*◌, ◌<◌, ◌≤◌, ℕ, List, [], length, map, take, drop, ap, sym, subst, ◌∙◌, arith}
+use Rattle.std.specs.Prelude.{slice_index_or}
 use Rattle.std.proofs.lemmas.List.{get_or-drop, get_or-map, get_or-take, length-drop, length-map, length-take}
 use Rattle.list_totals.specs.Totals.{times}
 use Rattle.list_totals.proofs.Places.{times_contains}
 use Rattle.series_core.specs.Distance.{squared_distance}
-use Rattle.series_core.specs.declared.rows.TheConstants.{MAX_VALUES}
 use Rattle.mean_bound.proofs.BelowDistances.{mean_bound_below}
 use Rattle.mean_bound.proofs.Boxes.{box_below, wider_below}
-use Rattle.mean_bound.proofs.PartBounds.{finer_below}
 use Rattle.mean_bound.specs.Boxes.{Box, box_bound, box_of, box_of_boxes}
-use Rattle.mean_bound.specs.Finer.{finer_bound, finer_means, finer_view}
 use Rattle.mean_bound.specs.MeanBound.{View, mean_bound, mean_view_of}
 use Rattle.isax_word.specs.declared.member.Member.{Member}
 use Rattle.subtree_build.specs.Index.{IndexParts, leaf_at}
-use Rattle.subtree_build.specs.Means.{all_means, leaf_means, finer_of, finer_points, means_at, means_of}
+use Rattle.subtree_build.specs.Means.{all_means, leaf_means, means_at, means_of}
 use Rattle.subtree_build.specs.Members.{numbers_of, series_at}
 use Rattle.subtree_build.proofs.Meaning.{means_of_leaf}
 use Rattle.search_task.specs.LeafBounds.{IsBelowLeaves}
@@ -100,21 +96,3 @@ group_bounded s t size g bound view box same searched is own whole =
     (λ l from to real m member.
     let below = group_is_below s.question s.index size g searched l from to real m member in
     omega (arith, value, below))
-
--- the bound by finer means, which may be none
-finer_or_none : (none : Bool) (n d : ℕ) (x q : List ℤ) → finer_bound (finer_view n q) (finer_means n x) ≤ d
-    → finer_bound (finer_view (cond none 1 n) q) (finer_means (cond none 1 n) x) ≤ d
-finer_or_none true n d x q below = omega arith
-finer_or_none false n d x q below = below
-
--- the bound of a series by its finer means
-pub finer_is_below : (a : Question) (m : Member) → IsQuestion a → m.number < length a.collection.series
-    → finer_bound (finer_view (finer_points a.collection) a.query) (finer_of a.collection m)
-    ≤ squared_distance (series_at a.collection m.number) a.query
-finer_is_below a m is real =
-    let c = a.collection in
-    let series = series_at c m.number in
-    let whole = is.collection.each m.number [] real in
-    let below = finer_below c.points series a.query is.collection.some_point is.collection.length_limit whole.points
-    (is.query ∙ sym is.points) whole.values is.values in
-    finer_or_none (ltb MAX_VALUES (length c.series * c.points)) c.points (squared_distance series a.query) series a.query below

@@ -9,4 +9,4 @@ pub mod Openings
 pub mod Meeting
 pub mod StartScan
 pub mod BelowMeans
-pub mod FinerRows
+pub mod CodeRows

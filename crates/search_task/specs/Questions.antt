@@ -1,5 +1,5 @@
 -- What is asked of an index, and what the search for the answer stands on.
-use Rattle.std.specs.Prelude.{◌≡◌, ℕ, ◌<◌, ◌≤◌, ℤ, List, length, map, FitsSigned}
+use Rattle.std.specs.Prelude.{◌≡◌, ℕ, ◌<◌, ◌≤◌, ℤ, List, length, map, take, FitsSigned}
 use Rattle.std.specs.List.{All}
 use mir.Syntax.{w16}
 use Rattle.series_core.specs.Collection.{Collection, IsCollection}
@@ -12,6 +12,7 @@ use Rattle.lower_bound.specs.Bound.{View, view_of, word_bound}
 use Rattle.isax_word.specs.declared.member.Member.{Member}
 use Rattle.subtree_build.specs.Fits.{Fits as IndexFits, HasItsWord}
 use Rattle.subtree_build.specs.Index.{IndexParts, IsIndex, leaf_at}
+use Rattle.subtree_build.specs.Means.{coded_points}
 use Rattle.subtree_build.specs.Members.{series_at, numbers_of}
 use Rattle.subtree_build.specs.Outline.{leaf_numbers}
 use Rattle.subtree_build.specs.Start.{start_leaf_of}
@@ -27,6 +28,10 @@ pub record Question : Type 0 where
 -- the query as bounds see it
 abbrev pub view_in : Question → View
 view_in a = view_of a.layout a.query
+
+-- the values of a query that bounds by codes see: those that stand where the codes of a collection's series do
+abbrev pub coded_query : Collection → List ℤ → List ℤ
+coded_query c query = take (coded_points c) query
 
 -- the distance of the last pair of the answer, or NONE where there are fewer than k series
 abbrev pub last_of : Question → ℕ

@@ -1,18 +1,19 @@
-//! Scanning a leaf: a member is passed over by its means, or else by its finer means, or else measured; and a whole leaf by the box of
-//! its means. A row that is passed over is not read.
-ghost use Rattle.std.specs.Prelude.{◌≡◌, ◌+◌, ◌*◌, ◌<◌, ◌≤◌, false, length, take, drop};
+//! Scanning a leaf: a member is passed over by its means, or else by the codes of its row, or else measured; and a whole leaf by the box
+//! of its means. A row that is passed over is not read.
+ghost use Rattle.std.specs.Prelude.{◌≡◌, ◌+◌, ◌*◌, ◌<◌, ◌≤◌, false, length, take, drop, slice_index};
 ghost use Rattle.series_core.specs.Distance.{squared_distance};
-ghost use Rattle.subtree_build.specs.Means.{finer_of, means_of};
-ghost use Rattle.subtree_build.specs.Members.{series_at};
+ghost use Rattle.subtree_build.specs.Means.{all_means, codes_of_member, means_of};
+ghost use Rattle.subtree_build.specs.Members.{numbers_of, series_at};
 ghost use Rattle.search_task.specs.LeafBounds.{IsBelowLeaf, IsBelowLeaves};
 ghost use Rattle.search_task.specs.Questions.{IsMemberOf, ground_of, leaf_bound, leaf_series, view_in};
-ghost use Rattle.search_task.specs.Scanning.{AreScanned, IsScannedOne, MayAdd};
+ghost use Rattle.search_task.specs.Scanning.{AreCoded, AreScanned, IsScannedOne, MayAdd};
 
 use crate::scan::most_to_add;
 use crate::search::Search;
 use crate::task::Task;
 use isax_word::Member;
-use mean_bound::{MeanCells, Means};
+use mean_bound::Means;
+use row_codes::{CodeBlock, CodeLimit};
 use series_core::{KBest, Rows};
 
 impl<'a, R: Rows> Search<'a, R> {
@@ -24,19 +25,11 @@ impl<'a, R: Rows> Search<'a, R> {
         ensures k { list.new.k ≡ self.now.question.k }
         ensures pairs { AreScanned self.now.question limit (leaf_series self.now.index leaf) list.old.pairs list.new.pairs }
     {
-        let task = self.task;
         let index = self.index;
         let members = index.leaf_members(leaf);
         let means = index.leaf_means(leaf);
-        let finer = index.leaf_finer(leaf);
-        let parts = task.finer().parts() as usize;
-        let mut most = most_to_add(limit, list);
-        for i in 0..members.len() {
-            let member = &members[i];
-            let own = finer_of_member(finer, parts, i);
-            let near = task.may_be_within(member, &means[i], own, most);
-            most = task.measure_near(near, member, limit, most, list);
-        }
+        let codes = index.leaf_codes(leaf);
+        self.task.scan_members(members, means, codes, limit, list);
     }
 
     /// The same for each member of a leaf, but where the box of their means is too far, nothing of the leaf is read.
@@ -52,6 +45,19 @@ impl<'a, R: Rows> Search<'a, R> {
             return;
         }
         self.scan_leaf(leaf, limit, list);
+    }
+
+    /// Whether the codes of the member at a place of a leaf do not lie above the limit. Where they do, so does its distance.
+    pub fn codes_may_be_within(&self, leaf: u32, place: usize, limit: &CodeLimit) -> bool
+        requires leaf { leaf < length self.now.index.leaves }
+        requires place { place < length (leaf_series self.now.index leaf) }
+        ensures { result ≡ false
+            → limit.now < (ground_of self.now).distance (slice_index (leaf_series self.now.index leaf) place) }
+    {
+        let members = self.index.leaf_members(leaf);
+        let codes = self.index.leaf_codes(leaf);
+        self.task
+            .codes_at_may_be_within(members, codes, place, limit)
     }
 
     /// A bound that is above the distance of no member of the leaf: that of the box of their means.
@@ -90,15 +96,61 @@ impl<'a, R: Rows> Search<'a, R> {
 }
 
 impl<'a, R: Rows> Task<'a, R> {
-    /// Adds the member's pair where it is near and its distance is at most `most`, and tells what is then the most.
+    // Scans members with this limit into a list: one is passed over by its means, or else by the codes of its row, or else measured.
+    fn scan_members(
+        &self,
+        members: &[Member],
+        means: &[Means],
+        codes: &[CodeBlock],
+        limit: u64,
+        list: &mut KBest,
+    )
+        requires means { means.now ≡ all_means self.now.collection self.now.layout members.now }
+        requires coded { AreCoded self.now members.now codes.now }
+        requires k { list.old.k ≡ self.now.k }
+        ensures k { list.new.k ≡ self.now.k }
+        ensures pairs { AreScanned self.now limit (numbers_of members.now) list.old.pairs list.new.pairs }
+    {
+        let blocks = self.code_blocks();
+        let mut most = CodeLimit::new(most_to_add(limit, list));
+        for i in 0..members.len() {
+            let member = &members[i];
+            let own = codes_at_place(codes, blocks, i);
+            let near = self.may_be_within(member, &means[i], own, &most);
+            most = self.measure_near(near, member, limit, most, list);
+        }
+    }
+
+    // Whether the codes of the member at a place do not lie above the limit. Where they do, so does its distance.
+    fn codes_at_may_be_within(
+        &self,
+        members: &[Member],
+        codes: &[CodeBlock],
+        place: usize,
+        limit: &CodeLimit,
+    ) -> bool
+        requires coded { AreCoded self.now members.now codes.now }
+        requires place { place < length members.now }
+        ensures { let s = slice_index (numbers_of members.now) place in result ≡ false
+            → limit.now < squared_distance (series_at self.now.collection s) self.now.query }
+    {
+        let blocks = self.code_blocks();
+        let member = &members[place];
+        let own = codes_at_place(codes, blocks, place);
+        self.codes_may_be_within(member, own, limit)
+    }
+
+    /// Adds the member's pair where it is near and its distance is at most `most`, and tells what is then the most. As a limit of codes it
+    /// is made anew only where it changes.
+    #[inline(always)]
     pub fn measure_near(
         &self,
         near: bool,
         member: &Member,
         limit: u64,
-        most: u64,
+        most: CodeLimit,
         list: &mut KBest,
-    ) -> u64
+    ) -> CodeLimit
         requires member { IsMemberOf self.now member.now }
         requires far { near ≡ false
             → most < squared_distance (series_at self.now.collection member.now.number) self.now.query }
@@ -111,37 +163,60 @@ impl<'a, R: Rows> Task<'a, R> {
         if !near {
             return most;
         }
-        self.measure(member.number, limit, most, list)
+        let closer = self.measure(member.number, limit, most.limit(), list);
+        limit_of_codes(most, closer)
     }
 
-    // Whether neither the member's means nor its finer means lie above the limit. Where they do, so does its distance.
-    fn may_be_within(&self, member: &Member, means: &Means, finer: &[MeanCells], limit: u64) -> bool
+    // Whether neither the member's means nor its codes lie above the limit. Where they do, so does its distance.
+    fn may_be_within(
+        &self,
+        member: &Member,
+        means: &Means,
+        codes: &[CodeBlock],
+        limit: &CodeLimit,
+    ) -> bool
         requires member { IsMemberOf self.now member.now }
         requires means { means.now ≡ means_of self.now.collection self.now.layout member.now }
-        requires finer { finer.now ≡ finer_of self.now.collection member.now }
+        requires codes { codes.now ≡ codes_of_member self.now.collection member.now }
         ensures { result ≡ false
-            → limit < squared_distance (series_at self.now.collection member.now.number) self.now.query }
+            → limit.now < squared_distance (series_at self.now.collection member.now.number) self.now.query }
     {
-        self.means().bound(means) <= limit && self.finer_may_be_within(member, finer, limit)
+        self.means().bound(means) <= limit.limit() && self.codes_may_be_within(member, codes, limit)
     }
 
-    /// Whether the member's finer means do not lie above the limit. Where they do, so does its distance.
-    pub fn finer_may_be_within(&self, member: &Member, finer: &[MeanCells], limit: u64) -> bool
+    /// Whether the member's codes do not lie above the limit. Where they do, so does its distance.
+    pub fn codes_may_be_within(
+        &self,
+        member: &Member,
+        codes: &[CodeBlock],
+        limit: &CodeLimit,
+    ) -> bool
         requires member { IsMemberOf self.now member.now }
-        requires finer { finer.now ≡ finer_of self.now.collection member.now }
+        requires codes { codes.now ≡ codes_of_member self.now.collection member.now }
         ensures { result ≡ false
-            → limit < squared_distance (series_at self.now.collection member.now.number) self.now.query }
+            → limit.now < squared_distance (series_at self.now.collection member.now.number) self.now.query }
     {
         let _ = member;
-        self.finer().is_within(finer, limit)
+        self.codes().is_within(codes, limit)
     }
 }
 
-/// The finer means of member `i` among those of all, with `parts` parts a member.
-pub fn finer_of_member(finer: &[MeanCells], parts: usize, i: usize) -> &[MeanCells]
-    requires { i * parts + parts ≤ length finer.now }
-    ensures { result.now ≡ take parts (drop (i * parts) finer.now) }
+// A limit as bounds by codes are held against it, where it was this one before.
+fn limit_of_codes(before: CodeLimit, limit: u64) -> CodeLimit
+    ensures { result ≡ limit }
 {
-    let first = i * parts;
-    &finer[first..first + parts]
+    if limit == before.limit() {
+        before
+    } else {
+        CodeLimit::new(limit)
+    }
+}
+
+/// The codes of member `i` among those of all, with so many blocks a member.
+pub fn codes_at_place(codes: &[CodeBlock], blocks: usize, i: usize) -> &[CodeBlock]
+    requires { i * blocks + blocks ≤ length codes.now }
+    ensures { result.now ≡ take blocks (drop (i * blocks) codes.now) }
+{
+    let first = i * blocks;
+    &codes[first..first + blocks]
 }

@@ -11,7 +11,7 @@ mod search;
 mod task;
 
 pub use index_laws::{index_law, search_law};
-pub use leaf_scan::finer_of_member;
+pub use leaf_scan::codes_at_place;
 pub use scan::{distance_of_worst, most_to_add};
 pub use search::Search;
 pub use task::Task;

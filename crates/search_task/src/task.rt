@@ -1,17 +1,18 @@
 //! The task of a search: which rows are searched, for what query, and how many pairs are wanted.
 ghost use Rattle.std.specs.Prelude.{◌≡◌, ◌<◌, ◌≤◌, length};
-ghost use Rattle.mean_bound.specs.Finer.{finer_view};
 ghost use Rattle.mean_bound.specs.MeanBound.{mean_view_of};
-ghost use Rattle.subtree_build.specs.Means.{finer_points};
-ghost use Rattle.search_task.specs.Questions.{IsQuestion, view_in, last_of};
+ghost use Rattle.row_codes.specs.Rows.{block_count};
+ghost use Rattle.subtree_build.specs.Means.{coded_points};
+ghost use Rattle.search_task.specs.Questions.{IsQuestion, coded_query, view_in, last_of};
 
 use best_word::Floor;
 use isax_word::Layout;
 use lower_bound::QueryView;
-use mean_bound::{FinerCuts, FinerView, MeanView};
+use mean_bound::MeanView;
+use row_codes::{CodeView, block_count};
 use series_core::{MAX_BEST, Rows, values_fit};
 use std::marker::Model;
-use subtree_build::finer_length;
+use subtree_build::coded_length;
 
 /// A query over rows: the k nearest of them are wanted. It is seen as the question that it asks.
 #[derive(Drop)]
@@ -21,16 +22,14 @@ pub struct Task<'a, R: Rows> {
     k: u32,
     view: QueryView,
     means: MeanView,
-    finer: FinerView,
+    codes: CodeView<'a>,
 }
 
 impl<'a, R: Rows> Model for Task<'a, R> {
     ghost use Rattle.std.specs.Prelude.{◌≡◌};
-    ghost use Rattle.search_task.specs.Questions.{Question, IsQuestion};
+    ghost use Rattle.search_task.specs.Questions.{Question, IsQuestion, coded_query};
     ghost use Rattle.lower_bound.specs.Bound.{view_of};
     ghost use Rattle.mean_bound.specs.MeanBound.{mean_view_of};
-    ghost use Rattle.mean_bound.specs.Finer.{finer_view};
-    ghost use Rattle.subtree_build.specs.Means.{finer_points};
 
     ghost Value = { Question };
 
@@ -47,7 +46,7 @@ impl<'a, R: Rows> Model for Task<'a, R> {
       k = t.k;
       layout = t.view.layout;
     }) × (t.view ≡ view_of t.view.layout t.query.now) × (t.means ≡ mean_view_of t.view.layout.cuts t.query.now)
-        × (t.finer ≡ finer_view (finer_points (R.collection t.rows.now)) t.query.now) };
+        × (t.codes ≡ coded_query (R.collection t.rows.now) t.query.now) };
 }
 
 /// The distance of the last pair of the answer, or `NONE` where there are fewer than k series: no limit falls below it.
@@ -79,7 +78,7 @@ impl<'a, R: Rows> Task<'a, R> {
             k,
             view: QueryView::new(layout, query),
             means: MeanView::new(&layout.cuts, query),
-            finer: finer_view_of(rows, query),
+            codes: code_view_of(rows, query),
         }
     }
 
@@ -99,6 +98,13 @@ impl<'a, R: Rows> Task<'a, R> {
         self.rows.count()
     }
 
+    /// How many values each row has.
+    pub fn row_length(&self) -> usize
+        ensures { result ≡ length self.now.query }
+    {
+        self.query.len()
+    }
+
     /// The query as bounds by means see it.
     pub fn means(&self) -> &MeanView
         ensures means { result.now ≡ mean_view_of self.now.layout.cuts self.now.query }
@@ -107,12 +113,22 @@ impl<'a, R: Rows> Task<'a, R> {
         &self.means
     }
 
-    /// The query as bounds by finer means see it.
-    pub fn finer(&self) -> &FinerView
-        ensures finer { result.now ≡ finer_view (finer_points self.now.collection) self.now.query }
+    /// The query as bounds by codes see it.
+    pub fn codes(&self) -> &CodeView<'a>
+        ensures codes { result.now ≡ coded_query self.now.collection self.now.query }
         ensures question { IsQuestion self.now }
     {
-        &self.finer
+        &self.codes
+    }
+
+    /// How many blocks of codes stand for a row.
+    pub fn code_blocks(&self) -> usize
+        ensures count { result ≡ block_count (coded_points self.now.collection) }
+        ensures question { IsQuestion self.now }
+    {
+        // for the fact that the task is a question
+        let _k = self.k();
+        block_count(coded_length(self.rows)) as usize
     }
 
     /// The query as bounds see it.
@@ -124,13 +140,12 @@ impl<'a, R: Rows> Task<'a, R> {
     }
 }
 
-// A query to rows as bounds by their finer means see it.
-fn finer_view_of<R: Rows>(rows: &R, query: &[i16]) -> FinerView
+// A query to rows as bounds by their codes see it.
+fn code_view_of<'a, R: Rows>(rows: &R, query: &'a [i16]) -> CodeView<'a>
     requires { length query.now ≡ (R.collection rows.now).points }
-    ensures { result ≡ finer_view (finer_points (R.collection rows.now)) query.now }
+    ensures { result ≡ coded_query (R.collection rows.now) query.now }
 {
     // for the fact that the rows are a collection
     let _count = rows.count();
-    let points = finer_length(rows);
-    FinerView::new(&FinerCuts::new(points), &query[..points as usize])
+    CodeView::new(&query[..coded_length(rows) as usize])
 }

@@ -12,7 +12,7 @@ use Rattle.std.proofs.lemmas.Option.{same_Some, none-some}
 use Rattle.isax_word.specs.declared.member.Member.{Member}
 use Rattle.isax_word.specs.declared.word.Part.{Part}
 use Rattle.isax_word.specs.Word.{child_word, one_bit_word}
-use Rattle.mean_bound.specs.Cells.{Cells}
+use Rattle.row_codes.specs.Rows.{Block}
 use Rattle.subtree_build.specs.declared.leaf.GrownLeaf.{GrownLeaf}
 use Rattle.subtree_build.specs.declared.leaf.TreeLeaf.{TreeLeaf}
 use Rattle.subtree_build.specs.declared.node.Node.{Node}
@@ -204,9 +204,9 @@ parts_are_index w roots nodes words lists ix some few short make words_are w_is 
     }
 
 -- the same with other means is an index too
-pub other_means : (ix : IndexParts) (means : List (List (List ℕ))) (finer : List (List Cells)) → IsIndex ix
-    → IsIndex (record ix { means = means; finer = finer })
-other_means ix means finer is = record {
+pub other_means : (ix : IndexParts) (means : List (List (List ℕ))) (codes : List (List Block)) → IsIndex ix
+    → IsIndex (record ix { means = means; codes = codes })
+other_means ix means codes is = record {
   some_segments = is.some_segments;
   few_segments = is.few_segments;
   roots_ascend = is.roots_ascend;
@@ -272,14 +272,14 @@ module _ {w : ℕ} {roots : List ℕ} {nodes : List Node} {words : List (List Pa
     {lists : List (List Member)} {leaves : List GrownLeaf} {members : List Member} {places : List LeafPlace}
     (row : IsRow w roots nodes words firsts lists leaves members places) where
   -- the parts and the row, with some means
-  abbrev as_parts : (means : List (List (List ℕ))) (finer : List (List Cells)) → IndexParts
-  as_parts means finer = record {
+  abbrev as_parts : (means : List (List (List ℕ))) (codes : List (List Block)) → IndexParts
+  as_parts means codes = record {
     segments = w;
     roots = roots;
     nodes = nodes;
     leaves = leaves_seen members places;
     means = means;
-    finer = finer;
+    codes = codes;
   }
 
   -- the leaves at the places
@@ -287,8 +287,8 @@ module _ {w : ℕ} {roots : List ℕ} {nodes : List Node} {words : List (List Pa
   row_seen = ap (leaves_seen members) row.places_are ∙ seen_is_cut members 0 leaves ∙ row.cut
 
   -- make an index
-  pub row_is_index : (means : List (List (List ℕ))) (finer : List (List Cells)) → IsIndex (as_parts means finer)
-  row_is_index means finer =
+  pub row_is_index : (means : List (List (List ℕ))) (codes : List (List Block)) → IsIndex (as_parts means codes)
+  row_is_index means codes =
       parts_are_index w roots nodes words lists _ row.some row.few row.short row.make row.words_are refl refl refl row_seen
 
   -- at their places
@@ -323,8 +323,8 @@ module _ {w : ℕ} {roots : List ℕ} {nodes : List Node} {words : List (List Pa
   row_is_all = record { leaves = leaves; lie = row.places_are; whole = row.whole; few = row.few_members }
 
   -- and it is one of these parts
-  pub row_of_parts : (means : List (List (List ℕ))) (finer : List (List Cells)) → IsOfParts w roots nodes lists (as_parts means finer)
-  row_of_parts means finer = record {
+  pub row_of_parts : (means : List (List (List ℕ))) (codes : List (List Block)) → IsOfParts w roots nodes lists (as_parts means codes)
+  row_of_parts means codes = record {
     segments = refl;
     roots = refl;
     nodes = refl;

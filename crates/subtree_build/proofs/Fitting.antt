@@ -15,7 +15,7 @@ use Rattle.subtree_build.specs.declared.leaf.TreeLeaf.{TreeLeaf}
 use Rattle.subtree_build.specs.Tree.{Tree, leaves_of}
 use Rattle.subtree_build.specs.Division.{bits_left, roots_of, root_child, tree, tree_leaves}
 use Rattle.subtree_build.specs.Index.{IndexParts}
-use Rattle.subtree_build.specs.Means.{leaf_means, leaf_finer}
+use Rattle.subtree_build.specs.Means.{leaf_means, leaf_codes}
 use Rattle.subtree_build.specs.Fits.{IsTreeOf, Fits, times_in, HasItsWord, MembersAreSeries, WordContainsMembers}
 use Rattle.subtree_build.proofs.ByNumber.{times_numbers}
 use Rattle.subtree_build.proofs.Partition.{total_in, total_divided, all_divided, total_by_roots}
@@ -122,8 +122,8 @@ contained_in_tree c layout size is =
 -- an index that is the tree of a collection fits it
 pub tree_fits : (c : Collection) (layout : Layout) (size : ℕ) (ix : IndexParts) → IsDivision layout.cuts
     → IsTreeOf c layout size ix → ix.means ≡ map (leaf_means c layout) ix.leaves
-    → ix.finer ≡ map (leaf_finer c) ix.leaves → Fits c layout ix
-tree_fits c layout size ix is tree_is means finer =
+    → ix.codes ≡ map (leaf_codes c) ix.leaves → Fits c layout ix
+tree_fits c layout size ix is tree_is means codes =
     let P : List TreeLeaf → Type 0 = λ leaves. All (MembersAreSeries c layout) leaves in
     let Q : List TreeLeaf → Type 0 = λ leaves. All WordContainsMembers leaves in
     record {
@@ -132,5 +132,5 @@ tree_fits c layout size ix is tree_is means finer =
       own_words = subst P (sym tree_is.leaves) (own_in_tree c layout size);
       contained = subst Q (sym tree_is.leaves) (contained_in_tree c layout size is);
       own_means = means;
-      own_finer = finer;
+      own_codes = codes;
     }

@@ -12,7 +12,7 @@ use Rattle.segment_sums.specs.Division.{IsDivision}
 use Rattle.isax_word.specs.declared.layout.Layout.{Layout}
 use Rattle.isax_word.specs.declared.member.Member.{Member}
 use Rattle.summary_phase.specs.Members.{members_of}
-use Rattle.mean_bound.specs.Cells.{Cells}
+use Rattle.row_codes.specs.Rows.{Block}
 use Rattle.subtree_build.specs.declared.leaf.GrownLeaf.{GrownLeaf}
 use Rattle.subtree_build.specs.declared.leaf.LeafPlace.{LeafPlace}
 use Rattle.subtree_build.specs.declared.leaf.TreeLeaf.{TreeLeaf}
@@ -175,7 +175,7 @@ few_members c layout size leaves members is kept are whole =
 
 -- an index with these root numbers, nodes and leaves at their places is the tree
 pub tree_is_seen : (c : Collection) (layout : Layout) (size segments : ℕ) (roots : List ℕ) (joined : Joined)
-    (places : List LeafPlace) (means : List (List (List ℕ))) (finer : List (List Cells)) → segments ≡ layout.cuts.segments → roots ≡ roots_of c layout
+    (places : List LeafPlace) (means : List (List (List ℕ))) (codes : List (List Block)) → segments ≡ layout.cuts.segments → roots ≡ roots_of c layout
     → map outline joined.nodes.items ≡ all_numbered 0 (tree c layout size)
     → cut_leaves joined.leaves.items joined.members.items ≡ tree_leaves c layout size
     → places ≡ places_from 0 joined.leaves.items
@@ -185,9 +185,9 @@ pub tree_is_seen : (c : Collection) (layout : Layout) (size segments : ℕ) (roo
       nodes = joined.nodes.items;
       leaves = leaves_seen joined.members.items places;
       means = means;
-      finer = finer;
+      codes = codes;
     })
-tree_is_seen c layout size segments roots joined places means finer same roots_are nodes_are leaves_are at = record {
+tree_is_seen c layout size segments roots joined places means codes same roots_are nodes_are leaves_are at = record {
   segments = same;
   roots = roots_are;
   nodes = nodes_are;

@@ -11,7 +11,7 @@ use Rattle.subtree_build.specs.declared.leaf.TreeLeaf.{TreeLeaf}
 use Rattle.subtree_build.specs.declared.node.Node.{Node}
 use Rattle.subtree_build.specs.Division.{leaf_with}
 use Rattle.subtree_build.specs.Index.{IndexParts, IsSplit}
-use Rattle.subtree_build.specs.Means.{leaf_means, leaf_finer}
+use Rattle.subtree_build.specs.Means.{leaf_means, leaf_codes}
 use Rattle.subtree_build.specs.Outline.{outline, leaf_numbers}
 use Rattle.subtree_build.specs.Tree.{Tree, absent, leaf, split, leaves_of}
 
@@ -75,11 +75,11 @@ leaves_with [] lists = []
 leaves_with (word ∷ words) [] = []
 leaves_with (word ∷ words) (members ∷ lists) = leaf_with word members ∷ leaves_with words lists
 
--- the same tree, with the means and the finer means of the series of a collection
+-- the same tree, with the means and the codes of the series of a collection
 pub record HasMeansOf (c : Collection) (layout : Layout) (before after : IndexParts) : Type 0 where
   pub segments : after.segments ≡ before.segments
   pub roots : after.roots ≡ before.roots
   pub nodes : after.nodes ≡ before.nodes
   pub leaves : after.leaves ≡ before.leaves
   pub own_means : after.means ≡ map (leaf_means c layout) before.leaves
-  pub own_finer : after.finer ≡ map (leaf_finer c) before.leaves
+  pub own_codes : after.codes ≡ map (leaf_codes c) before.leaves

@@ -14,7 +14,7 @@ use Rattle.subtree_build.specs.Members.{series_at, numbers_of}
 use Rattle.subtree_build.specs.Division.{roots_of, tree, tree_leaves}
 use Rattle.subtree_build.specs.Outline.{outline}
 use Rattle.subtree_build.specs.Index.{IndexParts}
-use Rattle.subtree_build.specs.Means.{leaf_means, leaf_finer}
+use Rattle.subtree_build.specs.Means.{leaf_means, leaf_codes}
 
 -- the index is the tree of the collection: its root children and its leaves in order, numbered from 0
 pub record IsTreeOf (c : Collection) (layout : Layout) (leaf_size : ℕ) (ix : IndexParts) : Type 0 where
@@ -41,14 +41,14 @@ WordContainsMembers x = All (λ m. word_contains x.word m.full ≡ true) x.membe
 
 -- the index fits the collection under a layout: it has the layout's number of segments, each number of a
 -- series is that of a member of exactly one leaf, once, no other number is, each member has its series' full
--- word, and its leaf's word contains it; and the means of each leaf, and the finer ones, are those of its members' series
+-- word, and its leaf's word contains it; and the means and the codes of each leaf are those of its members' series
 pub record Fits (c : Collection) (layout : Layout) (ix : IndexParts) : Type 0 where
   pub segments : ix.segments ≡ layout.cuts.segments
   pub each_once : (i : ℕ) → total (times_in i) ix.leaves ≡ once_below i (length c.series)
   pub own_words : All (MembersAreSeries c layout) ix.leaves
   pub contained : All WordContainsMembers ix.leaves
   pub own_means : ix.means ≡ map (leaf_means c layout) ix.leaves
-  pub own_finer : ix.finer ≡ map (leaf_finer c) ix.leaves
+  pub own_codes : ix.codes ≡ map (leaf_codes c) ix.leaves
 
 -- the distance of a member's series to a query is at least a bound
 abbrev pub IsNoNearerThan : ℕ → Collection → List ℤ → Member → Type 0

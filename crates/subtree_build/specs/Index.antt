@@ -3,7 +3,7 @@ use Rattle.std.specs.Prelude.{◌≡◌, ℕ, ◌^◌, ◌<◌, ◌≤◌, List,
 use Rattle.std.specs.List.{All, range_with_len, flat_map}
 use Rattle.std.specs.List.Sorted.{IsStrictlyIncreasing}
 use Rattle.isax_word.specs.declared.word.Part.{Part}
-use Rattle.mean_bound.specs.Cells.{Cells}
+use Rattle.row_codes.specs.Rows.{Block}
 use Rattle.isax_word.specs.Word.{part_at, child_word, one_bit_word}
 use Rattle.subtree_build.specs.declared.node.Node.{Node}
 use Rattle.subtree_build.specs.declared.leaf.TreeLeaf.{TreeLeaf}
@@ -11,14 +11,14 @@ use Rattle.subtree_build.specs.Tree.{Tree, absent, leaf, split, is_absent}
 use Rattle.subtree_build.specs.Outline.{outline, leaf_numbers}
 
 -- an index: how many segments its words have, the root numbers and nodes of its root children, its leaves, and for each leaf
--- the means and the finer means of its members
+-- the means and the codes of its members
 pub record IndexParts : Type 0 where
   pub segments : ℕ
   pub roots : List ℕ
   pub nodes : List Node
   pub leaves : List TreeLeaf
   pub means : List (List (List ℕ))
-  pub finer : List (List Cells)
+  pub codes : List (List Block)
 
 -- the leaf that stands past the end
 abbrev pub no_leaf : TreeLeaf

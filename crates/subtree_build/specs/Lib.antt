@@ -25,6 +25,7 @@ pub use Rattle.isax_word.specs.Word
 pub use Rattle.lower_bound.specs.Gap
 pub use Rattle.lower_bound.specs.Bound
 pub use Rattle.mean_bound.specs.Means as RowMeans
+pub use Rattle.row_codes.specs.Rows as RowCodes
 pub use Rattle.series_core.specs.Collection
 pub use Rattle.series_core.specs.Distance
 pub use Rattle.summary_phase.specs.Members as SeriesMembers

@@ -1,13 +1,12 @@
--- The means and the finer means of members: those of their series' segments, member by member and leaf by leaf.
-use Rattle.std.specs.Prelude.{ℕ, ℤ, ◌≡◌, ◌*◌, ◌^◌, ◌<◌, All, List, [], cond, length, ltb, map, slice_index_or}
+-- The means of members and the codes of their rows, member by member and leaf by leaf.
+use Rattle.std.specs.Prelude.{ℕ, ℤ, ◌≡◌, ◌*◌, ◌^◌, ◌<◌, ◌≤◌, All, List, [], cond, length, ltb, map, slice_index_or, take}
 use Rattle.std.specs.List.{flat_map}
 use Rattle.series_core.specs.Collection.{Collection}
 use Rattle.series_core.specs.declared.rows.TheConstants.{MAX_VALUES}
 use Rattle.isax_word.specs.declared.layout.Layout.{Layout}
 use Rattle.isax_word.specs.declared.member.Member.{Member}
 use Rattle.mean_bound.specs.Means.{row_means}
-use Rattle.mean_bound.specs.Cells.{Cells}
-use Rattle.mean_bound.specs.Finer.{finer_means, part_count}
+use Rattle.row_codes.specs.Rows.{Block, block_count, row_codes}
 use Rattle.subtree_build.specs.declared.leaf.TreeLeaf.{TreeLeaf}
 use Rattle.subtree_build.specs.Members.{series_at}
 
@@ -27,44 +26,45 @@ leaf_means c layout x = all_means c layout x.members
 abbrev pub means_at : List (List (List ℕ)) → ℕ → List (List ℕ)
 means_at means l = slice_index_or means l []
 
--- the length by which finer means are cut: that of a series. A collection of more values than a file may hold is of windows that
--- overlap, and has none, as a series of one value has.
-abbrev pub finer_points : Collection → ℕ
-finer_points c = cond (ltb MAX_VALUES (length c.series * c.points)) 1 c.points
+-- how many values of a series are coded: all. A collection of more values than a file may hold is of windows that overlap, and of them one
+-- value is, which makes no code
+abbrev pub coded_points : Collection → ℕ
+coded_points c = cond (ltb MAX_VALUES (length c.series * c.points)) 1 c.points
 
--- the finer means of a member's series, part by part
-abbrev pub finer_of : Collection → Member → List Cells
-finer_of c m = finer_means (finer_points c) (series_at c m.number)
+-- the codes of a member's series
+abbrev pub codes_of_member : Collection → Member → List Block
+codes_of_member c m = row_codes (take (coded_points c) (series_at c m.number))
 
--- the finer means of members, one after another
-abbrev pub all_finer : Collection → List Member → List Cells
-all_finer c members = flat_map (finer_of c) members
+-- the codes of members, one after another
+abbrev pub all_codes : Collection → List Member → List Block
+all_codes c members = flat_map (codes_of_member c) members
 
--- the finer means of a leaf's members
-abbrev pub leaf_finer : Collection → TreeLeaf → List Cells
-leaf_finer c x = all_finer c x.members
+-- the codes of a leaf's members
+abbrev pub leaf_codes : Collection → TreeLeaf → List Block
+leaf_codes c x = all_codes c x.members
 
--- the finer means that stand for leaf l
-abbrev pub finer_at : List (List Cells) → ℕ → List Cells
-finer_at finer l = slice_index_or finer l []
+-- the codes that stand for leaf l
+abbrev pub codes_at : List (List Block) → ℕ → List Block
+codes_at codes l = slice_index_or codes l []
 
 -- the values of members' series, one series after another
 abbrev pub all_values : Collection → List Member → List ℤ
 all_values c members = flat_map (λ m. series_at c m.number) members
 
--- members, each a series of a collection whose length is that of the layout, and that many places for their means, and for the finer
--- means that rows cut by a length have
-pub record HavePlaces (c : Collection) (layout : Layout) (cuts : ℕ) (members : List Member) (means : List (List ℕ))
-    (finer : List Cells) : Type 0 where
+-- members, each a series of a collection whose length is that of the layout, and that many places for their means, and for the codes
+-- that rows have of which so many values are coded
+pub record HavePlaces (c : Collection) (layout : Layout) (coded : ℕ) (members : List Member) (means : List (List ℕ))
+    (codes : List Block) : Type 0 where
   pub row_length : layout.cuts.row_length ≡ c.points
-  pub cut_length : cuts ≡ finer_points c
+  pub coded_length : coded ≡ coded_points c
+  pub short : coded ≤ 65536
   pub series : All (λ m. m.number < length c.series) members
   pub few : length members < 2 ^ 32
   pub means_places : length means ≡ length members
-  pub finer_places : length finer ≡ length members * part_count cuts
+  pub codes_places : length codes ≡ length members * block_count coded
 
--- the means and the finer means of members stand at their places
-pub record AreFilled (c : Collection) (layout : Layout) (members : List Member) (means : List (List ℕ)) (finer : List Cells)
+-- the means and the codes of members stand at their places
+pub record AreFilled (c : Collection) (layout : Layout) (members : List Member) (means : List (List ℕ)) (codes : List Block)
     : Type 0 where
   pub own_means : means ≡ all_means c layout members
-  pub own_finer : finer ≡ all_finer c members
+  pub own_codes : codes ≡ all_codes c members

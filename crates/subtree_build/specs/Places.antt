@@ -3,10 +3,9 @@ use Rattle.std.specs.Prelude.{◌≡◌, ℕ, ◌+◌, ◌-◌, ◌*◌, ◌^◌
 use Rattle.std.specs.List.{All, range_with_len}
 use Rattle.series_core.specs.Collection.{Collection}
 use Rattle.mean_bound.specs.Boxes.{Box, box_of, box_of_boxes}
-use Rattle.mean_bound.specs.Cells.{Cells}
-use Rattle.mean_bound.specs.Finer.{part_count}
+use Rattle.row_codes.specs.Rows.{Block, block_count}
 use Rattle.isax_word.specs.declared.layout.Layout.{Layout}
-use Rattle.subtree_build.specs.Means.{all_finer, all_means, finer_points}
+use Rattle.subtree_build.specs.Means.{all_codes, all_means, coded_points}
 use Rattle.isax_word.specs.declared.member.Member.{Member}
 use Rattle.subtree_build.specs.declared.boxes.Boxes.{Boxes}
 use Rattle.subtree_build.specs.declared.leaf.GrownLeaf.{GrownLeaf}
@@ -52,10 +51,10 @@ pub record AreBoxes (means : List (List ℕ)) (places : List LeafPlace) (b : Box
   pub groups : AreGroups 16 b.leaves.items b.groups.items
   pub wide_groups : AreGroups 256 b.leaves.items b.wide_groups.items
 
--- the finer means of the members at places, with `parts` parts a member
-abbrev pub finer_seen : ℕ → List Cells → List LeafPlace → List (List Cells)
-finer_seen parts finer places =
-    map (λ p. take ((p.end - p.first) * parts) (drop (p.first * parts) finer)) places
+-- the codes of the members at places, with so many blocks a member
+abbrev pub codes_seen : ℕ → List Block → List LeafPlace → List (List Block)
+codes_seen blocks codes places =
+    map (λ p. take ((p.end - p.first) * blocks) (drop (p.first * blocks) codes)) places
 
 -- a place lies among `count` members
 pub record IsPlace (count : ℕ) (p : LeafPlace) : Type 0 where
@@ -73,19 +72,19 @@ pub record AreAllSeen (members : List Member) (places : List LeafPlace) : Type 0
   pub whole : members_in leaves ≡ length members
   pub few : length members < 2 ^ 32
 
--- the tables beside the members: the means of each, the finer means of its parts, and the boxes of the means at places
+-- the tables beside the members: the means of each, the codes of its row, and the boxes of the means at places
 pub record AreTables (members : List Member) (places : List LeafPlace) (t : Tables) : Type 0 where
   pub means_each : length t.means.items ≡ length members
-  pub few_parts : t.parts ≤ 8
-  pub finer_each : length t.finer.items ≡ length members * t.parts
+  pub few_blocks : t.blocks ≤ 256
+  pub codes_each : length t.codes.items ≡ length members * t.blocks
   pub boxes_are : AreBoxes t.means.items places t.boxes
 
 -- the tables of members that are series of the collection, and of places among them
 pub record AreTablesOf (c : Collection) (layout : Layout) (members : List Member) (places : List LeafPlace) (t : Tables)
     : Type 0 where
   pub means : t.means.items ≡ all_means c layout members
-  pub parts : t.parts ≡ part_count (finer_points c)
-  pub finer : t.finer.items ≡ all_finer c members
+  pub blocks : t.blocks ≡ block_count (coded_points c)
+  pub codes : t.codes.items ≡ all_codes c members
   pub boxes : AreBoxes t.means.items places t.boxes
 
 -- the leaves below a node are those from the first up to but not including the end, which are some of these leaves

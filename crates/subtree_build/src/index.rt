@@ -1,5 +1,5 @@
 //! The index: root children by root number, the nodes and the range of leaves below each, the leaves in order, and in that
-//! order the members of all leaves in one row, and beside it their means, the finer ones, and the boxes of the leaves' means.
+//! order the members of all leaves in one row, and beside it their means, their codes, and the boxes of the leaves' means.
 ghost use Rattle.std.specs.Prelude.{◌≡◌, ◌*◌, ◌<◌, ◌≤◌, ◌^◌, All, IfOk, OnOk, IsErrOf, length, map, take, drop, Some, slice_get, slice_index};
 ghost use Rattle.std.specs.List.{flat_map};
 ghost use Rattle.mean_bound.specs.Boxes.{box_of, box_of_boxes};
@@ -8,7 +8,7 @@ ghost use Rattle.subtree_build.specs.Division.{roots_of, tree, tree_leaves};
 ghost use Rattle.subtree_build.specs.Fits.{Fits, IsTreeOf};
 ghost use Rattle.subtree_build.specs.Grown.{cut_leaves, members_in};
 ghost use Rattle.subtree_build.specs.Index.{IsIndex, leaf_at, root_word_at};
-ghost use Rattle.subtree_build.specs.Means.{finer_at, means_at};
+ghost use Rattle.subtree_build.specs.Means.{codes_at, means_at};
 ghost use Rattle.subtree_build.specs.Outline.{outline};
 ghost use Rattle.subtree_build.specs.Places.{tree_firsts, IsRange};
 ghost use Rattle.subtree_build.specs.Start.{node_at};
@@ -23,8 +23,9 @@ use crate::part::{Joined, placed};
 use crate::settings::Settings;
 use crate::tables::{Tables, blank_tables, tables_of};
 use isax_word::{Layout, Member, Word};
-use mean_bound::{MeanBox, MeanCells, Means};
+use mean_bound::{MeanBox, Means};
 use outside::NoMemory;
+use row_codes::CodeBlock;
 use series_core::Rows;
 use std::alloc::Global;
 use std::marker::Model;
@@ -47,7 +48,7 @@ impl Model for Index {
     ghost use Rattle.std.specs.Coded.{codes};
     ghost use Rattle.subtree_build.specs.contracts.node.Node as node;
     ghost use Rattle.subtree_build.specs.Index.{IndexParts, IsIndex};
-    ghost use Rattle.subtree_build.specs.Places.{leaves_seen, means_seen, finer_seen, AreAllSeen, ArePlaces, AreRanges, AreTables};
+    ghost use Rattle.subtree_build.specs.Places.{leaves_seen, means_seen, codes_seen, AreAllSeen, ArePlaces, AreRanges, AreTables};
 
     ghost Value = { IndexParts };
 
@@ -59,7 +60,7 @@ impl Model for Index {
       nodes = x.nodes.items;
       leaves = leaves_seen x.members.items x.leaves.items;
       means = means_seen x.tables.means.items x.leaves.items;
-      finer = finer_seen x.tables.parts x.tables.finer.items x.leaves.items;
+      codes = codes_seen x.tables.blocks x.tables.codes.items x.leaves.items;
     } };
 
     ghost invariant = { λ x. IsIndex (record {
@@ -68,7 +69,7 @@ impl Model for Index {
       nodes = x.nodes.items;
       leaves = leaves_seen x.members.items x.leaves.items;
       means = means_seen x.tables.means.items x.leaves.items;
-      finer = finer_seen x.tables.parts x.tables.finer.items x.leaves.items;
+      codes = codes_seen x.tables.blocks x.tables.codes.items x.leaves.items;
     }) × ArePlaces x.members.items x.leaves.items
         × AreRanges x.nodes.items x.firsts.items x.leaves.items
         × AreTables x.members.items x.leaves.items x.tables
@@ -213,6 +214,8 @@ impl Index {
             members,
             tables,
         } = self;
+        // for the fact that the rows are a collection
+        let _count = rows.count();
         drop(tables);
         let tables = tables_of(
             rt,
@@ -301,11 +304,11 @@ impl Index {
         &self.members
     }
 
-    /// The finer means of the members of all leaves, in the order of the members.
-    pub fn finer(&self) -> &[MeanCells]
-        ensures { result.now ≡ flat_map (λ cells. cells) self.now.finer }
+    /// The codes of the members of all leaves, in the order of the members: each has those of its row.
+    pub fn codes(&self) -> &[CodeBlock]
+        ensures { result.now ≡ flat_map (λ codes. codes) self.now.codes }
     {
-        &self.tables.finer
+        &self.tables.codes
     }
 
     /// The members of leaf number `l`, in the order in which they are listed.
@@ -326,14 +329,14 @@ impl Index {
         &self.tables.means[place.first as usize..place.end as usize]
     }
 
-    /// The finer means of the members of leaf number `l`, in the order of the members: one `MeanCells` for each part of a series.
-    pub fn leaf_finer(&self, l: u32) -> &[MeanCells]
+    /// The codes of the members of leaf number `l`, in the order of the members: as many for each as its row has blocks.
+    pub fn leaf_codes(&self, l: u32) -> &[CodeBlock]
         requires { l < length self.now.leaves }
-        ensures { result.now ≡ finer_at self.now.finer l }
+        ensures { result.now ≡ codes_at self.now.codes l }
     {
         let place = &self.leaves[l as usize];
-        let parts = self.tables.parts as usize;
-        &self.tables.finer[place.first as usize * parts..place.end as usize * parts]
+        let blocks = self.tables.blocks as usize;
+        &self.tables.codes[place.first as usize * blocks..place.end as usize * blocks]
     }
 
     /// The box of the means of the members of leaf number `l`.

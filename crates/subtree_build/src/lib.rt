@@ -27,7 +27,7 @@ pub use boxes::{GROUP, WIDE_GROUP};
 pub use index::Index;
 pub use laws::{leaf_bound_is_below_distances, leaf_bound_is_no_less};
 pub use leaf::{MemberList, TreeLeaf};
-pub use means::finer_length;
+pub use means::coded_length;
 pub use node::Node;
 pub use phases::build;
 pub use settings::Settings;

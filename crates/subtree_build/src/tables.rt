@@ -1,23 +1,24 @@
-//! The tables beside the members of an index: their means, their finer means, and the boxes of the leaves' means.
+//! The tables beside the members of an index: their means, the codes of their rows, and the boxes of the leaves' means.
 ghost use Rattle.std.specs.Prelude.{◌≡◌, ◌<◌, ◌≤◌, ◌^◌, All, IfOk, length};
 ghost use Rattle.subtree_build.specs.Places.{AreTables, AreTablesOf, IsPlace};
 
 use crate::boxes::{Boxes, boxes_of};
 use crate::leaf::LeafPlace;
-use crate::means::{finer_length, means_of_all};
+use crate::means::{coded_length, means_of_all};
 use isax_word::{Layout, Member};
-use mean_bound::{FinerCuts, MeanCells, Means};
+use mean_bound::Means;
 use outside::NoMemory;
+use row_codes::{CodeBlock, block_count};
 use series_core::Rows;
 use std::alloc::Global;
 use std::thread::Threads;
 
-/// The means of all members, in their order; as many finer means a member as a series has parts; and the boxes of leaves.
+/// The means of all members, in their order; the codes of their rows, each of so many blocks; and the boxes of leaves.
 #[derive(Drop)]
 pub(crate) struct Tables {
     pub(crate) means: Vec<Means>,
-    pub(crate) parts: u32,
-    pub(crate) finer: Vec<MeanCells>,
+    pub(crate) blocks: u32,
+    pub(crate) codes: Vec<CodeBlock>,
     pub(crate) boxes: Boxes,
 }
 
@@ -38,18 +39,18 @@ pub(crate) fn tables_of<H: Threads + Sync, R: Rows + Sync>(
     requires some { 1 ≤ workers }
     ensures { IfOk result (AreTablesOf (R.collection rows.now) layout.now members.now places.now) }
 {
-    let cuts = FinerCuts::new(finer_length(rows));
-    let (means, finer) = means_of_all(rt, alloc, rows, layout, &cuts, members, workers)?;
+    let coded = coded_length(rows);
+    let (means, codes) = means_of_all(rt, alloc, rows, layout, coded, members, workers)?;
     let boxes = boxes_of(alloc, means.as_slice(), places)?;
     Ok(Tables {
         means,
-        parts: cuts.parts(),
-        finer,
+        blocks: block_count(coded),
+        codes,
         boxes,
     })
 }
 
-/// Tables of members and of the places of leaves among them, by no rows: every mean is 0, and there are no finer ones.
+/// Tables of members and of the places of leaves among them, by no rows: every mean is 0, and there are no codes.
 pub(crate) fn blank_tables(
     alloc: Global,
     members: &[Member],
@@ -62,8 +63,8 @@ pub(crate) fn blank_tables(
     let boxes = boxes_of(alloc, means.as_slice(), places)?;
     Ok(Tables {
         means,
-        parts: 0,
-        finer: Vec::new(alloc),
+        blocks: 0,
+        codes: Vec::new(alloc),
         boxes,
     })
 }

@@ -1,4 +1,4 @@
-//! Small collections of every kind of data, of lengths below and above 128: the answer alone is that of a plain sort.
+//! Small collections of every kind of data, of lengths around those of blocks of codes: the answer alone is that of a plain sort.
 use breakpoints::Table;
 use nearest_answer::{Task, one_worker_answer};
 use outside::{NoGate, NoMemory};
@@ -17,33 +17,30 @@ enum Kind {
     Walk,
     Noise,
     Resonance,
+    Shrill,
+    Tremor,
     Constant,
-    Flutter,
 }
 
-/// The value at a place of a series, after these two. A flutter swings every other value, and by a pattern of the series' own, so that
-/// eight values in a row have a mean near 0.
-fn next_value(
-    kind: Kind,
-    rng: &mut SplitMix64,
-    pattern: u32,
-    place: u32,
-    last: i32,
-    before: i32,
-) -> i32 {
-    let drawn = (rng.next_u32() >> 16) as i32 - 32768;
+/// What rings on after these two values, with a push.
+fn rung(pitch: i32, push: i32, last: i32, before: i32) -> i32 {
+    let swing = last
+        .wrapping_mul(pitch)
+        .wrapping_sub(before.wrapping_mul(1000));
+    (swing / 1024).wrapping_add(push)
+}
+
+/// The value at a place of a series, after these two. A tremor swells at its onset and dies away.
+fn next_value(kind: Kind, drawn: i32, place: u32, onset: u32, last: i32, before: i32) -> i32 {
     let value = match kind {
         Kind::Walk => last.wrapping_add(drawn / 128),
         Kind::Noise => drawn,
-        Kind::Resonance => {
-            let swing = last
-                .wrapping_mul(1900)
-                .wrapping_sub(before.wrapping_mul(1000));
-            (swing / 1024).wrapping_add(drawn / 16)
-        }
+        Kind::Resonance => rung(1900, drawn / 16, last, before),
+        Kind::Shrill => rung(-1200, drawn / 16, last, before),
+        Kind::Tremor if place < onset => rung(900, drawn / 256, last, before),
+        Kind::Tremor if place < onset.saturating_add(30) => rung(900, drawn / 8, last, before),
+        Kind::Tremor => rung(900, drawn / 64, last, before),
         Kind::Constant => last,
-        Kind::Flutter if (place / 2 & pattern).count_ones() % 2 == 1 => drawn / 8 - 9000,
-        Kind::Flutter => drawn / 8 + 9000,
     };
     value.clamp(-32768, 32767)
 }
@@ -60,9 +57,10 @@ fn values_of(
     for _series in 0..count {
         let mut before = 0;
         let mut last = (rng.next_u32() % 7) as i32 * 1000;
-        let pattern = rng.next_u32() | 1;
+        let onset = rng.next_u32() % 256;
         for place in 0..length {
-            let value = next_value(kind, rng, pattern, place, last, before);
+            let drawn = (rng.next_u32() >> 16) as i32 - 32768;
+            let value = next_value(kind, drawn, place, onset, last, before);
             before = last;
             last = value;
             values.push(value.clamp(-32768, 32767) as i16)?;
@@ -106,16 +104,43 @@ fn agree<T: Threads + Sync>(
     Ok(true)
 }
 
+const KINDS: [Kind; 6] = [
+    Kind::Walk,
+    Kind::Noise,
+    Kind::Resonance,
+    Kind::Shrill,
+    Kind::Tremor,
+    Kind::Constant,
+];
+
+// Lengths beside those at which a row has one block of codes more, each with how many of 24 series are asked for.
+const LENGTHS: [(u32, u32); 14] = [
+    (1, 2),
+    (5, 1),
+    (15, 10),
+    (16, 100),
+    (17, 1),
+    (100, 40),
+    (255, 10),
+    (256, 1),
+    (256, 100),
+    (257, 10),
+    (258, 1),
+    (511, 10),
+    (512, 100),
+    (513, 10),
+];
+
 #[test]
 fn every_kind_of_data(rt: HostRuntime) -> Result<(), Fail> {
     let alloc = rt.alloc();
     let mut rng = SplitMix64::seed_from_u64(5);
-    for kind in [Kind::Walk, Kind::Noise, Kind::Resonance, Kind::Constant] {
-        for (length, k) in [(1, 2), (5, 1), (100, 40), (130, 10), (260, 3)] {
-            let values = values_of(alloc, &mut rng, kind, 60, length)?;
+    for kind in KINDS {
+        for (length, k) in LENGTHS {
+            let values = values_of(alloc, &mut rng, kind, 24, length)?;
             assert!(rt;
                 agree(&rt, alloc, values, length, k)?,
-                "{k} of 60 series of {length} values, {kind:?}"
+                "{k} of 24 series of {length} values, {kind:?}"
             );
         }
     }
@@ -126,28 +151,14 @@ fn every_kind_of_data(rt: HostRuntime) -> Result<(), Fail> {
 fn many_of_every_kind(rt: HostRuntime) -> Result<(), Fail> {
     let alloc = rt.alloc();
     let mut rng = SplitMix64::seed_from_u64(7);
-    for kind in [Kind::Walk, Kind::Noise, Kind::Resonance, Kind::Constant] {
-        for (length, k) in [(16, 65), (64, 300), (130, 1000)] {
-            let values = values_of(alloc, &mut rng, kind, 2000, length)?;
+    for kind in KINDS {
+        for (length, k) in [(16, 65), (130, 1000), (256, 1), (257, 10)] {
+            let values = values_of(alloc, &mut rng, kind, 200, length)?;
             assert!(rt;
                 agree(&rt, alloc, values, length, k)?,
-                "{k} of 2000 series of {length} values, {kind:?}"
+                "{k} of 200 series of {length} values, {kind:?}"
             );
         }
-    }
-    Ok(())
-}
-
-#[test]
-fn data_that_finer_means_alone_tell(rt: HostRuntime) -> Result<(), Fail> {
-    let alloc = rt.alloc();
-    let mut rng = SplitMix64::seed_from_u64(6);
-    for (length, k) in [(256, 1), (256, 3), (130, 2), (128, 3), (128, 100)] {
-        let values = values_of(alloc, &mut rng, Kind::Flutter, 3000, length)?;
-        assert!(rt;
-            agree(&rt, alloc, values, length, k)?,
-            "{k} of 3000 series of {length} values that flutter"
-        );
     }
     Ok(())
 }

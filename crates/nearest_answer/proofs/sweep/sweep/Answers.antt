@@ -1,23 +1,30 @@
--- One member more was scanned; its finer means stand behind those of the members before it.
-use Rattle.search_task.proofs.FinerRows.{finer_of_member, finer_within, same_parts}
+-- One member more was scanned; its codes stand behind those of the members before it.
+use Rattle.search_task.proofs.CodeRows.{codes_at_one, codes_within, member_at}
 use Rattle.search_task.proofs.Meeting.{all_scanned, member_scanned}
 use Rattle.nearest_answer.proofs.sweep.sweep.Goals as goal
 
-pub finer_of_member-own-requires : goal.finer_of_member-own-requires
-finer_of_member-own-requires g c =
-    let a = c.args.task.now in
-    finer_within a.collection c.args.members.now c.args.finer.now c.loop-i.i c.parts-parts.result c.requires.finer
-    (same_parts a c.finer.result.now c.parts-parts.result c.parts-parts.ensures.count c.finer.ensures.finer)
-    c.loop-i-test.true
+pub codes_at_place-own-requires : goal.codes_at_place-own-requires
+codes_at_place-own-requires g c =
+    codes_within c.args.task.now c.args.members.now c.args.codes.now c.code_blocks-blocks.result c.loop-i.i c.code_blocks-blocks.ensures.question
+    c.requires.coded c.code_blocks-blocks.ensures.count c.loop-i-test.true
 
-pub finer_may_be_within-near-requires-clause-finer : goal.finer_may_be_within-near-requires-clause-finer
-finer_may_be_within-near-requires-clause-finer g c =
-    let a = c.args.task.now in
-    let n = c.parts-parts.result in
-    finer_of_member a.collection c.args.members.now c.args.finer.now c.finer_of_member-own.result.now c.loop-i.i n
-    c.index-members-i.result c.requires.finer
-    (same_parts a c.finer.result.now n c.parts-parts.ensures.count c.finer.ensures.finer)
-    c.loop-i-test.true c.index-members-i.is c.finer_of_member-own.ensures
+pub codes_may_be_within-near-requires-clause-member : goal.codes_may_be_within-near-requires-clause-member
+codes_may_be_within-near-requires-clause-member g c =
+    member_at c.args.task.now c.args.members.now c.args.codes.now c.code_blocks-blocks.result c.loop-i.i c.code_blocks-blocks.ensures.question
+    c.requires.coded c.code_blocks-blocks.ensures.count c.loop-i-test.true
+    c.index-members-i.result c.index-members-i.is
+
+pub measure_near-most-requires-clause-member : goal.measure_near-most-requires-clause-member
+measure_near-most-requires-clause-member g c =
+    member_at c.args.task.now c.args.members.now c.args.codes.now c.code_blocks-blocks.result c.loop-i.i c.code_blocks-blocks.ensures.question
+    c.requires.coded c.code_blocks-blocks.ensures.count c.loop-i-test.true
+    c.index-members-i.result c.index-members-i.is
+
+pub codes_may_be_within-near-requires-clause-codes : goal.codes_may_be_within-near-requires-clause-codes
+codes_may_be_within-near-requires-clause-codes g c =
+    codes_at_one c.args.task.now c.args.members.now c.args.codes.now c.code_blocks-blocks.result c.loop-i.i c.code_blocks-blocks.ensures.question
+    c.requires.coded c.code_blocks-blocks.ensures.count c.loop-i-test.true
+    c.codes_at_place-own.result.now c.index-members-i.result c.index-members-i.is c.codes_at_place-own.ensures
 
 pub loop-i-preserved : goal.loop-i-preserved
 loop-i-preserved g c =

@@ -1,8 +1,0 @@
--- The members so far were scanned, and the most that a distance may be is that of the list.
-use Rattle.std.proofs.Common.{take}
-use Rattle.subtree_build.specs.Members.{numbers_of}
-use Rattle.search_task.proofs.Meeting.{IsScanning}
-use Rattle.search_task.proofs.search.Search.scan_leaf.Given as goal
-
-abbrev pub invariant-loop-i : goal.invariant-loop-i
-invariant-loop-i g l = IsScanning l.task l.fn.limit (numbers_of (take l.i l.members)) l.fn.list.pairs l.list l.most
