@@ -3,9 +3,9 @@
 ghost use Rattle.std.specs.Prelude.{◌≡◌, ◌≤◌};
 ghost use Rattle.segment_sums.specs.Division.{division_of};
 
-use crate::QueryView;
 use breakpoints::Table;
 use isax_word::{Full, Layout, Word};
+use lower_bound::QueryView;
 use segment_sums::Cuts;
 use std::process::Abort;
 use std::test::Fail;

@@ -1,6 +1,6 @@
 //! Worked rows of symbols, full words, roots and words. Expected values are worked by hand or counted plainly.
-use crate::{Full, Layout, Word, child, contains, root_of, symbol_of_sum};
 use breakpoints::Table;
+use isax_word::{Full, Layout, Word, child, contains, root_of, symbol_of_sum};
 use segment_sums::Cuts;
 use std::process::Abort;
 use std::test::Fail;

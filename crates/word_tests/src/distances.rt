@@ -3,7 +3,7 @@
 
 ghost use Rattle.std.specs.Prelude.{◌≤◌};
 
-use crate::{distance, distance_within};
+use simd_distance::{distance, distance_within};
 use std::process::Abort;
 use std::test::Fail;
 
