@@ -12,6 +12,3 @@ mod walk;
 pub use iter::Iter;
 pub use list::BlockList;
 pub use row::Unplaced;
-
-#[cfg(test)]
-mod tests;

@@ -35,31 +35,3 @@ pub fn breakpoints_ascend(table: Table, i: u32, j: u32)
     requires last { j ≤ 255 }
     ensures { breakpoint table i <ℤ breakpoint table j }
 {}
-
-#[cfg(test)]
-mod tests {
-    use super::*;
-    use std::test::Fail;
-
-    #[test]
-    fn breakpoints_at_marked_places(rt: HostRuntime) -> Result<(), Fail> {
-        let rows = [
-            (1, -32512, -24257),
-            (127, -256, -65),
-            (128, 0, 0),
-            (129, 256, 65),
-            (192, 16384, 8192),
-            (254, 32256, 23940),
-            (255, 32512, 24257),
-        ];
-        for (place, flat, bent) in rows {
-            assert!(rt;
-                1 <= place && place <= 255,
-                "place {place} is none of a table"
-            );
-            assert_eq!(rt; Table::Flat.at(place), flat, "flat at {place}");
-            assert_eq!(rt; Table::Bent.at(place), bent, "bent at {place}");
-        }
-        Ok(())
-    }
-}

@@ -8,8 +8,6 @@ mod layout;
 mod member;
 mod sixteen;
 mod symbol;
-#[cfg(test)]
-mod tests;
 mod word;
 
 pub use full::{Full, root_of};

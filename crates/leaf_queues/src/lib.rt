@@ -11,6 +11,3 @@ mod queue;
 
 pub use calls::{Call, Reply};
 pub use queue::Queue;
-
-#[cfg(test)]
-mod tests;

@@ -5,8 +5,6 @@
 mod cost;
 mod laws;
 mod roots;
-#[cfg(test)]
-mod tests;
 mod view;
 
 pub use laws::{bound_is_below_distance, child_bound_is_no_less, full_bound_is_below_distance};

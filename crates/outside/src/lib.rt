@@ -21,6 +21,3 @@ pub use mem_sink::MemSink;
 pub use reading::read_all;
 pub use sink::Sink;
 pub use writing::write_whole;
-
-#[cfg(test)]
-mod tests;

@@ -13,6 +13,3 @@ mod tally;
 pub use closed::RunsClosed;
 pub use pass::RunPass;
 pub use runs::Runs;
-
-#[cfg(test)]
-mod tests;

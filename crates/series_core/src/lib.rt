@@ -21,6 +21,3 @@ pub use pair::{LabelList, Pair, PairList};
 pub use queue_words::{Entry, PopReply, PutReply};
 pub use ranges::values_fit;
 pub use rows::{MAX_COUNT, MAX_LENGTH, MAX_VALUES, Rows};
-
-#[cfg(test)]
-mod tests;

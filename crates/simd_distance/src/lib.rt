@@ -12,6 +12,3 @@ mod plain;
 
 pub use kernel::distance_within;
 pub use plain::distance;
-
-#[cfg(test)]
-mod tests;

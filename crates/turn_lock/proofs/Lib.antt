@@ -4,4 +4,3 @@ pub mod Comings
 pub mod Steps
 pub mod Endings
 pub mod Passes
-pub mod TwoCallers

@@ -14,6 +14,3 @@ mod turns;
 
 pub use lock::{LockError, TurnLock, TurnPass};
 pub use object::{Entry, Object};
-
-#[cfg(test)]
-mod tests;

@@ -1,0 +1,16 @@
+//! Tests of the ground, a module a crate, in a crate of their own: the gate proves a crate that has tests twice.
+//! It has no code: what is promised stands at its own calls.
+#![tactic(auto)]
+
+#[cfg(test)]
+mod linked_lists;
+#[cfg(test)]
+mod locks;
+#[cfg(test)]
+mod memory_forms;
+#[cfg(test)]
+mod pairs_and_rows;
+#[cfg(test)]
+mod queues;
+#[cfg(test)]
+mod sealed;

@@ -1,8 +1,0 @@
-use Rattle.sealed_runs.specs.Visits.{IsPass}
-use Rattle.sealed_runs.proofs.tests.threads.pop_each.Given as goal
-
-abbrev pub invariant-loop-m : goal.invariant-loop-m
-invariant-loop-m l = IsPass l.runs.runs l.pass
-
-abbrev pub invariant-loop-turn : goal.invariant-loop-turn
-invariant-loop-turn l = IsPass l.runs.runs l.pass

@@ -1,0 +1,14 @@
+//! Tests of words, of bounds of words and of distances, a module a crate, in a crate of their own: the gate proves a crate that
+//! has tests twice. It has no code: what is promised stands at its own calls.
+#![tactic(auto)]
+
+#[cfg(test)]
+mod bounds;
+#[cfg(test)]
+mod distances;
+#[cfg(test)]
+mod segments;
+#[cfg(test)]
+mod tables;
+#[cfg(test)]
+mod words;
