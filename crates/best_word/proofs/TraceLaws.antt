@@ -1,11 +1,10 @@
 -- Laws of traces: a number within reach of every offer, which is the start or was offered, is the least of them.
 use Rattle.std.proofs.Common.{◌≡◌, ◌⊎◌, ℕ, suc, ◌≤◌, List, [], ◌∷◌, ◌++◌, get_or, All, AllPairs, inl, inr, ⊎_elim, arith}
-use Rattle.std.proofs.lemmas.List.Elements.{All-append, All-push}
+use Rattle.std.proofs.lemmas.List.Elements.{All-append}
 use Rattle.std.proofs.lemmas.List.Kept.{AllPairs-cons}
-use Rattle.std.proofs.lemmas.List.Quantifiers.{all_pairs_push}
 use Rattle.best_word.specs.declared.rule.Event.{Event}
 use Rattle.best_word.specs.declared.rule.Event.TheVariants.{Read, Offer}
-use Rattle.best_word.specs.Traces.{reply, AtMost, InBounds, Falls, IsLegal, Crosses, Offered, least}
+use Rattle.best_word.specs.Traces.{AtMost, Crosses, Offered, least}
 use Rattle.best_word.specs.Rule.{CrossAll}
 
 -- what is at most a read or an offer, is so for anything less
@@ -16,15 +15,6 @@ at_most_less m n (Offer v r) le h = (omega arith, omega arith)
 -- the same for a whole trace
 pub all_less : (m n : ℕ) (es : List Event) → m ≤ n → All (AtMost n) es → All (AtMost m) es
 all_less m n es le h k d in_list = at_most_less m n (get_or es k d) le (h k d in_list)
-
--- a legal trace stays legal with one event more that is in bounds and at most all before it
-pub legal_push : (start floor : ℕ) (es : List Event) (e : Event) → IsLegal start floor es
-    → InBounds start floor e
-    → All (AtMost (reply e)) es → IsLegal start floor (es ++ e ∷ [])
-legal_push start floor es e legal bounds falls = record {
-  bounds = All-push (InBounds start floor) es e legal.bounds bounds;
-  falls = all_pairs_push Falls es e legal.falls falls;
-}
 
 -- what was offered in the first of two traces in a row was offered
 pub offered_left : (n : ℕ) (es fs : List Event) → Offered n es → Offered n (es ++ fs)

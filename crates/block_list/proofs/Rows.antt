@@ -34,11 +34,6 @@ module _ {T : Type 0} where
   has_some-positive [] e = absurd (omega arith)
   has_some-positive (b ∷ bs) e = refl
 
-  -- and the other way round
-  pub positive-has_some : (bs : List (Block T)) → has_some bs ≡ true → 0 < length bs
-  positive-has_some [] e = cc
-  positive-has_some (b ∷ bs) e = omega arith
-
   -- what is written behind the items of the last block stands behind all items
   pub flat-set_last : (bs : List (Block T)) (i : ℕ) (b old : Block T) (xs : List T) → suc i ≡ length bs
       → old ≡ get_or bs i old
@@ -136,15 +131,6 @@ module _ {T : Type 0} where
     within = (omega arith, b.within, b.sized);
     is_left = is_left ∙ ap (λ xs. xs ++ flat behind) (left_in-through items at used through) ∙ ap flat next;
   }
-
-  -- the item at which a walk stands is among the sixteen of its block
-  pub Entered-small : (left : List T) (items : Option (List T)) (at used : ℕ) (behind xs : List T)
-      → Entered left items at used behind
-      → items ≡ Some xs → at < 16
-  Entered-small left items at used behind xs entered is =
-      let P : Option (List T) → Type 0 = λ o. IsWithin o at used in
-      let within = subst P is entered.within in
-      omega (arith, within.0, within.1, within.2, entered.more)
 
   -- it is the first of what is left
   pub Entered-item : (left : List T) (items : Option (List T)) (at used : ℕ) (behind xs : List T) (d : T)

@@ -3,3 +3,4 @@ pub mod Records
 pub mod Adding
 pub mod Parting
 pub mod Gathering
+pub mod Draws

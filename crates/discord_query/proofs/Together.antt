@@ -8,7 +8,7 @@ use Rattle.list_totals.specs.Totals.{total, times, once_below}
 use Rattle.list_totals.proofs.Standing.{in_contains, contains_in}
 use Rattle.list_totals.proofs.Places.{times_at, times_contains}
 use Rattle.claim_word.specs.Passes.{Pass, EachDrawnOnce}
-use Rattle.summary_phase.proofs.Draws.{all_drawn}
+use Rattle.claim_word.proofs.Draws.{all_drawn}
 use Rattle.series_core.specs.Collection.{Collection}
 use Rattle.series_core.specs.Order.{Among, Ascending}
 use Rattle.series_core.specs.Pairs.{ascending, smallest}

@@ -1,5 +1,5 @@
 -- Breakpoints times a length: they ascend as the breakpoints do.
-use Rattle.std.proofs.Common.{ℕ, ◌+◌, ◌<◌, ◌≤◌, arith, ℤ, pos, ◌*ℤ◌, ◌<ℤ◌, ◌≤ℤ◌}
+use Rattle.std.proofs.Common.{ℕ, ◌+◌, ◌≤◌, arith, ℤ, pos, ◌*ℤ◌, ◌≤ℤ◌}
 use Rattle.std.proofs.Math.Nat.{mul-le-mul_left}
 use Rattle.std.proofs.lemmas.Int.{ints}
 use borrow.Author.Differences.{up, down}
@@ -8,10 +8,4 @@ use borrow.Author.Differences.{up, down}
 pub scaled_rises : (l : ℕ) (a b : ℤ) → a ≤ℤ b → (pos l *ℤ a) ≤ℤ (pos l *ℤ b)
 scaled_rises l a b below =
     let parts : up a + down b ≤ up b + down a = omega (arith, ints) in
-    omega (arith, ints, mul-le-mul_left l parts)
-
--- multiples by a number that is not 0 keep a strict order
-pub scaled_ascends : (l : ℕ) (a b : ℤ) → 0 < l → a <ℤ b → (pos l *ℤ a) <ℤ (pos l *ℤ b)
-scaled_ascends l a b some below =
-    let parts : up a + down b + 1 ≤ up b + down a = omega (arith, ints) in
     omega (arith, ints, mul-le-mul_left l parts)

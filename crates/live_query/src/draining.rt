@@ -12,7 +12,7 @@ use outside::Gate;
 use query_core::{Turn, Worker};
 use series_core::Rows;
 use std::thread::Threads;
-use thread_row::for_each_mut;
+use worker_team::for_each_mut;
 
 /// A worker with its hand of the drain part.
 pub type Draining<'a, 'b, R> = Searcher<Worker<'a, R>, DrainHand<'b>>;

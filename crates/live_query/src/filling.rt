@@ -11,7 +11,7 @@ use outside::Gate;
 use query_core::Worker;
 use series_core::Rows;
 use std::thread::Threads;
-use thread_row::for_each_mut;
+use worker_team::for_each_mut;
 
 /// A worker with its hand of the fill part.
 pub type Filling<'a, 'b, R> = Searcher<Worker<'a, R>, FillHand<'b>>;

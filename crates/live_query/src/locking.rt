@@ -13,7 +13,7 @@ use query_core::{Turn, Worker};
 use series_core::Rows;
 use std::sync::Wait;
 use std::thread::Threads;
-use thread_row::for_each_mut;
+use worker_team::for_each_mut;
 
 /// A worker with its hand over locked queues.
 pub type Locking<'a, 'b, R, W> = Searcher<Worker<'a, R>, LockHand<'b, W>>;

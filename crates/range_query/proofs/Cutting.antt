@@ -1,12 +1,11 @@
 -- What a bound above the radius rules out: of a member's means that member (`far_member`), of the box of a leaf's means all of it
 -- (`far_leaf`), and of a root child's all below it (`far_root`).
-use Rattle.std.proofs.Common.{◌≡◌, ℕ, ℤ, ◌<◌, ◌≤◌, List, [], ◌∷◌, ◌++◌, All, Some, length, get_or, refl, sym, ap, ◌∙◌, subst, true, false, arith}
-use Rattle.std.specs.Prelude.{slice_get, slice_index}
-use Rattle.std.proofs.lemmas.Bool.{cond-true, cond-false, le-leb, lt-leb}
+use Rattle.std.proofs.Common.{◌≡◌, ℕ, ◌<◌, ◌≤◌, List, [], ◌∷◌, ◌++◌, All, length, get_or, refl, sym, ap, ◌∙◌, subst, true, false, arith}
+use Rattle.std.specs.Prelude.{slice_index}
+use Rattle.std.proofs.lemmas.Bool.{cond-false, lt-leb}
 use Rattle.std.proofs.lemmas.List.{get_or-map, length-map}
 use Rattle.std.proofs.lemmas.List.Concat.{flat_map-append}
 use Rattle.std.proofs.lemmas.List.Elements.{All-head, All-tail}
-use Rattle.std.proofs.lemmas.Option.{get_or_from_slice_get}
 use Rattle.series_core.specs.Distance.{squared_distance}
 use Rattle.series_core.specs.declared.pair.Pair.{Pair}
 use Rattle.isax_word.specs.declared.word.Part.{Part}
@@ -33,26 +32,10 @@ use Rattle.subtree_build.proofs.Bounds.{member_is_series, members_no_nearer}
 use Rattle.subtree_build.proofs.Meaning.{means_of_leaf}
 use Rattle.range_query.specs.Near.{Asked, IsAsked, near_series, near_members, near_leaf, near_leaves, near_root}
 
--- a row that is lent is the series
-pub series_is_row : (a : Asked) (i : ℕ) (row : List ℤ) → slice_get a.collection.series i ≡ Some row
-    → series_at a.collection i ≡ row
-series_is_row a i row is = get_or_from_slice_get a.collection.series i row [] is
-
 -- a series above the radius is not near
 pub far_series : (a : Asked) (i : ℕ)
     → a.radius < squared_distance (series_at a.collection i) a.query → near_series a i ≡ []
 far_series a i far = cond-false _ _ _ (lt-leb _ _ far)
-
--- a series within the radius is near
-pub near_series_is : (a : Asked) (i d : ℕ) (row : List ℤ)
-    → slice_get a.collection.series i ≡ Some row → d ≡ squared_distance row a.query → d ≤ a.radius
-    → near_series a i ≡ record { distance = d; number = i } ∷ []
-near_series_is a i d row is same near =
-    let series = series_at a.collection i in
-    let e : squared_distance series a.query ≡ d =
-    ap (λ x. squared_distance x a.query) (series_is_row a i row is) ∙ sym same in
-    cond-true _ _ _ (le-leb (squared_distance series a.query) a.radius (omega arith))
-    ∙ ap (λ n. record { distance = n; number = i } ∷ []) e
 
 -- members above the radius are not near
 pub far_members : (a : Asked) (members : List Member)
@@ -66,13 +49,6 @@ far_members a (m ∷ members) far =
     ∙ far_members a members (All-tail P m members far)
 
 module _ (a : Asked) (ix : IndexParts) (view : View) (is : IsAsked a ix view) where
-  -- a series has the length of the query
-  pub length-series : (i : ℕ) (row : List ℤ) → i < length a.collection.series
-      → slice_get a.collection.series i ≡ Some row → length row ≡ length a.query
-  length-series i row low there =
-      ap (λ (xs : List ℤ). length xs) (sym (series_is_row a i row there))
-      ∙ (is.collection.each i [] low).points ∙ is.points ∙ sym is.query
-
   -- a series lies at its bound by its means or farther
   mean_is_below : (i : ℕ) → i < length a.collection.series
       → mean_bound (mean_view_of view.layout.cuts a.query) (row_means view.layout.cuts (series_at a.collection i))

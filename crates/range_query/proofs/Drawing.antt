@@ -18,12 +18,6 @@ drawn_more a ix size draws drawn g had found was more put =
     ∙ ap (near_drawn a ix size) (sym more)
 
 module _ (f : ℕ → List Pair) where
-  -- nothing of a range is done
-  pub none_done : (first : ℕ) (had : List Pair) → had ≡ had ++ flat_map f (range_with_len first (first - first))
-  none_done first had =
-      let none : first - first ≡ 0 = omega arith in
-      sym (append-nil had) ∙ ap (λ n. had ++ flat_map f (range_with_len first n)) (sym none)
-
   -- one number more of a range
   pub next_done : (first i : ℕ) (had found more : List Pair) → first ≤ i
       → found ≡ had ++ flat_map f (range_with_len first (i - first)) → more ≡ found ++ f i

@@ -1,9 +1,9 @@
 -- Groups of root children: all groups together have each root child once, in order (`all_groups`), and the numbers of a group
 -- are those from its first up to its end (`group_is`).
-use Rattle.std.proofs.Common.{◌≡◌, ℕ, zero, suc, ◌+◌, ◌-◌, ◌*◌, ◌<◌, ◌≤◌, min, [], ◌∷◌, ◌++◌, refl, sym, ap, ◌∙◌, append-nil, zero-add, arith}
+use Rattle.std.proofs.Common.{◌≡◌, ℕ, zero, suc, ◌+◌, ◌-◌, ◌*◌, ◌≤◌, min, [], ◌∷◌, ◌++◌, refl, sym, ap, ◌∙◌, append-nil, zero-add, arith}
 use Rattle.std.specs.List.{flat_map, range_with_len}
 use Rattle.std.proofs.lemmas.List.Concat.{flat_map-append}
-use Rattle.std.proofs.Math.Nat.{le-div_iff_mul-le, mod-lt}
+use Rattle.std.proofs.Math.Nat.{mod-lt}
 use Rattle.std.proofs.lemmas.Nat.{div-add-mod'}
 use Rattle.subtree_build.proofs.Indexing.{range_parts}
 use Rattle.range_query.specs.Near.{group_count, group_of}
@@ -52,18 +52,3 @@ all_groups size count some =
     covers size count some =
         let n = count + (size - 1) in
         omega (arith, some, div-add-mod' n size, mod-lt n {m = size} (omega (arith, some)))
-
--- the numbers of a group are those from its first up to its end
-pub group_is : (size count g first end : ℕ) → first ≡ g * size → end ≡ min count (first + size) → first ≤ end
-    → range_with_len first (end - first) ≡ group_of size count g
-group_is size count g first end at to order =
-    let long : end - first ≡ min size (count - first) = omega (arith, to, order) in
-    ap (range_with_len first) long ∙ ap (λ n. range_with_len n (min size (count - n))) at
-
--- a group begins below the count
-pub group_below : (size count g : ℕ) → 1 ≤ size → g < group_count size count → g * size < count
-group_below size count g some inside =
-    let next : suc g * size ≡ g * size + size = grind arith in
-    let low : suc g * size ≤ count + (size - 1)
-    = (le-div_iff_mul-le {k = size} {x = suc g} {y = count + (size - 1)} (omega (arith, some))).0 (omega (arith, inside)) in
-    omega (arith, next, low, some)

@@ -15,7 +15,7 @@ use Rattle.series_core.specs.Distance.{squared_distance}
 use Rattle.series_core.proofs.Plain.{within-ascending}
 use Rattle.claim_word.specs.Passes.{Pass, EachDrawnOnce}
 use Rattle.isax_word.specs.declared.member.Member.{Member}
-use Rattle.summary_phase.proofs.Draws.{same_pieces, times_below, all_draws, times_all, all_drawn}
+use Rattle.claim_word.proofs.Draws.{same_pieces, times_below, all_draws, times_all, all_drawn}
 use Rattle.lower_bound.specs.Bound.{View}
 use Rattle.subtree_build.specs.declared.node.Node.{Node, Leaf}
 use Rattle.subtree_build.specs.declared.leaf.TreeLeaf.{TreeLeaf}

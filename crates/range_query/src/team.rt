@@ -11,8 +11,7 @@ use outside::{Gate, NoMemory};
 use series_core::{Pair, Rows};
 use std::alloc::Global;
 use std::thread::Threads;
-use thread_row::for_each_mut;
-use worker_team::TeamWorker;
+use worker_team::{TeamWorker, for_each_mut};
 
 /// Finds the pairs within the radius below the root children of a group.
 fn search_group<R: Rows>(

@@ -5,11 +5,10 @@ ghost use Rattle.std.specs.List.{All, range_with_len};
 ghost use Rattle.list_totals.specs.Totals.{total};
 ghost use Rattle.saved_index.specs.Membership.{first_unfit_of, weight, weight_for};
 
-use isax_word::{Word, contains};
+use isax_word::{Member, Word, contains};
 use outside::NoMemory;
 use std::alloc::Global;
 use subtree_build::Index;
-use summary_phase::Member;
 
 /// The mark of a series that fits.
 const FITS: u8 = 1;

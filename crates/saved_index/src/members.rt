@@ -7,12 +7,11 @@ ghost use Rattle.saved_index.specs.Membership.{with_word, members_in_lists, word
 
 use crate::numbers::NumberList;
 use crate::roots::RootsAt;
-use isax_word::{Full, Layout};
+use isax_word::{Full, Layout, Member};
 use outside::NoMemory;
 use series_core::Rows;
 use std::alloc::Global;
 use subtree_build::{Assembly, Index, MemberList};
-use summary_phase::Member;
 
 /// The full words of all series, by number.
 fn full_words<R: Rows>(alloc: Global, rows: &R, layout: &Layout) -> Result<Vec<Full>, NoMemory>

@@ -3,8 +3,8 @@ ghost use Rattle.std.specs.Prelude.{◌≡◌, ◌≤◌, ◌<◌, ◌↔◌, Is
 ghost use Rattle.std.specs.List.{All};
 ghost use Rattle.saved_index.specs.IndexText.{AreSaved, CanSave, HasSaved};
 
+use isax_word::Member;
 use subtree_build::{Index, Settings};
-use summary_phase::Member;
 
 /// Whether these members of a leaf can be saved.
 fn are_saved(members: &[Member], count: u32) -> bool

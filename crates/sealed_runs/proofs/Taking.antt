@@ -12,16 +12,6 @@ use Rattle.list_totals.proofs.Places.{times_at, times_contains}
 use Rattle.list_totals.proofs.Totals.{total_push}
 use Rattle.sealed_runs.specs.Entries.{no_entry, entry_at}
 use Rattle.sealed_runs.specs.Tallied.{Takes}
-use Rattle.sealed_runs.proofs.Members.{none_in}
-
--- at the start nothing is taken
-pub takes_none : (es : List Entry) (refused : List ℕ) → Takes es refused 0 []
-takes_none es refused = record {
-  from = λ e there. absurd (none_in e there);
-  all = λ x low not_refused. absurd (omega arith);
-  ascending = λ i j d before in_list. absurd (omega arith);
-  counts = λ f. refl;
-}
 
 -- a number that is not contained in a list stands there at no time
 pub not_counted : (xs : List ℕ) (x : ℕ) → ¬ (Contains xs x) → times x xs ≡ 0

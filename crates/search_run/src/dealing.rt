@@ -11,7 +11,7 @@ use outside::NoMemory;
 use series_core::Rows;
 use std::alloc::Global;
 use std::thread::Threads;
-use thread_row::for_each_mut;
+use worker_team::for_each_mut;
 
 /// What a worker found, and its pass of the queries.
 #[derive(Drop)]

@@ -29,11 +29,6 @@ pub not_before_trans : (p q r : Pair)
     → is_before q p ≡ false → is_before r q ≡ false → is_before r p ≡ false
 not_before_trans p q r h i = grind (arith, nat_tests)
 
--- a pair before one that is not smaller than a third is not behind the third
-pub before_not_after : (p q r : Pair)
-    → is_before p q ≡ true → is_before r q ≡ false → is_before p r ≡ true
-before_not_after p q r h i = grind (arith, nat_tests)
-
 -- a smaller pair is no farther
 pub before_distance : (p q : Pair) → is_before p q ≡ true → p.distance ≤ q.distance
 before_distance p q h = grind (arith, nat_tests)

@@ -5,7 +5,7 @@ use Rattle.std.specs.List.{AllWithin}
 use Rattle.std.specs.List.Sorted.{IsPartitionedBy, IsPartitionPoint}
 use Rattle.std.proofs.lemmas.Bool.{cond_both, cases_Bool, true≢false}
 use Rattle.std.proofs.lemmas.Bool.Decides.{nat_tests}
-use Rattle.std.proofs.lemmas.List.{take_all, nil_from_length}
+use Rattle.std.proofs.lemmas.List.{nil_from_length}
 use Rattle.std.proofs.lemmas.Option.{same_Some, none-some, slice_get-get_or}
 use Rattle.series_core.specs.Pairs.{is_before, insert, ascending, smallest}
 use Rattle.series_core.specs.declared.pair.Pair.{Pair}
@@ -23,13 +23,6 @@ length-insert p (q ∷ qs) =
     cond_both (is_before q p) (q ∷ insert p qs) (p ∷ q ∷ qs) (λ rs. length rs ≡ suc (suc (length qs)))
     (λ _. ap suc (length-insert p qs))
     (λ _. refl)
-
--- while there is room the new pair goes in, and nothing goes out
-pub smallest_room : (k : ℕ) (p : Pair) (qs : List Pair) → ascending qs ≡ qs → length qs < k
-    → smallest k (p ∷ qs) ≡ insert p qs
-smallest_room k p qs e room =
-    ap (λ (rs : List Pair). take k (insert p rs)) e
-    ∙ take_all k (insert p qs) (let size = length-insert p qs in omega arith)
 
 -- in order, no pair at a place is smaller than the first
 none_before_get : (p last : Pair) (qs : List Pair) (n : ℕ) → NoneBefore p qs → slice_get qs n ≡ Some last

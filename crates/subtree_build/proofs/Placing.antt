@@ -13,7 +13,7 @@ use Rattle.list_totals.proofs.Totals.{total_map}
 use Rattle.claim_word.specs.Passes.{Pass, EachDrawnOnce}
 use Rattle.worker_team.specs.Deeds.{EachDid}
 use Rattle.worker_team.proofs.Deeds.{passes_have}
-use Rattle.summary_phase.proofs.Draws.{all_draws, all_drawn, times_all}
+use Rattle.claim_word.proofs.Draws.{all_draws, all_drawn, times_all}
 use Rattle.std.specs.declared.vec.Vec.{Vec}
 use Rattle.std.specs.declared.alloc.Global.{Global}
 use Rattle.subtree_build.specs.declared.part.Part.{Part}

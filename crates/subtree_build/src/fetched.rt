@@ -3,8 +3,8 @@
 ghost use Rattle.std.specs.Prelude.{◌≡◌, ◌*◌, ◌<◌, All, length};
 ghost use Rattle.subtree_build.specs.Means.{all_values};
 
+use isax_word::Member;
 use series_core::Rows;
-use summary_phase::Member;
 
 /// How many values a block has: so many stay near at hand.
 pub(crate) const FETCHED: usize = 16384;

@@ -22,14 +22,13 @@ use crate::node::Node;
 use crate::part::{Joined, placed};
 use crate::settings::Settings;
 use crate::tables::{Tables, blank_tables, tables_of};
-use isax_word::{Layout, Word};
+use isax_word::{Layout, Member, Word};
 use mean_bound::{MeanBox, MeanCells, Means};
 use outside::NoMemory;
 use series_core::Rows;
 use std::alloc::Global;
 use std::marker::Model;
 use std::thread::Threads;
-use summary_phase::Member;
 
 /// An iSAX tree over a collection, seen as its segments, root numbers, root children's nodes, leaves and means.
 #[derive(Drop)]

@@ -1,7 +1,6 @@
 //! The leaves of a tree: as contracts see them, as a subtree grows them, and where an index keeps them.
-use isax_word::Word;
+use isax_word::{Member, Word};
 use series_core::Listed;
-use summary_phase::Member;
 
 /// A list of members.
 pub type MemberList = Listed<Member>;

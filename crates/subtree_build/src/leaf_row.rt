@@ -7,10 +7,9 @@ ghost use Rattle.subtree_build.specs.Places.{tree_firsts};
 
 use crate::leaf::{GrownLeaf, MemberList};
 use crate::node::Node;
-use isax_word::{Word, child};
+use isax_word::{Member, Word, child};
 use outside::NoMemory;
 use std::alloc::Global;
-use summary_phase::Member;
 
 /// The words of all leaves in order; and the number of the first leaf below each node, and behind these that of all leaves.
 #[derive(Drop)]

@@ -5,13 +5,12 @@ ghost use Rattle.std.specs.Thread.{IsSync};
 ghost use Rattle.subtree_build.specs.Means.{AreFilled, HavePlaces, all_finer, all_means, all_values, finer_points};
 
 use crate::fetched::{FETCHED, fetch};
-use isax_word::Layout;
+use isax_word::{Layout, Member};
 use mean_bound::{FinerCuts, MeanCells, Means};
 use outside::NoMemory;
 use series_core::{MAX_VALUES, Rows};
 use std::alloc::Global;
 use std::thread::{Threads, join_mut};
-use summary_phase::Member;
 
 /// What means are made of: rows, and how their means and their finer means cut them.
 #[derive(Clone, Copy)]

@@ -14,10 +14,9 @@ use crate::settings::Settings;
 use crate::splicing::RootLists;
 use crate::subtree::subtree;
 use block_list::BlockList;
-use isax_word::Word;
+use isax_word::{Member, Word};
 use outside::NoMemory;
 use std::alloc::Global;
-use summary_phase::Member;
 
 /// A root child: its place among the root children, its node, whose leaves are numbered from 0, these leaves, and the
 /// members of all of them in a row.

@@ -6,9 +6,10 @@ ghost use Rattle.subtree_build.specs.Building.{root_at, list_at};
 ghost use Rattle.subtree_build.specs.Splicing.{emptied, has_members, kept_if};
 
 use block_list::BlockList;
+use isax_word::Member;
 use outside::NoMemory;
 use std::alloc::Global;
-use summary_phase::{Buffers, Member};
+use summary_phase::Buffers;
 
 /// The root numbers that some series has, ascending, and for each of them the members under it in one list.
 #[derive(Drop)]

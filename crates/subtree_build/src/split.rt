@@ -6,9 +6,8 @@ ghost use Rattle.subtree_build.specs.Division.{bits_left};
 ghost use Rattle.subtree_build.specs.Splitting.{goes_high, split_segment, is_less, triple_of, lesser_of, IsBestOf, NoneDivisible};
 
 use crate::next_bits::{bits_added, next_places};
-use isax_word::{Full, Word};
+use isax_word::{Full, Member, Word};
 use std::simd::prelude::*;
-use summary_phase::Member;
 
 /// In which segment the members of a node are divided, and how many of them have 1 for their next bit there.
 #[derive(Clone, Copy)]

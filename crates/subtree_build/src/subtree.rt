@@ -11,10 +11,9 @@ ghost use Rattle.subtree_build.specs.Tree.{split};
 use crate::leaf::GrownLeaf;
 use crate::node::Node;
 use crate::split::{Split, best_split, next_bit};
-use isax_word::{Word, child};
+use isax_word::{Member, Word, child};
 use outside::NoMemory;
 use std::alloc::Global;
-use summary_phase::Member;
 
 /// Puts the members whose next bit in a segment is 0 before those whose next bit is 1, each in the order that they had, and
 /// counts the first. The others wait in `scratch`, which has as many places. Where all members go to one side, as they mostly do in

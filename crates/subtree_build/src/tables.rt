@@ -5,13 +5,12 @@ ghost use Rattle.subtree_build.specs.Places.{AreTables, AreTablesOf, IsPlace};
 use crate::boxes::{Boxes, boxes_of};
 use crate::leaf::LeafPlace;
 use crate::means::{finer_length, means_of_all};
-use isax_word::Layout;
+use isax_word::{Layout, Member};
 use mean_bound::{FinerCuts, MeanCells, Means};
 use outside::NoMemory;
 use series_core::Rows;
 use std::alloc::Global;
 use std::thread::Threads;
-use summary_phase::Member;
 
 /// The means of all members, in their order; as many finer means a member as a series has parts; and the boxes of leaves.
 #[derive(Drop)]

@@ -16,7 +16,7 @@ use Rattle.summary_phase.specs.Members.{members_of}
 use Rattle.summary_phase.specs.Roots.{has_root, of_root, by_root, root_of_all}
 use Rattle.summary_phase.specs.declared.chunk.TheConstants.{CHUNK}
 use Rattle.isax_word.specs.declared.member.Member.{Member}
-use Rattle.summary_phase.proofs.Draws.{same_pieces, times_below, all_draws, times_all, all_drawn}
+use Rattle.claim_word.proofs.Draws.{same_pieces, times_below, all_draws, times_all, all_drawn}
 use Rattle.summary_phase.proofs.Members.{length-members_of}
 use Rattle.summary_phase.proofs.Roots.{get_or-by_root}
 

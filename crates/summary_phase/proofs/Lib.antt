@@ -3,5 +3,4 @@ pub mod Members
 pub mod Roots
 pub mod Pieces
 pub mod Putting
-pub mod Draws
 pub mod Joined

@@ -12,11 +12,6 @@ use Rattle.isax_word.specs.declared.member.Member.{Member}
 use Rattle.summary_phase.specs.declared.chunk.TheConstants.{CHUNK}
 use Rattle.summary_phase.proofs.Members.{length-members_of, get_or-members_of}
 
--- no number gives no member
-pub between_none : (ms : List Member) (start : ℕ) → members_between ms start start ≡ []
-between_none ms start =
-    let e : start - start ≡ 0 = omega arith in ap (λ n. take n (drop start ms)) e
-
 -- one number more adds the member of its series
 pub between_more : (layout : Layout) (c : Collection) (start number : ℕ) (row : List ℤ)
     → start ≤ number → number < length c.series → slice_get c.series number ≡ Some row

@@ -9,7 +9,6 @@ mod summary;
 
 pub use buffers::Buffers;
 pub use chunk::{CHUNK, chunks};
-pub use isax_word::Member;
 pub use laws::root_law;
 pub use summary::summarise;
 

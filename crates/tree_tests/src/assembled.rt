@@ -3,12 +3,11 @@ ghost use Rattle.std.specs.Prelude.{◌≤◌};
 
 use crate::worked::is_leaf;
 use breakpoints::Table;
-use isax_word::{Full, Layout};
+use isax_word::{Full, Layout, Member};
 use segment_sums::Cuts;
 use std::alloc::Global;
 use std::test::Fail;
 use subtree_build::{Assembly, Index, MemberList, Node};
-use summary_phase::Member;
 
 /// The worked collection: four series of four values.
 const ROWS: [[i16; 4]; 4] = [

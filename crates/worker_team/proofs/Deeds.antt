@@ -49,12 +49,6 @@ module _ {M : Type 0} (Did : Pass → M → Type 0) where
   passes_have P gives passes made did =
       (both_have P (λ _. Unit {0}) (λ p m d. (gives p m d, tt)) passes made did).0
 
-  -- what holds of each thing that a pass made holds of all that was made
-  pub made_have : (P : M → Type 0) → ((p : Pass) (m : M) → Did p m → P m)
-      → (passes : List Pass) (made : List M) → EachDid Did passes made → All P made
-  made_have P gives passes made did =
-      (both_have (λ _. Unit {0}) P (λ p m d. (tt, gives p m d)) passes made did).1
-
   -- pieces of what was made are the pieces of the passes, where those of each are
   pub same_pieces_made : {X : Type 0} (f : M → List X) (g : Pass → List X)
       → ((p : Pass) (m : M) → Did p m → f m ≡ g p)

@@ -1,4 +1,6 @@
 //! Teams in one thread: their workers are dismissed with what they made, and want of memory is reported where one made nothing.
+mod row;
+
 use super::*;
 use claim_word::Claims;
 use std::test::*;

@@ -1,7 +1,7 @@
 //! A call at each place of a row. Its one rule: the caller starts all threads, and takes the last place itself.
 ghost use Rattle.std.specs.Prelude.{◌≡◌, ◌+◌, ◌^◌, ◌<◌, length};
 ghost use Rattle.std.specs.Fork.{AcceptsAt, AcceptsEach, ChangesAt, ChangesEach};
-ghost use Rattle.thread_row.specs.Places.{AllFrom, BothFrom};
+ghost use Rattle.worker_team.specs.Places.{AllFrom, BothFrom};
 ghost use denote.Param.Send.{IsSend, IsSync};
 
 use std::thread::{Threads, join_mut};

@@ -1,6 +1,6 @@
 -- Each call of the two has fewer places before it.
 use Rattle.std.proofs.Common.{◌+◌, ◌*◌, length}
-use Rattle.thread_row.proofs.row.+threads.Given as goal
+use Rattle.worker_team.proofs.row.+threads.Given as goal
 
 abbrev pub decreases-each_from : goal.decreases-each_from
 decreases-each_from g l = 3 * length l.row.now

@@ -1,5 +1,5 @@
 //! Rows of up to five elements: each place is changed once, by a call with its own number.
-use super::*;
+use crate::for_each_mut;
 use std::test::*;
 
 // How many of the first elements are a row, and what is there when each has had a call that adds its number, from 1.

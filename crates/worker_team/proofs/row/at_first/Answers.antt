@@ -1,7 +1,7 @@
 -- The place is the one that there is.
 use Rattle.std.specs.Fork.{ChangesAt}
-use Rattle.thread_row.proofs.EachPlace.{both_first}
-use Rattle.thread_row.proofs.row.at_first.Goals as goal
+use Rattle.worker_team.proofs.EachPlace.{both_first}
+use Rattle.worker_team.proofs.row.at_first.Goals as goal
 
 pub returns-then-not-is_empty : goal.returns-then-not-is_empty
 returns-then-not-is_empty g c =

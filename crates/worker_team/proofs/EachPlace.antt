@@ -1,6 +1,6 @@
 -- What holds from place 0 on, said of each place by its number.
 use Rattle.std.proofs.Common.{◌≡◌, ℕ, ◌+◌, ◌<◌, List, [], ◌∷◌, zero, suc, length, slice_index_or, slice_set, refl, subst, arith}
-use Rattle.thread_row.specs.Places.{AllFrom, BothFrom}
+use Rattle.worker_team.specs.Places.{AllFrom, BothFrom}
 
 -- what holds at each place by its number
 pub all_from : {X : Type 0} (P : ℕ → X → Type 0) (n : ℕ) (xs : List X)

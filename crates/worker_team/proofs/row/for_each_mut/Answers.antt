@@ -1,8 +1,8 @@
 -- Each place is one from place 0 on.
 use Rattle.std.proofs.Common.{◌≡◌, ℕ, ◌+◌, slice_index_or, refl, subst, sym, ◌∙◌, arith}
 use Rattle.std.specs.Fork.{AcceptsAt, ChangesAt}
-use Rattle.thread_row.proofs.EachPlace.{all_from, both_at}
-use Rattle.thread_row.proofs.row.for_each_mut.Goals as goal
+use Rattle.worker_team.proofs.EachPlace.{all_from, both_at}
+use Rattle.worker_team.proofs.row.for_each_mut.Goals as goal
 
 pub each_from-requires-clause-accepts : goal.each_from-requires-clause-accepts
 each_from-requires-clause-accepts g c κs within =

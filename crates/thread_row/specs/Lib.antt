@@ -1,2 +1,0 @@
--- What private functions say of a part of a row.
-pub mod Places
