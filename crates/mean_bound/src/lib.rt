@@ -8,7 +8,9 @@ mod mean_box;
 mod means;
 mod view;
 
-pub use laws::{box_bound_is_no_greater, mean_bound_is_below_distance, wider_box_bound_is_no_greater};
+pub use laws::{
+    box_bound_is_no_greater, mean_bound_is_below_distance, wider_box_bound_is_no_greater,
+};
 pub use mean_box::MeanBox;
 pub use means::Means;
 pub use view::MeanView;
