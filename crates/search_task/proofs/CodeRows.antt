@@ -15,7 +15,7 @@ use Rattle.isax_word.specs.declared.member.Member.{Member}
 use Rattle.row_codes.specs.Bound.{AreCodesFor, code_bound}
 use Rattle.row_codes.specs.Rows.{Block, block_count, row_codes}
 use Rattle.row_codes.proofs.Below.{bound_below, have_squares}
-use Rattle.series_core.specs.Collection.{Collection, IsCollection}
+use Rattle.series_core.specs.Collection.{Collection}
 use Rattle.series_core.specs.Distance.{squared_distance}
 use Rattle.series_core.specs.declared.rows.TheConstants.{MAX_VALUES}
 use Rattle.subtree_build.specs.declared.leaf.TreeLeaf.{TreeLeaf}

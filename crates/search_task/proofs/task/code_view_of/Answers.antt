@@ -1,5 +1,5 @@
 -- No more values of a query are seen than it has.
-use Rattle.std.proofs.Common.{◌≡◌, ◌∙◌, ℕ, ℤ, List, take, ap}
+use Rattle.std.proofs.Common.{◌∙◌, take, ap}
 use Rattle.search_task.proofs.task.code_view_of.Goals as goal
 
 pub returns : goal.returns

@@ -1,5 +1,5 @@
 -- The members of a leaf, with their means and their codes.
-use Rattle.std.proofs.Common.{◌≡◌, ◌∙◌, List, ap, subst, sym}
+use Rattle.std.proofs.Common.{◌∙◌, List, ap, subst, sym}
 use Rattle.isax_word.specs.declared.member.Member.{Member}
 use Rattle.subtree_build.specs.Means.{all_means}
 use Rattle.subtree_build.specs.Members.{numbers_of}
