@@ -40,8 +40,8 @@ pub(crate) fn means_of_all<H: Threads + Sync, R: Rows + Sync>(
     ensures codes { IfOk result (λ r. r.1.items ≡ all_codes (R.collection rows.now) members.now) }
 {
     let mut means = vec![in alloc; Means::zeros(); members.len()]?;
-    let mut codes = vec![in alloc; CodeBlock::zeros(); members.len()
-        * block_count(coded) as usize]?;
+    let places = members.len() * block_count(coded) as usize;
+    let mut codes = vec![in alloc; CodeBlock::zeros(); places]?;
     let source = Source {
         rows,
         layout,
