@@ -4,7 +4,7 @@
 here="$(cd "$(dirname "${BASH_SOURCE[0]}")" && pwd)"
 source "$here/../scratch.sh"
 build_timed \
-    "outside list_totals series_core claim_word worker_team best_word breakpoints segment_sums isax_word lower_bound
+    "outside list_totals series_core table_passes claim_word worker_team best_word breakpoints segment_sums isax_word lower_bound
     mean_bound simd_distance block_list turn_lock leaf_queues search_machine summary_phase subtree_build plain_search query_core" \
     "outside series_core breakpoints segment_sums isax_word subtree_build query_core anyhow"
 gcc -O3 -march=native -o "$work/make_data" "$here/make_data.c" -lm

@@ -1,8 +1,8 @@
--- When all passes are back, one record has taken in all of them, and the rule speaks of it alone.
-use Rattle.std.proofs.Common.{◌≡◌, ◌≢◌, ℕ, ◌+◌, List, [], ◌∷◌, ◌++◌, length, get_or, All, AllPairs, sym, ap, ◌∙◌, subst, inl, inr, ⊎_elim, arith, length-append, append_assoc}
+-- When all passes are back, one record was joined from theirs, and the rule speaks of it alone (`back`).
+use Rattle.std.proofs.Common.{◌≡◌, ◌≢◌, ℕ, List, [], ◌∷◌, ◌++◌, length, map, get_or, All, AllPairs, sym, ap, ◌∙◌, subst, inl, inr, ⊎_elim, arith}
 use Rattle.std.proofs.lemmas.List.{append-nil}
-use Rattle.std.proofs.lemmas.Grind.{flat_map-append}
-use mathlib.Core.Option.{some}
+use Rattle.std.proofs.lemmas.List.Elements.{All-head, All-tail}
+use mathlib.Core.Option.{some, some-injective}
 use mathlib.Core.Logic.{dite}
 use native.Mathlib.Decide.{ℕ_discrete}
 use lib.ListN.{get_elem?}
@@ -13,40 +13,31 @@ use Rattle.best_word.specs.declared.rule.Terms.{Terms}
 use Rattle.best_word.specs.declared.rule.Event.{Event}
 use Rattle.best_word.specs.Traces.{reply, Crosses, Offered, IsMet, least}
 use Rattle.best_word.specs.Rule.{both, Met, Source, Kept}
-use Rattle.best_word.specs.Passes.{Pass, pass_of, together}
+use Rattle.best_word.specs.Passes.{Pass, IsPass, pass_of, together}
+use Rattle.table_passes.specs.AllBack.{AllBack, joined}
 use Rattle.best_word.proofs.TraceLaws.{least_is}
 use Rattle.best_word.proofs.Sources.{same_record}
 use Rattle.best_word.proofs.Opening.{others_idle}
 
--- v has taken in all the passes but the rest
-pub record Gathered (all rest : List Pass) (v : View) : Type 0 where
-  pub is : together rest ++ v.trace ≡ together all
-  pub parts : v.parts + length rest ≡ length all
+-- what a record has of all passes, when it was joined from theirs
+pub record Gathered (all : List Pass) (v : View) : Type 0 where
+  pub is : v.trace ≡ together all
+  pub parts : v.parts ≡ length all
 
--- the traces with one pass more end with its trace
-together_push : (rest : List Pass) (p : Pass) → together (rest ++ p ∷ []) ≡ together rest ++ p.trace
-together_push rest p =
-    flat_map-append (λ (q : Pass). q.trace) rest (p ∷ [])
-    ∙ ap (λ (xs : List Event). together rest ++ xs) (append-nil p.trace)
-
--- the last pass is taken in first
-pub first : (rest : List Pass) (t : TableId) (v : View) → v.parts ≡ 1
-    → Gathered (rest ++ pass_of t v ∷ []) rest v
-first rest t v part = record {
-  is = sym (together_push rest (pass_of t v));
-  parts = let h = length-append rest (pass_of t v ∷ []) in omega arith;
+-- a record that was joined from those of all passes has their traces, one after another
+pub gathered : (t : TableId) (before : List View) (last : View) → All IsPass (before ++ last ∷ [])
+    → Gathered (map (pass_of t) (before ++ last ∷ [])) (joined both before last)
+gathered t [] last each = record {
+  is = sym (append-nil last.trace);
+  parts = (All-head IsPass last [] each).part;
 }
-
--- one pass more is taken in
-pub more : (all rest : List Pass) (t : TableId) (v w : View) → w.parts ≡ 1
-    → Gathered all (rest ++ pass_of t w ∷ []) v → Gathered all rest (both v w)
-more all rest t v w part g = record {
-  is =
-      sym (append_assoc (together rest) w.trace v.trace)
-      ∙ ap (λ (xs : List Event). xs ++ v.trace) (sym (together_push rest (pass_of t w)))
-      ∙ g.is;
-  parts = let h = length-append rest (pass_of t w ∷ []) in let was = g.parts in omega arith;
-}
+gathered t (v ∷ before) last each =
+    let behind = before ++ last ∷ [] in
+    let rest = gathered t before last (All-tail IsPass v behind each) in
+    record {
+      is = ap (λ (xs : List Event). v.trace ++ xs) rest.is;
+      parts = let was = rest.parts in let one = (All-head IsPass v behind each).part in omega arith;
+    }
 
 -- what the rule says of one trace that stands for all passes
 pub record KnowsAll (start low : ℕ) (trace : List Event) : Type 0 where
@@ -79,3 +70,16 @@ module _ (terms : Terms) (id : ℕ) (v : View) (s : State ℕ View) (h : Kept te
             (h.replies id v at k d in_list);
         crossed = mine.crossed;
       }
+
+-- what is known of the number and of all traces when all passes are back
+pub back : (terms : Terms) (t : TableId) (all : List Pass) (word : ℕ) → length all ≡ terms.callers
+    → AllBack (Kept terms) (pass_of t) IsPass both all word → KnowsAll terms.start word (together all)
+back terms t all word every b =
+    let v = joined both b.before b.last in
+    let g = subst (λ (ps : List Pass). Gathered ps v) b.shown (gathered t b.before b.last b.each_own) in
+    let parts = g.parts in
+    let known = knows_all terms b.place v b.state b.kept b.there (omega arith) in
+    let low : b.kept.low ≡ word =
+    some-injective _ _ (sym (ap (λ (ws : List ℕ). get_elem? ws 0) b.kept.word) ∙ b.word_is) in
+    subst (λ (n : ℕ). KnowsAll terms.start n (together all)) low
+    (subst (λ (es : List Event). KnowsAll terms.start b.kept.low es) g.is known)

@@ -13,6 +13,7 @@ use atomic_table::{Seat, Table};
 use outside::NoMemory;
 use std::alloc::Global;
 use std::marker::{Brand, Model};
+use table_passes::close;
 
 type Number = Table<u8, View, Terms, Falling, Global>;
 
@@ -117,7 +118,7 @@ impl BestWord {
 
     /// Ends it, with all passes back, and answers the least of `start` and all offers. It takes no memory and waits
     /// for nobody.
-    pub fn close(self, mut passes: Vec<WordPass>) -> u64
+    pub fn close(self, passes: Vec<WordPass>) -> u64
         requires all { vec_len passes ≡ self.callers }
         requires own { All (λ p. p.best ≡ self) passes.items }
         ensures least { result ≡ least self.start (together passes.items) }
@@ -131,18 +132,6 @@ impl BestWord {
             start: _,
             callers: _,
         } = self;
-        let Some(first) = passes.pop() else {
-            unreachable!()
-        };
-        let mut seat = first.into_seat();
-        while let Some(pass) = passes.pop() {
-            table
-                .shared
-                .join_seat::<Gather>(&mut seat, pass.into_seat());
-        }
-        let closed = table.close_with(seat);
-        let least = closed.word(0);
-        closed.free();
-        least
+        close::<View, Terms, Falling, Gather, WordPass>(table, passes)
     }
 }

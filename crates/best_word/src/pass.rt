@@ -5,6 +5,7 @@ ghost use Rattle.best_word.specs.Passes.{pass_of, IsPass};
 use crate::rule::View;
 use atomic_table::Seat;
 use std::marker::Model;
+use table_passes::TablePass;
 
 /// The right of one worker to its `BestWord`. It is seen as its record: whose it is, what no offer is below, and the
 /// trace of its reads and offers with their replies, which is legal at all times.
@@ -31,11 +32,18 @@ impl WordPass {
     {
         WordPass { seat }
     }
+}
 
-    pub(crate) fn into_seat(self) -> Seat<u8, View>
-        ensures pass { pass_of result.table_id result.me.0 ≡ self }
-        ensures seat { (result.me.1 ≡ []) × IsPass result.me.0 }
-    {
+impl TablePass<View> for WordPass {
+    ghost use Rattle.best_word.specs.Passes.{IsPass, pass_of};
+
+    ghost table = { λ p. p.best.table };
+
+    ghost seen = { pass_of };
+
+    ghost own = { IsPass };
+
+    fn into_seat(self) -> Seat<u8, View> {
         let WordPass { seat } = self;
         seat
     }

@@ -1,63 +1,57 @@
--- When all passes are back, one record has taken in all of them, and the rule speaks of it alone.
-use Rattle.std.proofs.Common.{◌≡◌, ℕ, zero, suc, ◌+◌, ◌<◌, ◌≤◌, max, List, [], ◌∷◌, ◌++◌, length, get_or, Bool, true, cond, ltb, sym, ap, ◌∙◌, arith, length-append}
+-- When all passes are back, one record was joined from theirs, and the rule speaks of it alone (`back`).
+use Rattle.std.proofs.Common.{◌≡◌, ℕ, zero, suc, ◌+◌, ◌<◌, ◌≤◌, List, [], ◌∷◌, ◌++◌, length, map, get_or, All, Bool, true, cond, ltb, sym, ap, ◌∙◌, subst, arith}
+use Rattle.std.proofs.lemmas.List.Elements.{All-head, All-tail}
 use Rattle.std.proofs.lemmas.Bool.Decides.{nat_tests}
 use mathlib.Core.Option.{some}
 use lib.ListN.{get_elem?}
 use Rattle.atomic_table.specs.Seated.{TableId}
 use Rattle.atomic_table.specs.Table.{State}
 use Rattle.list_totals.specs.Totals.{total, greatest, times, once_below}
-use Rattle.list_totals.proofs.Totals.{total_push, times_append, alone}
-use Rattle.list_totals.proofs.Greatest.{greatest_push, at_most_greatest}
+use Rattle.list_totals.proofs.Totals.{times_append, alone}
+use Rattle.list_totals.proofs.Greatest.{at_most_greatest}
 use Rattle.claim_word.specs.declared.rule.View.{View}
 use Rattle.claim_word.specs.declared.rule.Terms.{Terms}
 use Rattle.claim_word.specs.Rule.{both, Kept}
-use Rattle.claim_word.specs.Passes.{Pass, pass_of, EachDrawnOnce}
+use Rattle.claim_word.specs.Passes.{Pass, IsOnePass, pass_of, EachDrawnOnce}
+use Rattle.table_passes.specs.AllBack.{AllBack, joined}
 
 -- 1 for a pass that has ended, and else 0
 abbrev one_if_ended : Pass → ℕ
 one_if_ended p = cond p.ended 1 0
 
--- v has taken in all the passes but the rest
-pub record Gathered (all rest : List Pass) (v : View) : Type 0 where
-  pub once : (x : ℕ) → times x v.draws + total (λ (p : Pass). times x p.draws) rest ≡ total
-      (λ (p : Pass). times x p.draws) all
-  pub ends : total one_if_ended all ≤ v.ends + total one_if_ended rest
-  pub met : greatest (λ (p : Pass). p.met) all ≤ max v.met (greatest (λ (p : Pass). p.met) rest)
-  pub parts : v.parts + length rest ≡ length all
+-- what a record has of all passes, when it was joined from theirs
+pub record Gathered (all : List Pass) (v : View) : Type 0 where
+  pub once : (x : ℕ) → times x v.draws ≡ total (λ (p : Pass). times x p.draws) all
+  pub ends : total one_if_ended all ≤ v.ends
+  pub met : greatest (λ (p : Pass). p.met) all ≤ v.met
+  pub parts : v.parts ≡ length all
 
 -- a pass ends at most as often as its record says
 one_end : (n : ℕ) → cond (ltb 0 n) 1 0 ≤ n
 one_end n = grind (arith, nat_tests)
 
--- the last pass is taken in first
-pub first : (rest : List Pass) (t : TableId) (v : View) → v.parts ≡ 1
-    → Gathered (rest ++ pass_of t v ∷ []) rest v
-first rest t v part = record {
-  once = λ x. let h = total_push (λ (p : Pass). times x p.draws) rest (pass_of t v) in omega arith;
-  ends = let h = total_push one_if_ended rest (pass_of t v) in let e = one_end v.ends in
-      omega arith;
-  met = let h = greatest_push (λ (p : Pass). p.met) rest (pass_of t v) in omega arith;
-  parts = let h = length-append rest (pass_of t v ∷ []) in omega arith;
+-- a record that was joined from those of all passes has what these have together
+pub gathered : (t : TableId) (before : List View) (last : View) → All IsOnePass (before ++ last ∷ [])
+    → Gathered (map (pass_of t) (before ++ last ∷ [])) (joined both before last)
+gathered t [] last each = record {
+  once = λ x. omega arith;
+  ends = let e = one_end last.ends in omega arith;
+  met = omega arith;
+  parts = All-head IsOnePass last [] each;
 }
-
--- one pass more is taken in
-pub more : (all rest : List Pass) (t : TableId) (v w : View) → w.parts ≡ 1
-    → Gathered all (rest ++ pass_of t w ∷ []) v → Gathered all rest (both v w)
-more all rest t v w part g = record {
-  once = λ x.
-      let h = total_push (λ (p : Pass). times x p.draws) rest (pass_of t w) in
-      let glue = times_append x v.draws w.draws in
-      let was = g.once x in
-      omega arith;
-  ends =
-      let h = total_push one_if_ended rest (pass_of t w) in
-      let e = one_end w.ends in
-      let was = g.ends in
-      omega arith;
-  met = let h = greatest_push (λ (p : Pass). p.met) rest (pass_of t w) in let was = g.met in
-      omega arith;
-  parts = let h = length-append rest (pass_of t w ∷ []) in let was = g.parts in omega arith;
-}
+gathered t (v ∷ before) last each =
+    let behind = before ++ last ∷ [] in
+    let rest = gathered t before last (All-tail IsOnePass v behind each) in
+    let j = joined both before last in
+    record {
+      once = λ x.
+          let glue = times_append x j.draws v.draws in
+          let was = rest.once x in
+          omega arith;
+      ends = let e = one_end v.ends in let was = rest.ends in omega arith;
+      met = let was = rest.met in omega arith;
+      parts = let was = rest.parts in let one = All-head IsOnePass v behind each in omega arith;
+    }
 
 -- what the rule says of one record that stands for all passes
 pub record KnowsAll (count : ℕ) (v : View) : Type 0 where
@@ -95,12 +89,12 @@ ended_there (p ∷ xs) (suc k) d in_list e = let rest = ended_there xs k d (omeg
     omega arith
 
 -- the records of all passes fit together
-pub each_once : (count : ℕ) (all : List Pass) (v : View) → Gathered all [] v → KnowsAll count v
+pub each_once : (count : ℕ) (all : List Pass) (v : View) → Gathered all v → KnowsAll count v
     → EachDrawnOnce count all
 each_once count all v g k = record {
   drawn = k.drawn;
   bound = k.bound;
-  once = λ x. let was = g.once x in let here = k.once x in omega arith;
+  once = λ x. sym (g.once x) ∙ k.once x;
   met = λ j d in_list.
       let here = at_most_greatest (λ (p : Pass). p.met) all j d in_list in
       let most = g.met in
@@ -111,3 +105,12 @@ each_once count all v g k = record {
       let all_ends = g.ends in
       k.whole (omega arith);
 }
+
+-- claims whose passes are all back have each number drawn once
+pub back : (terms : Terms) (t : TableId) (all : List Pass) (word : ℕ) → length all ≡ terms.callers
+    → AllBack (Kept terms) (pass_of t) IsOnePass both all word → EachDrawnOnce terms.count all
+back terms t all word every b =
+    let v = joined both b.before b.last in
+    let g = subst (λ (ps : List Pass). Gathered ps v) b.shown (gathered t b.before b.last b.each_own) in
+    let parts = g.parts in
+    each_once terms.count all v g (knows_all terms b.place v b.state b.kept b.there (omega arith))

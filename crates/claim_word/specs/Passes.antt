@@ -55,6 +55,10 @@ pass_of t v = record {
       ltb 0 v.ends;
 }
 
+-- the record of one pass
+abbrev pub IsOnePass : View → Type 0
+IsOnePass v = v.parts ≡ 1
+
 -- the counter's table has one word, keeps these terms, and has some pass
 abbrev pub IsClaim : TableId → Terms → ℕ → ℕ → Type 0
 IsClaim t key count callers =

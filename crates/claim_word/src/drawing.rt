@@ -9,6 +9,7 @@ use atomic_table::Table;
 use outside::NoMemory;
 use std::alloc::Global;
 use std::marker::Model;
+use table_passes::close;
 
 type Counter = Table<u8, View, Terms, Counted, Global>;
 
@@ -78,7 +79,7 @@ impl Claims {
 
     /// Ends the drawing, with all passes back: the draws of all of them together are the numbers below some c, each
     /// once, and c is the count where some pass has ended. It takes no memory and waits for nobody.
-    pub fn close(self, mut passes: Vec<ClaimPass>)
+    pub fn close(self, passes: Vec<ClaimPass>)
         requires all { vec_len passes ≡ self.callers }
         requires own { All (λ p. p.claims ≡ self) passes.items }
         ensures { EachDrawnOnce self.count passes.items }
@@ -88,15 +89,6 @@ impl Claims {
             count: _,
             callers: _,
         } = self;
-        let Some(first) = passes.pop() else {
-            unreachable!()
-        };
-        let mut seat = first.into_seat();
-        while let Some(pass) = passes.pop() {
-            table
-                .shared
-                .join_seat::<Gather>(&mut seat, pass.into_seat());
-        }
-        table.close_with(seat).free();
+        close::<View, Terms, Counted, Gather, ClaimPass>(table, passes);
     }
 }

@@ -5,6 +5,7 @@ ghost use Rattle.claim_word.specs.Passes.{pass_of};
 use crate::rule::View;
 use atomic_table::Seat;
 use std::marker::Model;
+use table_passes::TablePass;
 
 /// The right of one worker to draw from its `Claims`. It is seen as its record: whose it is, its draws in their
 /// order, how many numbers all passes together had drawn after its last draw, and whether it has ended.
@@ -33,10 +34,18 @@ impl ClaimPass {
     {
         ClaimPass { seat }
     }
+}
 
-    pub(crate) fn into_seat(self) -> Seat<u8, View>
-        ensures { (pass_of result.table_id result.me.0 ≡ self) × (result.me.1 ≡ []) × (result.me.0.parts ≡ 1) }
-    {
+impl TablePass<View> for ClaimPass {
+    ghost use Rattle.claim_word.specs.Passes.{IsOnePass, pass_of};
+
+    ghost table = { λ p. p.claims.table };
+
+    ghost seen = { pass_of };
+
+    ghost own = { IsOnePass };
+
+    fn into_seat(self) -> Seat<u8, View> {
         let ClaimPass { seat } = self;
         seat
     }

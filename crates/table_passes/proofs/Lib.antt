@@ -1,0 +1,2 @@
+-- One record takes in those of all passes.
+pub mod Gathering
