@@ -2,6 +2,7 @@
 
 ghost use Rattle.std.specs.Prelude.{◌≡◌, ◌≤◌, ◌<◌, ◌+◌, length, IfSome};
 ghost use Rattle.std.specs.Option.{option_copied};
+ghost use Rattle.series_core.specs.declared.best.TheConstants.{MAX_BEST};
 ghost use Rattle.certificate.specs.Refusals.{refusal_of};
 ghost use Rattle.certificate.specs.Verdict.{wanted, is_real, is_label, is_above, is_right, answers_refusal};
 
@@ -19,7 +20,7 @@ pub fn check_answers<R: Rows>(
     query: &[i16],
     block: &Block,
 ) -> Result<(), Reject>
-    requires limit { k ≤ 1024 }
+    requires limit { k ≤ MAX_BEST }
     requires same_length { length query.now ≡ (R.collection rows.now).points }
     requires labels { IfSome (option_copied labels) (λ ls. length ls ≡ length (R.collection rows.now).series) }
     requires labelled { IfSome (option_copied labels) (λ ls. length block.now.labels ≡ length block.now.answers) }

@@ -4,7 +4,6 @@ ghost use Rattle.std.specs.Prelude.{◌≡◌};
 ghost use Rattle.certificate.specs.declared.error.CertError.TheVariants.{NoMemory};
 
 use series_core::NONE;
-use std::alloc::{AllocError, AllocFailed};
 use std::fmt;
 use thiserror::Error;
 
@@ -19,26 +18,10 @@ pub enum CertError {
     NoMemory,
 }
 
-impl From<AllocError> for CertError {
-    ghost from_gives = { λ _ e. e ≡ NoMemory };
-
-    fn from(_: AllocError) -> CertError {
-        CertError::NoMemory
-    }
-}
-
 impl From<outside::NoMemory> for CertError {
     ghost from_gives = { λ _ e. e ≡ NoMemory };
 
     fn from(_: outside::NoMemory) -> CertError {
-        CertError::NoMemory
-    }
-}
-
-impl<T: Drop> From<AllocFailed<T>> for CertError {
-    ghost from_gives = { λ _ e. e ≡ NoMemory };
-
-    fn from(_: AllocFailed<T>) -> CertError {
         CertError::NoMemory
     }
 }

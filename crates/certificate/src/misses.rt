@@ -3,6 +3,7 @@
 
 ghost use Rattle.std.specs.Prelude.{◌≡◌, ◌≤◌, ◌<◌, false, length};
 ghost use Rattle.series_core.specs.Answer.{distance_or_none};
+ghost use Rattle.series_core.specs.declared.rows.TheConstants.{MAX_LENGTH};
 ghost use Rattle.certificate.specs.Refusals.{refusal_of};
 ghost use Rattle.certificate.specs.Missing.{MissNone, MissNoneOf, MissesNoneOf};
 ghost use Rattle.certificate.specs.Verdict.{misses_refusal, is_missed, is_before_last, is_among};
@@ -109,7 +110,7 @@ pub fn check_misses<R: Rows>(
 // Most series are given up early: what is farther than the last answer is not smaller.
 fn is_missed(query: &[i16], last: Option<Pair>, answers: &[Pair], number: u32, row: &[i16]) -> bool
     requires same_length { length row.now ≡ length query.now }
-    requires short { length row.now ≤ 65536 }
+    requires short { length row.now ≤ MAX_LENGTH }
     ensures { result ≡ is_missed query.now last answers.now number row.now }
 {
     values_fit(row);

@@ -1,7 +1,7 @@
 //! Printing a certificate: the lines behind the answers of a query, from what the search of it ended with.
 //! A line of a leaf is made in place and then appended; there is room for most lines from the start.
 
-ghost use Rattle.std.specs.Prelude.{◌≡◌, ℕ, ◌+◌, ◌<◌, ◌≤◌, ◌++◌, [], ◌∷◌, length, slice_get, Some, IfOk, OnOk};
+ghost use Rattle.std.specs.Prelude.{◌≡◌, ℕ, ◌+◌, ◌<◌, ◌≤◌, ◌++◌, [], ◌∷◌, length, codes, decimal, slice_get, Some, IfOk, OnOk};
 ghost use Rattle.std.specs.List.{concat};
 ghost use Rattle.isax_word.specs.Word.{part_at};
 ghost use Rattle.search_machine.specs.declared.outcome.Fate.{Fate};
@@ -10,7 +10,6 @@ ghost use Rattle.certificate.specs.Printed.{CertifiesWhereLegal, entries_taken, 
 ghost use Rattle.certificate.specs.Spelling.{entries_text, leaf_line, leaf_lines, limit_text, part_text, queue_line, queue_lines, said_text, start_line, word_text};
 
 use crate::block::Said;
-use crate::line_text::LineText;
 use crate::tail::Tail;
 use isax_word::Word;
 use outside::NoMemory;
@@ -41,31 +40,38 @@ pub fn print(alloc: Global, index: &Index, outcome: &Outcome) -> Result<Vec<u8>,
 fn push_start(text: &mut Vec<u8>, start: Option<Start>) -> Result<(), NoMemory>
     ensures { OnOk result (text.new.items ≡ text.old.items ++ start_line start) }
 {
-    let mut line = LineText::new();
-    line.push("start ");
-    match start {
-        None => line.push("none"),
-        Some(start) => {
-            line.push_number(u64::from(start.leaf));
-            line.push_byte(b' ');
-            push_limit(&mut line, start.limit);
-        }
-    }
-    line.push_byte(b'\n');
-    text.extend_from_slice(line.bytes())?;
+    let mut tail = Tail::new();
+    put_start(&mut tail, start);
+    text.extend_from_slice(tail.bytes())?;
     Ok(())
 }
 
-// Appends a limit: its distance, or that there is none.
-fn push_limit(line: &mut LineText, limit: u64)
-    requires { length line.old ≤ 100 }
-    ensures text { line.new ≡ line.old ++ limit_text limit }
-    ensures room { length line.new ≤ length line.old + 20 }
+// Makes the line of the start.
+fn put_start(tail: &mut Tail, start: Option<Start>)
+    ensures { tail.new ≡ start_line start }
 {
-    if limit == NONE {
-        line.push("none");
-    } else {
-        line.push_number(limit);
+    tail.clear();
+    tail.put(b"\n");
+    match start {
+        None => tail.put(b"none"),
+        Some(start) => {
+            put_limit(tail, start.limit);
+            tail.put(b" ");
+            tail.put_number(u64::from(start.leaf));
+        }
+    }
+    tail.put(b"start ");
+}
+
+// Puts a limit in front: its distance, or that there is none.
+fn put_limit(tail: &mut Tail, limit: u64)
+    requires room { length tail.old ≤ 1 }
+    ensures text { tail.new ≡ limit_text limit ++ tail.old }
+    ensures room { length tail.new ≤ length tail.old + 20 }
+{
+    match limit {
+        NONE => tail.put(b"none"),
+        distance => tail.put_number(distance),
     }
 }
 
@@ -88,13 +94,21 @@ fn push_queue(text: &mut Vec<u8>, m: u64, line: &QueueLine) -> Result<(), NoMemo
 {
     let entries = line.taken.items.as_slice();
     text.reserve(entries.len().saturating_add(1).saturating_mul(ENTRY_ROOM))?;
-    let mut head = LineText::new();
-    head.push("queue ");
-    head.push_number(m);
+    let mut head = Tail::new();
+    put_queue(&mut head, m);
     text.extend_from_slice(head.bytes())?;
     push_entries(text, entries)?;
     text.push(b'\n')?;
     Ok(())
+}
+
+// Makes the front of the line of queue `m`: the word and the number.
+fn put_queue(tail: &mut Tail, m: u64)
+    ensures { tail.new ≡ codes "queue " ++ decimal m }
+{
+    tail.clear();
+    tail.put_number(m);
+    tail.put(b"queue ");
 }
 
 // Appends the entries of a queue.

@@ -35,7 +35,7 @@ pub enum Command {
         queries: u32,
         options: Options,
     },
-    /// Writes a series file in its other version.
+    /// Writes a series file in version 2, with a label for each series.
     Convert {
         series: Text,
         options: Options,

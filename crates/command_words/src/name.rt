@@ -16,7 +16,7 @@ pub enum CommandName {
     Verify,
     /// A search over random walks.
     Trial,
-    /// Writes a series file in its other version.
+    /// Writes a series file in version 2, with a label for each series.
     Convert,
     /// Writes the index of a series file.
     Save,

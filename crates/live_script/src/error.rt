@@ -1,6 +1,5 @@
 //! Why the bytes of a script are refused. Want of memory is another cause than a line that is no line of a script.
 
-use std::alloc::{AllocError, AllocFailed};
 use thiserror::Error;
 
 /// Why the bytes of a script are refused.
@@ -12,26 +11,4 @@ pub enum ScriptError {
     /// Memory ran out.
     #[error("out of memory")]
     NoMemory,
-}
-
-impl From<AllocError> for ScriptError {
-    ghost use Rattle.std.specs.Prelude.{◌≡◌};
-    ghost use Rattle.live_script.specs.declared.error.ScriptError.TheVariants.{NoMemory};
-
-    ghost from_gives = { λ _ e. e ≡ NoMemory };
-
-    fn from(_: AllocError) -> ScriptError {
-        ScriptError::NoMemory
-    }
-}
-
-impl<T: Drop> From<AllocFailed<T>> for ScriptError {
-    ghost use Rattle.std.specs.Prelude.{◌≡◌};
-    ghost use Rattle.live_script.specs.declared.error.ScriptError.TheVariants.{NoMemory};
-
-    ghost from_gives = { λ _ e. e ≡ NoMemory };
-
-    fn from(_: AllocFailed<T>) -> ScriptError {
-        ScriptError::NoMemory
-    }
 }

@@ -37,7 +37,10 @@ pub fn read_script(alloc: Global, bytes: &[u8]) -> Result<Script, ScriptError>
         let Some((line, behind)) = cut(rest, b'\n') else {
             return Err(ScriptError::Line(at));
         };
-        if !script.take(alloc, at, line)? {
+        let Ok(taken) = script.take(alloc, at, line) else {
+            return Err(ScriptError::NoMemory);
+        };
+        if !taken {
             return Err(ScriptError::Line(at));
         }
         rest = behind;

@@ -1,6 +1,7 @@
 //! What a script says. Each file that it names stands with the line that names it.
 
 use command_words::Text;
+use series_core::Listed;
 use std::marker::Model;
 
 /// A series file, and the line of the script that names it.
@@ -21,21 +22,8 @@ pub struct Asking {
     pub k: u32,
 }
 
-/// A list of askings.
-#[derive(Drop)]
-pub struct AskingList {
-    /// The askings, in the order of their lines.
-    pub items: Vec<Asking>,
-}
-
-impl Model for AskingList {
-    ghost use Rattle.std.specs.Prelude.{List};
-    ghost use Rattle.live_script.specs.declared.script.Asking.{Asking};
-
-    ghost Value = { List Asking };
-
-    ghost view = { λ l. l.items.items };
-}
+/// A list of askings, in the order of their lines.
+pub type AskingList = Listed<Asking>;
 
 /// A batch to append, and what to ask from it on up to the next batch.
 #[derive(Drop)]

@@ -2,7 +2,7 @@
 
 use outside::MemSink;
 
-/// How a run ended, with what it wrote and the line that it told.
+/// How a run ended, with its text and what it wrote to the error stream.
 #[derive(Drop)]
 pub struct Ended<S> {
     /// The status that the run gave.

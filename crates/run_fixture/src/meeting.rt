@@ -11,7 +11,7 @@ pub struct Meeting {
 }
 
 impl Meeting {
-    /// A meeting to which nobody came yet.
+    /// A meeting that no worker has reached yet.
     pub fn new() -> Meeting {
         Meeting {
             came: [AtomicU64::new(0), AtomicU64::new(0)],

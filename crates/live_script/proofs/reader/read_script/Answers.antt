@@ -32,27 +32,27 @@ pub returns-in_default-clause-refused : goal.returns-in_default-clause-refused
 returns-in_default-clause-refused c = λ at fault.
     same_fault c.args.bytes.now (c.loop-rest.at + 1) at (returns-in_default-clause-error c) fault
 
-pub returns-then-not-branch-clause-error : goal.returns-then-not-branch-clause-error
-returns-then-not-branch-clause-error c =
+pub returns-then-not-taken-clause-error : goal.returns-then-not-taken-clause-error
+returns-then-not-taken-clause-error c =
     let some : 0 < length c.loop-rest.rest.now = grind (arith, nat_tests) in
     walk_stops c.args.bytes.now c.loop-rest.rest.now c.loop-rest.at c.loop-rest.script c.loop-rest.invariant some
     (stops_here c.loop-rest.rest.now c.in-Some.line.now c.in-Some.behind.now c.loop-rest.script c.in-Some.ensures
     (MatchBool-at_false (AddsLine (c.loop-rest.at + 1) c.in-Some.line.now c.loop-rest.script c.take.new.self)
-    (NoneFollows c.in-Some.line.now c.loop-rest.script) c.if-not-branch.true c.in_ok-take.ensures))
+    (NoneFollows c.in-Some.line.now c.loop-rest.script) c.if-not-taken.true c.in-Ok.ensures))
 
-pub returns-then-not-branch-clause-only : goal.returns-then-not-branch-clause-only
-returns-then-not-branch-clause-only c = λ script is. (returns-then-not-branch-clause-error c).more script is
+pub returns-then-not-taken-clause-only : goal.returns-then-not-taken-clause-only
+returns-then-not-taken-clause-only c = λ script is. (returns-then-not-taken-clause-error c).more script is
 
-pub returns-then-not-branch-clause-refused : goal.returns-then-not-branch-clause-refused
-returns-then-not-branch-clause-refused c = λ at fault.
-    same_fault c.args.bytes.now (c.loop-rest.at + 1) at (returns-then-not-branch-clause-error c) fault
+pub returns-then-not-taken-clause-refused : goal.returns-then-not-taken-clause-refused
+returns-then-not-taken-clause-refused c = λ at fault.
+    same_fault c.args.bytes.now (c.loop-rest.at + 1) at (returns-then-not-taken-clause-error c) fault
 
 pub loop-rest-preserved : goal.loop-rest-preserved
 loop-rest-preserved c =
     walk_on c.args.bytes.now c.loop-rest.rest.now c.in-Some.line.now c.in-Some.behind.now c.loop-rest.at c.loop-rest.script
     c.take.new.self c.loop-rest.invariant c.in-Some.ensures
     (MatchBool-at_true (AddsLine (c.loop-rest.at + 1) c.in-Some.line.now c.loop-rest.script c.take.new.self)
-    (NoneFollows c.in-Some.line.now c.loop-rest.script) c.if-not-branch.false c.in_ok-take.ensures)
+    (NoneFollows c.in-Some.line.now c.loop-rest.script) c.if-not-taken.false c.in-Ok.ensures)
 
 pub returns-clause-only : goal.returns-clause-only
 returns-clause-only c = λ script is.
