@@ -1,10 +1,11 @@
 -- Shares of bounds: one that has none (`no_bounds`), and one more bound (`more_bounds`).
-use Rattle.std.proofs.Common.{◌≡◌, ℕ, zero, suc, ◌+◌, ◌<◌, ◌≤◌, ◌⊎◌, ◌++◌, ◌∷◌, List, [], Some, length, sym, ap, ◌∙◌, subst, ⊎_elim, inl, inr, arith}
+use Rattle.std.proofs.Common.{◌≡◌, ℕ, ◌+◌, ◌≤◌, ◌++◌, ◌∷◌, List, [], Some, length, sym, ap, ◌∙◌, subst, ⊎_elim}
 use Rattle.std.specs.Prelude.{slice_get}
-use Rattle.std.proofs.lemmas.Option.{none-some, same_Some}
+use Rattle.std.proofs.lemmas.Option.{none-some}
 use Rattle.lower_bound.specs.Bound.{View}
 use Rattle.subtree_build.specs.Index.{IndexParts}
 use Rattle.query_core.specs.BoundShares.{AreBounds, Share}
+use Rattle.query_core.proofs.Pushes.{at_push}
 use Rattle.search_task.specs.Questions.{leaf_bound}
 
 pub no_bounds : (view : View) (ix : IndexParts) (s : Share) (first end : ℕ) → s ≡ record { first = first; end = end; bounds = [] }
@@ -13,16 +14,6 @@ no_bounds view ix s first end is inside = subst (AreBounds view ix) (sym is) (re
   inside = inside;
   each = λ i b at. absurd (none-some b at);
 })
-
--- what stands at a place of a list with one more
-at_end : (xs : List ℕ) (x y i : ℕ) → slice_get (xs ++ x ∷ []) i ≡ Some y → (slice_get xs i ≡ Some y) ⊎ ((i ≡ length xs) × (x ≡ y))
-at_end [] x y zero e = inr (omega arith, same_Some x y e)
-at_end [] x y (suc i) e = absurd (none-some y e)
-at_end (z ∷ xs) x y zero e = inl e
-at_end (z ∷ xs) x y (suc i) e = ⊎_elim
-    (λ (old : slice_get xs i ≡ Some y). inl old)
-    (λ (new : (i ≡ length xs) × (x ≡ y)). inr (ap suc new.0, new.1))
-    (at_end xs x y i e)
 
 pub more_bounds : (view : View) (ix : IndexParts) (s : Share) (bounds : List ℕ) (l b : ℕ)
     → AreBounds view ix (record s { bounds = bounds }) → l ≡ s.first + length bounds → b ≡ leaf_bound view ix l
@@ -33,5 +24,5 @@ more_bounds view ix s bounds l b are place is = record {
       (λ (old : slice_get bounds i ≡ Some c). are.each i c old)
       (λ (new : (i ≡ length bounds) × (b ≡ c)).
       sym new.1 ∙ is ∙ ap (leaf_bound view ix) place ∙ ap (λ (n : ℕ). leaf_bound view ix (s.first + n)) (sym new.0))
-      (at_end bounds b c i at);
+      (at_push bounds b c i at);
 }

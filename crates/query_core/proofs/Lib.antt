@@ -16,5 +16,6 @@ pub mod Advancing
 pub mod Different
 pub mod Portions
 pub mod LimitsKept
+pub mod Pushes
 pub mod BoundShares
 pub mod Sends

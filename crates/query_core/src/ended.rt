@@ -1,4 +1,4 @@
-//! What a team ends with: it tells its queues' lines, and concludes with them.
+//! What a team ends with: the lines of its queues, and the outcome that follows from them.
 ghost use Rattle.std.specs.Prelude.{◌≡◌, IfOk, map};
 ghost use Rattle.search_machine.specs.Machine.{State};
 ghost use Rattle.search_machine.specs.Outcome.{line_of, outcome};
@@ -22,7 +22,7 @@ impl<'a, R: Rows> Team<'a, R> {
     }
 }
 
-// What each queue tells.
+// The line of each queue.
 fn lines(alloc: Global, queues: &[Queue]) -> Result<LineList, NoMemory>
     ensures { IfOk result (λ ls. ls ≡ map line_of queues.now) }
 {
@@ -33,7 +33,7 @@ fn lines(alloc: Global, queues: &[Queue]) -> Result<LineList, NoMemory>
     Ok(LineList { items: lines })
 }
 
-// What a queue tells.
+// The line of a queue.
 fn line(alloc: Global, queue: &Queue) -> Result<QueueLine, NoMemory>
     ensures { IfOk result (λ l. l ≡ line_of queue.now) }
 {

@@ -1,4 +1,4 @@
-//! The laws that limits of portions stand on, and a small search whose portions are told. They do nothing: their clauses are what they say.
+//! The laws that limits of portions stand on, and a small search with its portions. They do nothing: their clauses are what they say.
 ghost use Rattle.std.specs.Prelude.{◌≡◌, ℕ, ◌-◌, ◌<◌, ◌≤◌, Bool, List, [], ◌∷◌, map};
 ghost use Rattle.series_core.specs.Order.{distance_at};
 ghost use Rattle.series_core.specs.declared.distance.TheConstants.{NONE};

@@ -115,7 +115,7 @@ impl<'a, R: Rows> Worker<'a, R> {
         self.limits = Some(limits);
     }
 
-    /// Takes the room for the bounds of its share of the leaves, where each of so many workers has one.
+    /// Takes the room for the bounds of its share of the leaves, which are shared out among this number of workers.
     pub fn take_share(&mut self, alloc: Global, workers: u32) -> Result<(), NoMemory>
         requires workers { 1 ≤ workers }
         ensures same { self.new ≡ self.old }

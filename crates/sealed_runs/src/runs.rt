@@ -71,7 +71,7 @@ impl Runs {
 
     /// Pops run m, which is below the number of runs and has not closed to this pass: draws the next place, and hands
     /// out its entry where the bound is at most `far(limit)`. Where it is above, and where the run has ended, the run
-    /// is closed to this pass with the limit. It takes no memory and waits for nobody.
+    /// is closed to this pass with the limit. It takes no memory and never waits.
     pub fn pop(&self, pass: &mut RunPass, m: u32, limit: u64) -> PopReply
         requires own { IsPass self.now.runs pass.old }
         requires queue { m < length self.now.runs }
@@ -85,7 +85,7 @@ impl Runs {
         self.runs[m as usize].pop(&mut pass.visits[m as usize], limit)
     }
 
-    /// Closes the runs, with all passes back. It takes no memory and waits for nobody.
+    /// Closes the runs, with all passes back. It takes no memory and never waits.
     pub fn close(self, mut passes: Vec<RunPass>) -> RunsClosed
         requires all { vec_len passes ≡ self.callers }
         requires own { All (IsPass self.runs) passes.items }

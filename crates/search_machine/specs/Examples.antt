@@ -18,6 +18,22 @@ use Rattle.search_machine.specs.Ground.{Ground, enough_turns}
 use Rattle.search_machine.specs.Workers.{leader}
 use Rattle.search_machine.specs.OwnRecord.{RecordedWorker, nothing_yet}
 
+-- the search for the k nearest of n series, each the one member of a leaf, with these distances, members, bounds and root children, from
+-- this start leaf, over `queues` queues by `workers` workers
+abbrev pub one_each : ℕ → ℕ → (ℕ → ℕ) → (ℕ → List ℕ) → (ℕ → ℕ) → List (List ℕ) → ℕ → ℕ → ℕ → Ground
+one_each n k distance members bound roots start queues workers = record {
+  distance = distance;
+  count = n;
+  k = k;
+  leaves = n;
+  members = members;
+  bound = bound;
+  roots = roots;
+  start = Some start;
+  queues = queues;
+  workers = workers;
+}
+
 -- Two series of one point, -1 and 1, and the query 0: each is 1 away, and each has a leaf of its
 -- own.
 
@@ -34,18 +50,7 @@ two_bounds (suc l) = 0
 
 -- the search of the nearest series with one queue and `workers` workers; leaf 1 is the start leaf
 abbrev pub two_series : ℕ → Ground
-two_series workers = record {
-  distance = λ s. 1;
-  count = 2;
-  k = 1;
-  leaves = 2;
-  members = two_members;
-  bound = two_bounds;
-  roots = (0 ∷ []) ∷ (1 ∷ []) ∷ [];
-  start = Some 1;
-  queues = 1;
-  workers = workers;
-}
+two_series workers = one_each 2 1 (λ s. 1) two_members two_bounds ((0 ∷ []) ∷ (1 ∷ []) ∷ []) 1 1 workers
 
 -- one worker: its phase as it opens and after each of eleven turns. It puts leaf 0, since 1 is not
 -- above 1, and scans it after a pop; it makes no offer, since the distance did not fall
@@ -63,7 +68,7 @@ pair distance number = record { distance = distance; number = number }
 abbrev pub entry : ℕ → ℕ → Entry
 entry bound leaf = record { bound = bound; leaf = leaf }
 
--- what a queue tells
+-- the line of a queue
 abbrev pub line : List Entry → ℕ → QueueLine
 line taken kept = record { taken = taken; kept = kept }
 
@@ -150,18 +155,7 @@ three_bounds (suc (suc l)) = 268435456
 
 -- the search of the three nearest with three workers and two queues; leaf 0 is the start leaf
 abbrev pub three_series : Ground
-three_series = record {
-  distance = three_distances;
-  count = 3;
-  k = 3;
-  leaves = 3;
-  members = three_members;
-  bound = three_bounds;
-  roots = (0 ∷ 1 ∷ 2 ∷ []) ∷ [];
-  start = Some 0;
-  queues = 2;
-  workers = 3;
-}
+three_series = one_each 3 3 three_distances three_members three_bounds ((0 ∷ 1 ∷ 2 ∷ []) ∷ []) 0 2 3
 
 -- workers 1 and 2 shut both queues before worker 0 makes its first put; each then has as many turns
 -- as are always enough
@@ -204,18 +198,7 @@ six_bounds (suc (suc (suc (suc (suc l))))) = 10
 
 -- the search of the nearest with one worker and two queues; leaf 0 is the start leaf
 abbrev pub six_series : Ground
-six_series = record {
-  distance = six_distances;
-  count = 6;
-  k = 1;
-  leaves = 6;
-  members = six_members;
-  bound = six_bounds;
-  roots = (0 ∷ 1 ∷ 2 ∷ []) ∷ (3 ∷ 4 ∷ 5 ∷ []) ∷ [];
-  start = Some 0;
-  queues = 2;
-  workers = 1;
-}
+six_series = one_each 6 1 six_distances six_members six_bounds ((0 ∷ 1 ∷ 2 ∷ []) ∷ (3 ∷ 4 ∷ 5 ∷ []) ∷ []) 0 2 1
 
 -- as many turns as are always enough
 abbrev pub six_schedule : List ℕ

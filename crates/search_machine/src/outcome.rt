@@ -27,7 +27,7 @@ pub enum Fate {
 /// A list of entries.
 pub type EntryList = Listed<Entry>;
 
-/// What a closed queue tells.
+/// What is reported of a closed queue.
 #[derive(Drop, Debug)]
 pub struct QueueLine {
     /// The entries that were taken, in the order in which they were taken.
@@ -36,7 +36,7 @@ pub struct QueueLine {
     pub kept: u64,
 }
 
-/// A list of what closed queues tell, one line a queue, in the order of the queues.
+/// A list of lines, one for each closed queue, in the order of the queues.
 pub type LineList = Listed<QueueLine>;
 
 /// A list of fates, one a leaf, in the order of the leaves.
@@ -49,7 +49,7 @@ pub struct Outcome {
     pub pairs: PairList,
     /// The start; None exactly where there is no leaf.
     pub start: Option<Start>,
-    /// What each queue tells.
+    /// The line of each queue.
     pub lines: LineList,
     /// The fate of each leaf.
     pub fates: FateList,
