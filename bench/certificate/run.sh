@@ -2,6 +2,4 @@
 # Times printing, reading and checking certificates of the ten nearest, and plain C scans beside it.
 here="$(cd "$(dirname "${BASH_SOURCE[0]}")" && pwd)"
 "$here/../against_scans.sh" "$here" \
-    "outside list_totals series_core table_passes claim_word worker_team best_word breakpoints segment_sums isax_word lower_bound
-    mean_bound simd_distance block_list turn_lock leaf_queues search_machine summary_phase subtree_build plain_search query_core certificate" \
-    "outside series_core breakpoints segment_sums isax_word subtree_build query_core certificate itoa anyhow"
+    "outside series_core breakpoints segment_sums isax_word subtree_build nearest_answer query_core certificate itoa anyhow"

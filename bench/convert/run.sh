@@ -4,7 +4,7 @@ here="$(cd "$(dirname "${BASH_SOURCE[0]}")" && pwd)"
 source "$here/../scratch.sh"
 gcc -O3 -march=native -o "$work/maker" "$here/../reading/baseline.c"
 "$work/maker" make "$work/data.series"
-build_timed "outside list_totals series_core series_file real_outside" "outside series_core series_file real_outside"
+build_timed "outside series_core series_file real_outside"
 cd "$work"
 
 # Prints how many milliseconds a program takes that writes to a file.

@@ -3,11 +3,7 @@
 # SOUND and QUERIES in the environment, two files of 16-bit values, low byte first; `heart` and `music` take theirs from `recordings`.
 here="$(cd "$(dirname "${BASH_SOURCE[0]}")" && pwd)"
 source "$here/../scratch.sh"
-build_timed \
-    "outside list_totals series_core table_passes claim_word worker_team best_word breakpoints segment_sums isax_word lower_bound
-    mean_bound row_codes simd_distance block_list turn_lock leaf_queues search_machine summary_phase subtree_build plain_search search_task
-    nearest_answer query_core" \
-    "outside series_core breakpoints segment_sums isax_word subtree_build nearest_answer query_core anyhow"
+build_timed "outside series_core breakpoints segment_sums isax_word subtree_build nearest_answer query_core anyhow"
 gcc -O3 -march=native -o "$work/make_data" "$here/make_data.c" -lm
 for length in 8 1024; do
     gcc -O3 -march=native "-DPOINTS=$length" -o "$work/baseline$length" "$here/baseline.c"

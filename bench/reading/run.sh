@@ -3,7 +3,7 @@
 here="$(cd "$(dirname "${BASH_SOURCE[0]}")" && pwd)"
 source "$here/../scratch.sh"
 "$work/baseline" make "$work/data.series"
-build_timed "outside list_totals series_core series_file real_outside" "outside series_core series_file real_outside anyhow"
+build_timed "outside series_core series_file real_outside anyhow"
 cd "$work"
 for round in 1 2 3 4 5; do
     echo "== round $round, C by fread"

@@ -2,6 +2,4 @@
 # Times saving the tree of 500,000 walks and loading it again, and one reading of all values in C beside it.
 here="$(cd "$(dirname "${BASH_SOURCE[0]}")" && pwd)"
 "$here/../against_scans.sh" "$here" \
-    "outside list_totals series_core series_file table_passes claim_word worker_team breakpoints segment_sums isax_word lower_bound mean_bound
-    block_list summary_phase subtree_build saved_index" \
     "outside series_core breakpoints segment_sums isax_word subtree_build saved_index anyhow"

@@ -2,6 +2,4 @@
 # Times the search for windows of one long walk, and plain C scans beside it.
 here="$(cd "$(dirname "${BASH_SOURCE[0]}")" && pwd)"
 "$here/../against_scans.sh" "$here" \
-    "outside list_totals series_core table_passes claim_word worker_team best_word breakpoints segment_sums isax_word lower_bound
-    mean_bound simd_distance block_list turn_lock leaf_queues search_machine summary_phase subtree_build plain_search query_core window_rows" \
-    "outside series_core breakpoints segment_sums isax_word subtree_build query_core window_rows anyhow"
+    "outside series_core breakpoints segment_sums isax_word subtree_build nearest_answer window_rows anyhow"
