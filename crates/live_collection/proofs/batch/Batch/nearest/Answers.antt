@@ -5,8 +5,10 @@ use Rattle.subtree_build.specs.Fits.{Fits}
 use Rattle.live_collection.proofs.Fitting.{Fits-had}
 use Rattle.live_collection.proofs.batch.Batch.nearest.Goals as goal
 
-pub one_worker_answer-requires-clause-fits : goal.one_worker_answer-requires-clause-fits
-one_worker_answer-requires-clause-fits c =
+pub one_worker_answer-requires : goal.one_worker_answer-requires
+one_worker_answer-requires c =
     let batch = c.args.self.now in
-    subst (λ (a : Question). Fits a.collection a.layout batch.index) (sym c.new-task.ensures)
-    (Fits-had batch.series batch.layout batch.index batch.fits)
+    record {
+      fits = subst (λ (a : Question). Fits a.collection a.layout batch.index) (sym c.new-task.ensures)
+          (Fits-had batch.series batch.layout batch.index batch.fits);
+    }
