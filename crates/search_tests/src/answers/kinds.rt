@@ -20,6 +20,7 @@ enum Kind {
     Shrill,
     Tremor,
     Constant,
+    Flutter,
 }
 
 /// What rings on after these two values, with a push.
@@ -30,8 +31,10 @@ fn rung(pitch: i32, push: i32, last: i32, before: i32) -> i32 {
     (swing / 1024).wrapping_add(push)
 }
 
-/// The value at a place of a series, after these two. A tremor swells at its onset and dies away.
-fn next_value(kind: Kind, drawn: i32, place: u32, onset: u32, last: i32, before: i32) -> i32 {
+/// The value at a place of a series, after these two. The number `own` is the series' own: a tremor swells at its onset and dies away, and a
+/// flutter swings every other value by its pattern, so that eight values in a row have a mean near 0.
+fn next_value(kind: Kind, drawn: i32, place: u32, own: u32, last: i32, before: i32) -> i32 {
+    let onset = own % 256;
     let value = match kind {
         Kind::Walk => last.wrapping_add(drawn / 128),
         Kind::Noise => drawn,
@@ -41,6 +44,10 @@ fn next_value(kind: Kind, drawn: i32, place: u32, onset: u32, last: i32, before:
         Kind::Tremor if place < onset.saturating_add(30) => rung(900, drawn / 8, last, before),
         Kind::Tremor => rung(900, drawn / 64, last, before),
         Kind::Constant => last,
+        Kind::Flutter if (place / 2 & (own | 1)).count_ones() % 2 == 1 => {
+            (drawn / 8).wrapping_sub(9000)
+        }
+        Kind::Flutter => (drawn / 8).wrapping_add(9000),
     };
     value.clamp(-32768, 32767)
 }
@@ -57,10 +64,10 @@ fn values_of(
     for _series in 0..count {
         let mut before = 0;
         let mut last = (rng.next_u32() % 7) as i32 * 1000;
-        let onset = rng.next_u32() % 256;
+        let own = rng.next_u32();
         for place in 0..length {
             let drawn = (rng.next_u32() >> 16) as i32 - 32768;
-            let value = next_value(kind, drawn, place, onset, last, before);
+            let value = next_value(kind, drawn, place, own, last, before);
             before = last;
             last = value;
             values.push(value.clamp(-32768, 32767) as i16)?;
@@ -104,16 +111,17 @@ fn agree<T: Threads + Sync>(
     Ok(true)
 }
 
-const KINDS: [Kind; 6] = [
+const KINDS: [Kind; 7] = [
     Kind::Walk,
     Kind::Noise,
     Kind::Resonance,
     Kind::Shrill,
     Kind::Tremor,
     Kind::Constant,
+    Kind::Flutter,
 ];
 
-// Lengths beside those at which a row has one block of codes more, each with how many of 24 series are asked for.
+// Lengths beside those at which a row has one block of codes more, each with how many of 60 series are asked for.
 const LENGTHS: [(u32, u32); 14] = [
     (1, 2),
     (5, 1),
@@ -137,10 +145,10 @@ fn every_kind_of_data(rt: HostRuntime) -> Result<(), Fail> {
     let mut rng = SplitMix64::seed_from_u64(5);
     for kind in KINDS {
         for (length, k) in LENGTHS {
-            let values = values_of(alloc, &mut rng, kind, 24, length)?;
+            let values = values_of(alloc, &mut rng, kind, 60, length)?;
             assert!(rt;
                 agree(&rt, alloc, values, length, k)?,
-                "{k} of 24 series of {length} values, {kind:?}"
+                "{k} of 60 series of {length} values, {kind:?}"
             );
         }
     }
@@ -152,13 +160,27 @@ fn many_of_every_kind(rt: HostRuntime) -> Result<(), Fail> {
     let alloc = rt.alloc();
     let mut rng = SplitMix64::seed_from_u64(7);
     for kind in KINDS {
-        for (length, k) in [(16, 65), (130, 1000), (256, 1), (257, 10)] {
-            let values = values_of(alloc, &mut rng, kind, 200, length)?;
+        for (length, k) in [(16, 65), (64, 300), (130, 1000), (256, 1), (257, 10)] {
+            let values = values_of(alloc, &mut rng, kind, 2000, length)?;
             assert!(rt;
                 agree(&rt, alloc, values, length, k)?,
-                "{k} of 200 series of {length} values, {kind:?}"
+                "{k} of 2000 series of {length} values, {kind:?}"
             );
         }
+    }
+    Ok(())
+}
+
+#[test]
+fn data_that_codes_alone_tell(rt: HostRuntime) -> Result<(), Fail> {
+    let alloc = rt.alloc();
+    let mut rng = SplitMix64::seed_from_u64(6);
+    for (length, k) in [(256, 1), (256, 3), (130, 2), (128, 3), (128, 100)] {
+        let values = values_of(alloc, &mut rng, Kind::Flutter, 3000, length)?;
+        assert!(rt;
+            agree(&rt, alloc, values, length, k)?,
+            "{k} of 3000 series of {length} values that flutter"
+        );
     }
     Ok(())
 }
