@@ -63,7 +63,7 @@ module _ {Q : Type 0} {count : Q → ℕ} {Agrees : Q → List PopMade → Type 
       let y = w.goes.on w.began.was.record_of w.known in
       (y.0, record { cell = e.0; at = e.1; way = w; later_is = y.1 })
 
-  all : Chosen (length later) Ended
+  pub all : Chosen (length later) Ended
   all = choose (length later) Ended ended
 
   -- the records of all calls, one for each searcher

@@ -41,7 +41,7 @@ lock_count {queues} {m} {team} {locks} locked =
     sym (length-map locks opening_of) ∙ ap (λ (qs : List PlainQueue). length qs) locked.round.openings ∙ locked.count
 
 module _ {a : Question} {ix : IndexParts} {m : ℕ} {best : Best} {team : List Resting} {queues : List PlainQueue} {roots : ℕ}
-    {locks : List QueueLock} {cells later : List Locking} {rows : List Row} (locked : Locked queues m team locks)
+    {locks : List QueueLock} {cells later : List Locking} (rows : List Row) (locked : Locked queues m team locks)
     (outset : Outset pass_count LockedAgrees (HasNew locks) a ix m best team roots cells)
     (worked : Worked SameLocks LockedAgrees cells later)
     (passes : map (λ (row : Row). row.items) rows ≡ map (λ (e : Locking). e.hand.queues.passes) later) where

@@ -50,7 +50,7 @@ pops_place l (x ∷ log) pops =
     omega (arith, rest, none)
 
 module _ {a : Question} {ix : IndexParts} {m : ℕ} {best : Best} {team : List Resting} {queues : List PlainQueue} {roots : ℕ}
-    {locks : List QueueLock} {cells later : List Locking} {rows : List Row} (locked : Locked queues m team locks)
+    {locks : List QueueLock} {cells later : List Locking} (rows : List Row) (locked : Locked queues m team locks)
     (filled : AreFilled a ix team m queues)
     (outset : Outset pass_count LockedAgrees (HasNew locks) a ix m best team roots cells)
     (worked : Worked SameLocks LockedAgrees cells later)
@@ -77,23 +77,23 @@ module _ {a : Question} {ix : IndexParts} {m : ℕ} {best : Best} {team : List R
     is = filled j r before.1
 
     history : WentBy (length rows) (λ i. calls_in rows i j) r q
-    history = went locked outset worked passes back back_count histories j r q before.1 at_q
+    history = went rows locked outset worked passes back back_count histories j r q before.1 at_q
 
     past : Past r q history.log
     past = past_of r q history.log history.leads
 
     callers : All (λ (x : Made QueueCall QueueReply). x.caller < length ys) history.log
     callers = subst (λ (k : ℕ). All (λ (x : Made QueueCall QueueReply). x.caller < k) history.log)
-        (team_rows locked outset worked passes ∙ sym (record_count outset worked all_done ∙ team_count outset worked)) history.callers_only
+        (team_rows rows locked outset worked passes ∙ sym (record_count outset worked all_done ∙ team_count outset worked)) history.callers_only
 
     -- the calls of worker i are the pops of its record
     pops_of : (i : ℕ) (y : RecordedWorker) → slice_get ys i ≡ Some y → ArePopsOf j y.own.pops (calls_by i history.log)
     pops_of i y at =
         let e = ended_at outset worked all_done i y at in
         let within = slice_get_within later i e.cell e.at in
-        let calls = history.own i (let b = team_rows locked outset worked passes in let c = team_count outset worked in omega arith)
-        ∙ row_calls locked outset worked passes i j e.cell e.at in
-        let there = passes_there locked outset worked passes i e.cell e.at in
+        let calls = history.own i (let b = team_rows rows locked outset worked passes in let c = team_count outset worked in omega arith)
+        ∙ row_calls rows locked outset worked passes i j e.cell e.at in
+        let there = passes_there rows locked outset worked passes i e.cell e.at in
         subst (ArePopsOf j y.own.pops) (sym calls) (e.later_is.known.tied.pops j (omega arith))
 
     member_of : (x : Made QueueCall QueueReply) → In x history.log → (y : RecordedWorker) × (slice_get ys x.caller ≡ Some y)
@@ -181,7 +181,7 @@ module _ {a : Question} {ix : IndexParts} {m : ℕ} {best : Best} {team : List R
   within : (j : ℕ) (q : PlainQueue) → slice_get back j ≡ Some q → j < m
   within j q at =
       let low = slice_get_within back j q at in
-      let c = back_are locked outset worked passes back back_count histories in
+      let c = back_are rows locked outset worked passes back back_count histories in
       omega arith
 
   close : (j : ℕ) (q : PlainQueue) → slice_get back j ≡ Some q → QueueCloses g ys j q × Ordered q.taken
@@ -190,4 +190,4 @@ module _ {a : Question} {ix : IndexParts} {m : ℕ} {best : Best} {team : List R
   pub locked_right : (ws : List Working) (ls : List QueueLine) → ws ≡ map (λ (e : Locking). e.worker) later
       → ls ≡ map line_of back → EndsRight g ws ls
   locked_right =
-      ends_right outset worked all_done back (back_are locked outset worked passes back back_count histories) close
+      ends_right outset worked all_done back (back_are rows locked outset worked passes back back_count histories) close

@@ -58,16 +58,16 @@ worked g c = record {
 }
 
 -- their runs are these
-still : (g : given.Over) (o : In_ok-team g) (c : After-drain_together g)
+still : (g : given.Over) (c : After-drain_together g)
     → All (λ (d : Draining). d.hand.queues.runs ≡ c.in_ok-runs.runs.runs) c.drain_together.new.team.items
-still g o c =
-    all_still (outset g o) (worked g c) (λ (q : SealedKept). q.runs ≡ c.in_ok-runs.runs.runs)
+still g c =
+    all_still (outset g (goal.at.After-drain_together g c).In_ok-team) (worked g c) (λ (q : SealedKept). q.runs ≡ c.in_ok-runs.runs.runs)
     (λ i q k new same. same.runs ∙ ap (λ (q : SealedKept). q.runs) new)
 
 pub close-requires-clause-own : goal.close-requires-clause-own
 close-requires-clause-own g c =
     let at = goal.at.close-requires-clause-own g c in
-    c.in_ok-workers.ensures.own c.in_ok-runs.runs.runs (still g at.In_ok-team at.After-drain_together)
+    c.in_ok-workers.ensures.own c.in_ok-runs.runs.runs (still g at.After-drain_together)
 
 pub returns-clause-drained : goal.returns-clause-drained
 returns-clause-drained g c =
@@ -87,6 +87,6 @@ returns-clause-drained g c =
           (λ j low. subst (λ (t : List Resting). IsRunOf (view_in c.args.plan.now.search.question) c.args.plan.now.search.index
           (marks_of t) c.args.plan.now.queues j (run_at c.in_ok-runs.runs.runs j).entries) c.deref.ensures.value
           (c.in_ok-runs.ensures.runs j low)) c.in_ok-workers.passes.items c.in_ok-workers.ensures.passes
-          (c.in_ok-workers.ensures.own c.in_ok-runs.runs.runs (still g at.In_ok-team at.After-drain_together))
+          (c.in_ok-workers.ensures.own c.in_ok-runs.runs.runs (still g at.After-drain_together))
           c.close.result c.close.ensures workers c.in_ok-lines.lines c.in_ok-workers.ensures.workers c.in_ok-lines.ensures;
     }

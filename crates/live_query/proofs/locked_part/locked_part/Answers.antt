@@ -67,7 +67,7 @@ pub close_locks-requires-clause-round : goal.close_locks-requires-clause-round
 close_locks-requires-clause-round g c =
     let at = goal.at.close_locks-requires-clause-round g c in
     let round = round g at.After-from-roots in
-    let many = team_rows round (outset g at.In_ok-team) (worked g at.In_ok-workers) c.in_ok-workers.ensures.rows in (
+    let many = team_rows c.in_ok-workers.rows.items round (outset g at.In_ok-team) (worked g at.In_ok-workers) c.in_ok-workers.ensures.rows in (
       c.in_ok-queues.queues.items,
       subst (λ (n : ℕ). AreRound c.in_ok-queues.queues.items n c.in_ok-locks.locks.items)
           (omega (arith, many, c.in_ok-workers.rows.ok.0)) round.round,
@@ -84,7 +84,7 @@ close_locks-requires-clause-own g c = λ i row row_at.
 pub close_locks-requires-clause-numbered : goal.close_locks-requires-clause-numbered
 close_locks-requires-clause-numbered g c =
     let at = goal.at.close_locks-requires-clause-numbered g c in
-    numbered (round g at.After-from-roots) (outset g at.In_ok-team) (worked g at.In_ok-workers) c.in_ok-workers.ensures.rows
+    numbered c.in_ok-workers.rows.items (round g at.After-from-roots) (outset g at.In_ok-team) (worked g at.In_ok-workers) c.in_ok-workers.ensures.rows
 
 pub returns-clause-drained : goal.returns-clause-drained
 returns-clause-drained g c =
@@ -98,7 +98,7 @@ returns-clause-drained g c =
     let many = as_many out done c.in_ok-workers.workers.items is.workers in
     record {
       over = all_over out done c.in_ok-workers.workers.items is.workers;
-      ends = locked_right (round g at.After-from-roots)
+      ends = locked_right c.in_ok-workers.rows.items (round g at.After-from-roots)
           (subst (λ (t : List Resting). AreFilled c.args.plan.now.search.question c.args.plan.now.search.index t c.args.plan.now.queues
           c.in_ok-queues.queues.items) c.deref.ensures.value c.in_ok-queues.ensures.filled)
           out done is.rows (length c.in_ok-workers.workers.items)

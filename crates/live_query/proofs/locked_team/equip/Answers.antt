@@ -21,10 +21,11 @@ take_fronts-requires g c =
           omega (arith, some, row.ok.0);
     }
 
-pub new-queues-requires-clause-own : goal.new-queues-requires-clause-own
-new-queues-requires-clause-own g c =
-    fronts_own c.args.locks.now (length c.loop-searcher.yielded) c.loop-searcher.rows.items c.in_ok-passes.passes.items
-    c.take_fronts.new.rows.items c.loop-searcher.invariant.dealt c.in_ok-passes.ensures
+pub new-queues-requires : goal.new-queues-requires
+new-queues-requires g c = record {
+  own = fronts_own c.args.locks.now (length c.loop-searcher.yielded) c.loop-searcher.rows.items c.in_ok-passes.passes.items
+      c.take_fronts.new.rows.items c.loop-searcher.invariant.dealt c.in_ok-passes.ensures;
+}
 
 pub loop-searcher-preserved : goal.loop-searcher-preserved
 loop-searcher-preserved g c =

@@ -21,5 +21,5 @@ loop-preserved g c =
       goes_on = goes_on sealed_laws c.loop.self c.take_turn.new.self was.ready turn.place turn.turns _ _ was.goes_on;
     }
 
-pub loop-decreases : goal.loop-decreases
-loop-decreases g c = drain_less c.loop.self c.take_turn.new.self c.loop.invariant.ready c.take_turn.ensures.place c.take_turn.ensures.turns
+pub loop-smaller : goal.loop-smaller
+loop-smaller g c = drain_less c.loop.self c.take_turn.new.self c.loop.invariant.ready c.take_turn.ensures.place c.take_turn.ensures.turns

@@ -8,9 +8,9 @@ use Rattle.live_query.proofs.GoingOn.{fills_stays, fills_then}
 use Rattle.live_query.proofs.filling.Searcher+Worker+R+FillHand.fill.Goals as goal
 
 -- a worker that has not filled fills
-still_fills : (f r : Bool) → r ≡ not f → not r ≡ true → f ≡ true
+still_fills : (f r : Bool) → r ≡ not f → r ≡ false → f ≡ true
 still_fills true r e t = refl
-still_fills false true e t = absurd (true≢false (sym t))
+still_fills false true e t = absurd (true≢false t)
 still_fills false false e t = absurd (true≢false (sym e))
 
 pub loop-self-init : goal.loop-self-init
@@ -27,8 +27,8 @@ loop-self-preserved g c =
       goes_on = fills_then _ _ _ _ _ _ was.goes_on (fills_on _ _ _ _ was.serves was.knows turn.place fill turn.turns);
     }
 
-pub loop-self-decreases : goal.loop-self-decreases
-loop-self-decreases g c =
+pub loop-self-smaller : goal.loop-self-smaller
+loop-self-smaller g c =
     let was = c.loop-self.invariant in
     let turn = c.take_turn.ensures in
     let fill = still_fills _ _ c.filled.ensures c.loop-self-test.true in
