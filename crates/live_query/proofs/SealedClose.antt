@@ -162,7 +162,7 @@ module _ {a : Question} {ix : IndexParts} {m : ℕ} {best : Best} {team : List R
         ∙ ap (λ ps. total (given_of l run) (column ps j)) are
         ∙ total_map (given_of l run) (λ (vs : List Visit). visit_at vs j) (map (λ (c : Draining). c.hand.queues.visits) later)
         ∙ total_map (λ (vs : List Visit). given_of l run (visit_at vs j)) (λ (c : Draining). c.hand.queues.visits) later
-        ∙ sym (totals_same (popped_by j l) (λ (c : Draining). given_of l run (visit_at c.hand.queues.visits j)) ys later record_count outset worked all_done
+        ∙ sym (totals_same (popped_by j l) (λ (c : Draining). given_of l run (visit_at c.hand.queues.visits j)) ys later (record_count outset worked all_done)
         (λ i y c at_y at_c.
         let e = ended_at outset worked all_done i y at_y in
         let same = same_Some e.cell c (sym e.at ∙ at_c) in
