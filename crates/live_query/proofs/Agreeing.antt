@@ -1,7 +1,6 @@
 -- How the calls at a queue and the pops of a record grow together, call by call.
 use Rattle.std.proofs.Common.{◌≡◌, ℕ, ◌++◌, List, [], ◌∷◌, cond, sym, refl, ap, ◌∙◌, inl, inr, ⊎_elim, arith}
 use Rattle.std.proofs.lemmas.Bool.{eq-eqb, ne_eqb}
-use Rattle.list_totals.specs.Totals.{total}
 use Rattle.list_totals.specs.Standing.{In}
 use Rattle.list_totals.proofs.Standing.{in_behind, in_front}
 use Rattle.list_totals.proofs.Totals.{total_push}

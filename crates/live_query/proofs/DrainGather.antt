@@ -1,5 +1,5 @@
 -- From searchers that have filled, with hands over new queues, to what the drain part made of them (`came_at`).
-use Rattle.std.proofs.Common.{◌≡◌, ◌≢◌, ℕ, ◌<◌, ◌≤◌, ◌++◌, List, [], ◌∷◌, Some, All, false, length, map, refl, sym, ap, ◌∙◌, subst, length-append, arith}
+use Rattle.std.proofs.Common.{◌≡◌, ◌≢◌, ℕ, ◌≤◌, ◌++◌, List, [], ◌∷◌, Some, All, length, map, refl, sym, ap, ◌∙◌, subst, length-append, arith}
 use Rattle.std.specs.Prelude.{slice_get}
 use Rattle.std.proofs.lemmas.List.{length-map}
 use Rattle.std.proofs.lemmas.Option.{slice_get_within}
@@ -7,7 +7,7 @@ use Rattle.best_word.specs.Passes.{Best}
 use Rattle.subtree_build.specs.Index.{IndexParts}
 use Rattle.search_machine.specs.declared.phase.Phase.TheVariants.{Done}
 use Rattle.search_machine.specs.Ground.{Fits, Ground}
-use Rattle.search_machine.specs.OwnRecord.{PopMade, RecordedWorker}
+use Rattle.search_machine.specs.OwnRecord.{PopMade}
 use Rattle.search_machine.specs.Stands.{StandsFor}
 use Rattle.search_machine.specs.Workers.{fills}
 use Rattle.search_machine.proofs.Places.{get_map, get_some}

@@ -1,6 +1,6 @@
 -- What the locks and the rows of passes are before and after the drain part over locked queues (`numbered`, `row_calls`), and that each
 -- queue went by one history of calls from what it was (`went`).
-use Rattle.std.proofs.Common.{◌≡◌, ℕ, ◌<◌, List, [], None, Some, Option, length, map, refl, sym, ap, ◌∙◌, subst, arith}
+use Rattle.std.proofs.Common.{◌≡◌, ℕ, List, [], None, Some, Option, length, map, refl, sym, ap, ◌∙◌, subst, arith}
 use Rattle.std.specs.Prelude.{slice_get}
 use Rattle.std.proofs.lemmas.List.{length-map}
 use Rattle.std.proofs.lemmas.Option.{same_Some, slice_get_within}
@@ -15,7 +15,7 @@ use Rattle.live_query.specs.LockedQueues.{ArePopsOf, LockedAgrees, LockedKept, Q
 use Rattle.live_query.specs.LockParts.{AreNumbered, AreRound, HasNew, Locking, Row, WentBy, calls_in, calls_in_row}
 use Rattle.live_query.specs.Parts.{Resting}
 use Rattle.live_query.proofs.Agreeing.{no_pops}
-use Rattle.live_query.proofs.DrainGather.{Came, Outset, Worked, came_at, team_count}
+use Rattle.live_query.proofs.DrainGather.{Outset, Worked, came_at, team_count}
 use Rattle.live_query.proofs.Places.{map_at}
 
 -- new passes have called nothing

@@ -11,7 +11,7 @@ use Rattle.leaf_queues.specs.declared.calls.Reply.{Reply}
 use Rattle.leaf_queues.specs.declared.calls.Reply.TheVariants.{Pop as PopAnswer}
 use Rattle.search_machine.specs.OwnRecord.{PopMade}
 use Rattle.search_machine.proofs.Places.{get_set, get_set_other, get_some}
-use Rattle.live_query.specs.LockedQueues.{ArePopsOf, Called, LockedAgrees, LockedKept, LockedPops, QueuePass, SameLocks, SamePlaces, calls_at, calls_of, pass_count}
+use Rattle.live_query.specs.LockedQueues.{ArePopsOf, Called, LockedAgrees, LockedKept, LockedPops, QueuePass, SameLocks, calls_at, calls_of, pass_count}
 use Rattle.live_query.proofs.Agreeing.{pops_here, pops_there}
 use Rattle.live_query.proofs.DrainTies.{LawfulQueues}
 use Rattle.live_query.proofs.FillTies.{get_here, set_length}

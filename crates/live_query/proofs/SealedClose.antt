@@ -18,7 +18,6 @@ use Rattle.sealed_runs.proofs.Members.{filter_contains, map_contains}
 use Rattle.std.proofs.lemmas.List.Elements.{All-contains}
 use Rattle.sealed_runs.specs.Visits.{IsPass, IsVisit, Visit, column, fresh_visit, handed, is_refused as is_refused_place, leaves, visit_at}
 use Rattle.subtree_build.specs.Index.{IndexParts}
-use Rattle.search_machine.specs.declared.phase.Phase.TheVariants.{Done}
 use Rattle.search_machine.specs.declared.outcome.QueueLine.{QueueLine}
 use Rattle.search_machine.specs.Basics.{Ordered, entered}
 use Rattle.search_machine.specs.Closes.{CameByPop, QueueCloses, placed_by, popped_by}
@@ -38,7 +37,7 @@ use Rattle.live_query.specs.SealedQueues.{IsFresh, SameRuns, SealedAgrees, Seale
 use Rattle.live_query.proofs.DrainGather.{Came, Outset, Worked}
 use Rattle.live_query.proofs.Drained.{AllDone, behind, ended_at, ended_records, ends_right, record_count, worker_done}
 use Rattle.live_query.proofs.Places.{Chosen, all_at, all_from, choose, map_at, maps_same, totals_same}
-use Rattle.live_query.proofs.PutsKept.{bound_right, came, placed_as}
+use Rattle.live_query.proofs.PutsKept.{AreBehind, bound_right, came, placed_as}
 use Rattle.live_query.proofs.RunQueues.{ascending_ordered, entered_in, in_filter, is_left, least_from, least_some, left_of, left_or_taken, once_entered, ordered_filter, round_covers}
 
 -- fresh visits agree with no pops
@@ -72,6 +71,12 @@ module _ {a : Question} {ix : IndexParts} {m : ℕ} {best : Best} {team : List R
   abbrev ys : List RecordedWorker
   ys = ended_records outset worked all_done
 
+  are_behind : AreBehind outset.filled n ys
+  are_behind = behind outset worked all_done
+
+  ys_count : length ys ≡ length later
+  ys_count = record_count outset worked all_done
+
   runs_are : (i : ℕ) (e : Draining) → Came outset worked i e → e.hand.queues.runs ≡ runs
   runs_are i e w =
       w.goes.queues.runs ∙ ap (λ (h : DrainKept SealedKept). h.queues.runs) w.began.is.hand
@@ -88,7 +93,8 @@ module _ {a : Question} {ix : IndexParts} {m : ℕ} {best : Best} {team : List R
   was_closed : (i : ℕ) (y : RecordedWorker) (j : ℕ) → slice_get ys i ≡ Some y → j < m → WasClosed y.own j
   was_closed i y j at low =
       let drains : OwnDrains g y.own i m y.worker.rest
-      = subst (OwnPhase g y.own i y.worker.rest y.worker.list) (worker_done outset worked all_done i y at) ((behind outset worked all_done).stands i y at).phase in
+      = subst (OwnPhase g y.own i y.worker.rest y.worker.list) (worker_done outset worked all_done i y at)
+      (are_behind.stands i y at).phase in
       let x = round_covers i m j low in
       subst (WasClosed y.own) x.2 (drains.closed x.0 x.1)
 
@@ -119,7 +125,7 @@ module _ {a : Question} {ix : IndexParts} {m : ℕ} {best : Best} {team : List R
     }
 
     entry_right : (e : Entry) → In e run.entries → e.bound ≡ g.bound e.leaf
-    entry_right = bound_right (behind outset worked all_done) j run.entries is_run.exactly
+    entry_right = bound_right are_behind j run.entries is_run.exactly
 
     from_run : (e : Entry) → In e line.taken → In e run.entries
     from_run e i =
@@ -154,7 +160,7 @@ module _ {a : Question} {ix : IndexParts} {m : ℕ} {best : Best} {team : List R
     put_counts : (l : ℕ) → waits l queue + takes l queue ≡ total (placed_by j l) ys
     put_counts l =
         left_or_taken l run.entries line.taken (once_here l) (once_taken l) from_run
-        ∙ placed_as (behind outset worked all_done) j run.entries is_run.exactly once_here l
+        ∙ placed_as are_behind j run.entries is_run.exactly once_here l
 
     popped_counts : (l : ℕ) → takes l queue ≡ total (popped_by j l) ys
     popped_counts l =
@@ -162,7 +168,7 @@ module _ {a : Question} {ix : IndexParts} {m : ℕ} {best : Best} {team : List R
         ∙ ap (λ ps. total (given_of l run) (column ps j)) are
         ∙ total_map (given_of l run) (λ (vs : List Visit). visit_at vs j) (map (λ (c : Draining). c.hand.queues.visits) later)
         ∙ total_map (λ (vs : List Visit). given_of l run (visit_at vs j)) (λ (c : Draining). c.hand.queues.visits) later
-        ∙ sym (totals_same (popped_by j l) (λ (c : Draining). given_of l run (visit_at c.hand.queues.visits j)) ys later (record_count outset worked all_done)
+        ∙ sym (totals_same (popped_by j l) (λ (c : Draining). given_of l run (visit_at c.hand.queues.visits j)) ys later ys_count
         (λ i y c at_y at_c.
         let e = ended_at outset worked all_done i y at_y in
         let same = same_Some e.cell c (sym e.at ∙ at_c) in
@@ -195,7 +201,7 @@ module _ {a : Question} {ix : IndexParts} {m : ℕ} {best : Best} {team : List R
     kept v e =
         let r = least_from vs v (sym is_line.kept ∙ e) in
         let inside : r.0 < length vs = slice_get_within vs r.0 r.1 r.2 in
-        let y = get_some ys r.0 (omega (arith, inside, vs_count, record_count outset worked all_done)) in
+        let y = get_some ys r.0 (omega (arith, inside, vs_count, ys_count)) in
         let w = ended_at outset worked all_done r.0 y.0 y.1 in
         let same = same_Some (visit_at w.cell.hand.queues.visits j) r.1 (sym (visit_of r.0 y.0 y.1) ∙ r.2) in
         let k = w.later_is.known.tied.pops.kept j v (run_there r.0 y.0 y.1 j low)
@@ -215,7 +221,7 @@ module _ {a : Question} {ix : IndexParts} {m : ℕ} {best : Best} {team : List R
         all_shut : All (λ (x : Visit). x.closed ≢ None) vs
         all_shut = all_from (λ (x : Visit). x.closed ≢ None) vs (λ i x at none.
             let low = slice_get_within vs i x at in
-            let y = get_some ys i (omega (arith, low, vs_long, record_count outset worked all_done)) in
+            let y = get_some ys i (omega (arith, low, vs_long, ys_count)) in
             let same = same_Some _ x (sym (visit_of i y.0 y.1) ∙ at) in
             none_closed x.closed
             (ap (λ (x : Visit). is_some x.closed) (sym same) ∙ visit_shut i y.0 y.1 (was_closed i y.0 j y.1 low_j)) none)
@@ -238,7 +244,7 @@ module _ {a : Question} {ix : IndexParts} {m : ℕ} {best : Best} {team : List R
       ordered = ordered_filter (is_left line.taken) run.entries (ascending_ordered run.entries is_run.ascending);
       placed = refl;
       capacity = refl;
-      came = λ e h. came (behind outset worked all_done) j run.entries is_run.exactly e (either e h);
+      came = λ e h. came are_behind j run.entries is_run.exactly e (either e h);
       put = put_counts;
       popped = popped_counts;
       shut = shut;

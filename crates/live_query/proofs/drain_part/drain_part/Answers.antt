@@ -8,7 +8,6 @@ use Rattle.live_query.specs.Marked.{IsRunOf}
 use Rattle.live_query.specs.Parts.{Draining, Resting, marks_of}
 use Rattle.live_query.specs.SealedQueues.{IsFresh, IsFreshPass, SameRuns, SealedAgrees, SealedKept, run_count}
 use Rattle.live_query.proofs.DrainGather.{Outset, Worked, as_many, all_over, all_ready, all_still}
-use Rattle.live_query.proofs.Drained.{AllDone}
 use Rattle.live_query.proofs.SealedClose.{fresh_agrees, sealed_right}
 use Rattle.live_query.proofs.Openers.{all_replicate}
 use Rattle.live_query.proofs.Places.{all_at, all_from}

@@ -1,5 +1,5 @@
 -- The next searcher has its hand, with the next pass.
-use Rattle.std.proofs.Common.{◌≡◌, ◌++◌, List, [], ◌∷◌, All, refl, sym, ap, ◌∙◌, subst, length-append, arith}
+use Rattle.std.proofs.Common.{◌≡◌, List, [], ◌∷◌, All, ap, ◌∙◌, subst, length-append, arith}
 use Rattle.sealed_runs.specs.Visits.{Visit}
 use Rattle.live_query.specs.SealedQueues.{IsFresh, IsFreshPass, SealedKept}
 use Rattle.live_query.specs.Parts.{Resting}

@@ -1,5 +1,5 @@
 -- What the searchers are before the drain part, and what the closed locks say after it.
-use Rattle.std.proofs.Common.{◌≡◌, ℕ, All, List, ap, length, map, refl, subst, sym, ◌∙◌, arith}
+use Rattle.std.proofs.Common.{◌≡◌, ℕ, List, ap, length, map, subst, sym, ◌∙◌, arith}
 use Rattle.leaf_queues.specs.PlainQueue.{PlainQueue}
 use Rattle.search_machine.specs.Outcome.{line_of}
 use Rattle.live_query.specs.FilledQueues.{AreFilled}

@@ -10,7 +10,9 @@ loop-init g c = record { ready = c.requires.ready; goes_on = drain_stays sealed_
 
 pub returns-then-eq-clause-goes_on : goal.returns-then-eq-clause-goes_on
 returns-then-eq-clause-goes_on g c =
-    let was = c.loop.invariant in goes_on sealed_laws c.loop.self c.take_turn.new.self was.ready c.take_turn.ensures.place c.take_turn.ensures.turns _ _ was.goes_on
+    let was = c.loop.invariant in
+    let turn = c.take_turn.ensures in
+    goes_on sealed_laws c.loop.self c.take_turn.new.self was.ready turn.place turn.turns _ _ was.goes_on
 
 pub loop-preserved : goal.loop-preserved
 loop-preserved g c =

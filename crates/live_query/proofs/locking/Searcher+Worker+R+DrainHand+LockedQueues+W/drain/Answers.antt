@@ -9,7 +9,9 @@ loop-init g c = record { can_next = tt; is_finite = tt; ready = c.requires.ready
 
 pub returns-then-eq-clause-goes_on : goal.returns-then-eq-clause-goes_on
 returns-then-eq-clause-goes_on g c =
-    let was = c.loop.invariant in goes_on locked_laws c.loop.self c.take_turn.new.self was.ready c.take_turn.ensures.place c.take_turn.ensures.turns _ _ was.goes_on
+    let was = c.loop.invariant in
+    let turn = c.take_turn.ensures in
+    goes_on locked_laws c.loop.self c.take_turn.new.self was.ready turn.place turn.turns _ _ was.goes_on
 
 pub loop-preserved : goal.loop-preserved
 loop-preserved g c =
