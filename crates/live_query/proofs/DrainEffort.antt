@@ -1,5 +1,5 @@
 -- Each turn in the drain part leaves less to do (`drain_less`).
-use Rattle.std.proofs.Common.{◌≡◌, ℕ, zero, suc, ◌+◌, ◌-◌, ◌*◌, ◌<◌, ◌≤◌, ◌⊎◌, true, false, length, ltb, sym, refl, ap, inl, inr, ⊎_elim, arith}
+use Rattle.std.proofs.Common.{◌≡◌, ℕ, zero, suc, ◌+◌, ◌-◌, ◌*◌, ◌<◌, ◌≤◌, true, false, length, ltb, sym, refl, ap, ◌∙◌, inl, inr, ⊎_elim, arith}
 use Rattle.std.specs.Prelude.{nat_lt, slice_set, ◌&&◌}
 use Rattle.std.proofs.lemmas.Bool.{cases_eq, cond_both, true≢false}
 use Rattle.std.proofs.lemmas.Bool.Decides.{nat_tests}
@@ -11,16 +11,21 @@ use Rattle.series_core.specs.declared.queue_words.PopReply.TheVariants.{Leaf, Cl
 use Rattle.sealed_runs.specs.Entries.{run_at}
 use Rattle.sealed_runs.specs.Visits.{Visit, visit_at}
 use Rattle.search_machine.specs.declared.calls.Reply.{Reply}
-use Rattle.search_machine.specs.declared.calls.Reply.TheVariants.{Claimed, Seen, Offered, PutTold, PopTold}
+use Rattle.search_machine.specs.declared.calls.Reply.TheVariants.{Seen, Offered, PopTold}
 use Rattle.search_machine.specs.declared.phase.Phase.{Phase}
 use Rattle.search_machine.specs.declared.phase.Phase.TheVariants.{Claim, Look, Give, Late, Aim, Pop, Offer, Done}
 use Rattle.search_machine.specs.declared.phase.Onward.TheVariants.{Look as ToLook, Aim as ToAim}
 use Rattle.search_machine.specs.Ground.{Ground, scan}
 use Rattle.search_machine.specs.Workers.{Worker, after_pop, after_reply, fills, improves, in_phase, is_new, round_queue, scanned_by}
 use Rattle.search_machine.specs.Calls.{call_in}
-use Rattle.live_query.specs.DrainHands.{DrainKept, DrainDid, IsIdle, PopsRun}
-use Rattle.live_query.specs.Efforts.{open_left, round_left, run_left}
-use Rattle.live_query.proofs.DrainTies.{visit_here, visit_other}
+use Rattle.search_machine.specs.OwnRecord.{RecordedWorker, nothing_yet}
+use Rattle.query_core.specs.Turning.{Turns, search_of}
+use Rattle.query_core.specs.Working.{IsOf}
+use Rattle.live_query.specs.DrainHands.{DrainKept, DrainDid}
+use Rattle.live_query.specs.SealedQueues.{PopsRun, SealedKept, SealedPops, run_count}
+use Rattle.live_query.specs.Parts.{Draining, MayDrain}
+use Rattle.live_query.specs.Efforts.{drain_left, open_left, round_left, run_left}
+use Rattle.live_query.proofs.SealedTies.{visit_here, visit_other}
 
 -- a sum where one number's part changed
 sum_changed : (n m : ℕ) (f g : ℕ → ℕ) → ((x : ℕ) → (x ≡ m → ⊥) → f x ≡ g x) → m < n
@@ -41,14 +46,14 @@ sum_changed (suc n) m f g same low = ⊎_elim
     lower : (m n : ℕ) → m < suc n → (m ≡ n → ⊥) → m < n
     lower m n low ne = grind (arith, nat_tests)
 
--- what all runs may still give to the hand
-abbrev all_left : DrainKept → ℕ
+-- what all runs may still give to a worker
+abbrev all_left : SealedKept → ℕ
 all_left h = sum_below (length h.runs) (run_left h)
 
-abbrev with_visit : DrainKept → ℕ → Visit → DrainKept
+abbrev with_visit : SealedKept → ℕ → Visit → SealedKept
 with_visit h m x = record h { visits = slice_set h.visits m x }
 
-module _ (h : DrainKept) (m : ℕ) (x : Visit) (run : m < length h.runs) (visit : m < length h.visits) where
+module _ (h : SealedKept) (m : ℕ) (x : Visit) (run : m < length h.runs) (visit : m < length h.visits) where
   left_here : run_left (with_visit h m x) m ≡ open_left x.closed (length (run_at h.runs m).entries - x.claim.met)
   left_here = ap (λ (y : Visit). open_left y.closed (length (run_at h.runs m).entries - y.claim.met))
       (visit_here h.visits m x visit)
@@ -61,7 +66,7 @@ module _ (h : DrainKept) (m : ℕ) (x : Visit) (run : m < length h.runs) (visit 
   left_changed = sum_changed (length h.runs) m (run_left (with_visit h m x)) (run_left h) left_there run
 
 -- a pop that was answered by an entry leaves less, and one that was answered Closed leaves no more
-leaf_less : (h k : DrainKept) (m v : ℕ) (e : Entry) → PopsRun h m v (Leaf e) k → all_left k < all_left h
+leaf_less : (h k : SealedKept) (m v : ℕ) (e : Entry) → PopsRun h m v (Leaf e) k → all_left k < all_left h
 leaf_less h k m v e d =
     let x = visit_at k.visits m in
     let changed = left_changed h m x d.run d.visit in
@@ -76,7 +81,7 @@ leaf_less h k m v e d =
     let all = ap all_left d.after in
     omega arith
 
-shut_less : (h k : DrainKept) (m v told : ℕ) → PopsRun h m v (Closed told) k → all_left k ≤ all_left h
+shut_less : (h k : SealedKept) (m v told : ℕ) → PopsRun h m v (Closed told) k → all_left k ≤ all_left h
 shut_less h k m v told d =
     let x = visit_at k.visits m in
     let changed = left_changed h m x d.run d.visit in
@@ -107,8 +112,7 @@ closed_round g w j v told =
     ltb_lt : (a b : ℕ) → ltb a b ≡ true → a < b
     ltb_lt a b e = grind (arith, nat_tests)
 
-pop_less : (g : Ground) (w : Worker) (h k : DrainKept) (m j v : ℕ) (reply : PopReply)
-    → (IsIdle h m × (reply ≡ Closed v) × (k ≡ h)) ⊎ PopsRun h m v reply k
+pop_less : (g : Ground) (w : Worker) (h k : SealedKept) (m j v : ℕ) (reply : PopReply) → SealedPops h m v reply k
     → of g (after_pop g w j v reply) + 3 * all_left k < 1 + 2 * (g.queues - j) + 3 * all_left h
 pop_less g w h k m j v reply (inl idle) =
     let same = ap all_left idle.2 in
@@ -121,27 +125,32 @@ pop_less g w h k m j v (Closed told) (inr d) =
     let a = closed_round g w j v told in let b = shut_less h k m v told d in omega arith
 
 -- a reply in the drain part leaves less
-pub drain_reply_left : (g : Ground) (i : ℕ) (w : Worker) (h k : DrainKept) (phase : Phase) (reply : Reply)
-    → fills phase ≡ false → (phase ≡ Done → ⊥) → DrainDid h (call_in g i w phase) reply k
-    → of g (after_reply g w phase reply) + 3 * all_left k < round_left g.queues phase + 3 * all_left h
-drain_reply_left g i w h k (Aim j) (Seen v) f ne d = let s = ap all_left d.1 in omega arith
-drain_reply_left g i w h k (Pop j v) (PopTold reply) f ne d = pop_less g w h k (round_queue g i j) j v reply d
-drain_reply_left g i w h k (Offer (ToAim j)) (Offered v) f ne d = let s = ap all_left d.1 in omega arith
+drain_reply_left : (g : Ground) (i : ℕ) (w : Worker) (h k : DrainKept SealedKept) (phase : Phase) (reply : Reply)
+    → fills phase ≡ false → (phase ≡ Done → ⊥) → DrainDid SealedPops h (call_in g i w phase) reply k
+    → of g (after_reply g w phase reply) + 3 * all_left k.queues < round_left g.queues phase + 3 * all_left h.queues
+drain_reply_left g i w h k (Aim j) (Seen v) f ne d = let s = ap (λ (k : DrainKept SealedKept). all_left k.queues) d.1 in omega arith
+drain_reply_left g i w h k (Pop j v) (PopTold reply) f ne d = pop_less g w h.queues k.queues (round_queue g i j) j v reply d.0
+drain_reply_left g i w h k (Offer (ToAim j)) (Offered v) f ne d =
+    let s = ap (λ (k : DrainKept SealedKept). all_left k.queues) d.1 in omega arith
 drain_reply_left g i w h k Done reply f ne d = absurd (ne refl)
 drain_reply_left g i w h k Claim reply f ne d = absurd (true≢false f)
 drain_reply_left g i w h k Look reply f ne d = absurd (true≢false f)
 drain_reply_left g i w h k (Give l) reply f ne d = absurd (true≢false f)
 drain_reply_left g i w h k (Late l) reply f ne d = absurd (true≢false f)
 drain_reply_left g i w h k (Offer ToLook) reply f ne d = absurd (true≢false f)
-drain_reply_left g i w h k (Aim j) (Claimed o) f ne d = absurd d
-drain_reply_left g i w h k (Aim j) (Offered v) f ne d = absurd d
-drain_reply_left g i w h k (Aim j) (PutTold p) f ne d = absurd d
-drain_reply_left g i w h k (Aim j) (PopTold p) f ne d = absurd d
-drain_reply_left g i w h k (Pop j v) (Claimed o) f ne d = absurd d
-drain_reply_left g i w h k (Pop j v) (Seen u) f ne d = absurd d
-drain_reply_left g i w h k (Pop j v) (Offered u) f ne d = absurd d
-drain_reply_left g i w h k (Pop j v) (PutTold p) f ne d = absurd d
-drain_reply_left g i w h k (Offer (ToAim j)) (Claimed o) f ne d = absurd d
-drain_reply_left g i w h k (Offer (ToAim j)) (Seen u) f ne d = absurd d
-drain_reply_left g i w h k (Offer (ToAim j)) (PutTold p) f ne d = absurd d
-drain_reply_left g i w h k (Offer (ToAim j)) (PopTold p) f ne d = absurd d
+drain_reply_left g i w h k _ _ f ne d = absurd d
+
+-- a turn in the drain part leaves less
+pub drain_less : (c d : Draining) → MayDrain run_count c → IsOf c.worker.question c.worker.index c.worker.queues c.worker.number d.worker
+    → Turns (DrainDid SealedPops) c.hand d.hand c.worker d.worker → drain_left d.worker d.hand < drain_left c.worker c.hand
+drain_less c d ready is t =
+    let w = c.worker in
+    let shows = ready.serves.shows in
+    let x : RecordedWorker = record { worker = ready.serves.shown; own = nothing_yet } in
+    let next = t.1.next 1 x shows in
+    let less = drain_reply_left (search_of w 1) w.number x.worker c.hand d.hand x.worker.phase t.0 (ap fills shows.phase ∙ ready.filled)
+    (λ e. ready.running (sym shows.phase ∙ e)) (t.1.called 1 x shows) in
+    let a = ap (round_left w.queues) next.phase in
+    let b = ap (round_left w.queues) shows.phase in
+    let c = ap (λ m. round_left m d.worker.phase) is.queues in
+    omega arith

@@ -1,161 +1,160 @@
--- What the searchers are before the drain part (`all_draining`), and what each was before it (`went`).
-use Rattle.std.proofs.Common.{◌≡◌, ◌≢◌, ℕ, zero, suc, ◌<◌, ◌≤◌, List, [], ◌∷◌, None, Some, Option, All, true, false, length, map, refl, sym, ap, ◌∙◌, subst, arith}
-use Rattle.std.specs.Prelude.{is_some, slice_get}
-use Rattle.std.proofs.lemmas.Bool.{true≢false}
+-- From searchers that have filled, with hands over new queues, to what the drain part made of them (`came_at`).
+use Rattle.std.proofs.Common.{◌≡◌, ◌≢◌, ℕ, ◌≤◌, ◌++◌, List, [], ◌∷◌, Some, All, length, map, refl, sym, ap, ◌∙◌, subst, length-append, arith}
+use Rattle.std.specs.Prelude.{slice_get}
 use Rattle.std.proofs.lemmas.List.{length-map}
-use Rattle.std.proofs.lemmas.Option.{none-some}
-use Rattle.list_totals.specs.Totals.{total}
-use Rattle.list_totals.specs.Standing.{In}
+use Rattle.std.proofs.lemmas.Option.{slice_get_within}
 use Rattle.best_word.specs.Passes.{Best}
-use Rattle.sealed_runs.specs.Entries.{Run, run_at}
-use Rattle.sealed_runs.specs.Sealing.{fresh_visits}
-use Rattle.sealed_runs.specs.Visits.{Visit, fresh_visit, visit_at}
 use Rattle.subtree_build.specs.Index.{IndexParts}
 use Rattle.search_machine.specs.declared.phase.Phase.TheVariants.{Done}
-use Rattle.search_machine.specs.Closes.{popped_of}
 use Rattle.search_machine.specs.Ground.{Fits, Ground}
-use Rattle.search_machine.specs.OwnRecord.{RecordedWorker}
+use Rattle.search_machine.specs.OwnRecord.{PopMade}
 use Rattle.search_machine.specs.Stands.{StandsFor}
 use Rattle.search_machine.specs.Workers.{fills}
-use Rattle.search_machine.proofs.Places.{get_map}
-use Rattle.search_task.specs.Questions.{CanBeSearched, Question, last_of, search_over}
+use Rattle.search_machine.proofs.Places.{get_map, get_some}
+use Rattle.search_task.specs.Questions.{Question, last_of}
 use Rattle.query_core.specs.Teams.{AreOver}
-use Rattle.query_core.specs.Working.{Working}
 use Rattle.query_core.specs.Turning.{search_of}
+use Rattle.query_core.specs.Working.{Working}
+use Rattle.query_core.proofs.Pushes.{push_both}
 use Rattle.search_task.proofs.OfIndex.{search_fits}
-use Rattle.live_query.specs.DrainHands.{DrainTied, given_of}
+use Rattle.live_query.specs.declared.searcher.Searcher.{Searcher}
+use Rattle.live_query.specs.Searchers.{with_hand}
+use Rattle.live_query.specs.DrainHands.{DrainKept, drain_over}
 use Rattle.live_query.specs.Knowing.{DrainServes, DrainsBy, DrainsOn}
-use Rattle.live_query.specs.Parts.{AllDrainOn, AllFilled, Draining, HasFilled, Resting, draining}
+use Rattle.live_query.specs.Parts.{AllFilled, AreEquipped, Drainer, EachOn, IsEquipped, MayDrain, Resting}
 use Rattle.live_query.specs.Resting.{Kept}
+use Rattle.live_query.proofs.GoingOn.{hand_taken}
 use Rattle.live_query.proofs.Openers.{search_at}
-use Rattle.live_query.proofs.Places.{all_from, all_map, by_place}
-use Rattle.live_query.proofs.PutsKept.{has_at}
+use Rattle.live_query.proofs.Places.{all_from, by_place}
+use Rattle.live_query.proofs.PutsKept.{HasRecord, has_at}
 
--- a fresh visit of a run
-fresh_at : (runs : List Run) (j : ℕ) → j < length runs → visit_at (fresh_visits runs) j ≡ fresh_visit (run_at runs j).claims
-fresh_at [] j low = absurd (omega arith)
-fresh_at (r ∷ rs) zero low = refl
-fresh_at (r ∷ rs) (suc j) low = fresh_at rs j (omega arith)
+-- one more searcher: it let its hand go, and took one over new queues with the bound word
+pub equipped_more : {Q : Type 0} (IsNew : ℕ → Q → Type 0) (roots : ℕ) (team : List Resting) (cells : List (Drainer Q)) (c : Resting)
+    (d : Drainer Q) (q : Q) (best : Best) {more : List (Drainer Q)} {rest : Searcher Working (Unit {0})} {hand : DrainKept Q} {floor : ℕ}
+    → AreEquipped IsNew roots team cells → more ≡ cells ++ d ∷ [] → rest ≡ with_hand c tt → d ≡ with_hand rest hand
+    → hand ≡ drain_over best floor roots q → floor ≡ c.hand.floor → c.hand.best ≡ best → IsNew (length team) q
+    → AreEquipped IsNew roots (team ++ c ∷ []) more
+equipped_more {Q} IsNew roots team cells c d q best {more} {rest} {hand} {floor} e pushed go took is same word new =
+    subst (AreEquipped IsNew roots (team ++ c ∷ [])) (sym pushed) (record {
+      count = let a = length-append cells (d ∷ []) in let b = length-append team (c ∷ []) in let s = e.count in omega arith;
+      each = push_both (IsEquipped IsNew roots) team cells c d (sym e.count) e.each (record {
+        worker = ap (λ (d : Drainer Q). d.worker) taken;
+        queues = q;
+        hand = ap (λ (d : Drainer Q). d.hand) taken ∙ is ∙ ap (λ (f : ℕ). drain_over best f roots q) same
+            ∙ ap (λ (b : Best). drain_over b c.hand.floor roots q) (sym word);
+        new = new;
+      });
+    })
+  where
+    taken : d ≡ with_hand c hand
+    taken = hand_taken c go took refl
 
-none_in : {X : Type 0} (xs : List X) (x : X) → xs ≡ [] → In x xs → ⊥
-none_in xs x e i = subst (λ l. In x l) e i
-
-pub none_closed : (o : Option ℕ) → is_some o ≡ true → o ≡ None → ⊥
-none_closed None s e = true≢false (sym s)
-none_closed (Some v) s e = none-some v (sym e)
-
--- the outset of the drain part: searchers that have filled, and a run for each queue
-pub record Outset (a : Question) (ix : IndexParts) (m : ℕ) (best : Best) (team : List Resting) (runs : List Run) (roots : ℕ)
-    : Type 0 where
-  pub searches : CanBeSearched a ix
-  pub some : 0 < m
+-- the outset of the drain part: searchers that have filled, each with its hand over m queues from which nothing was popped
+pub record Outset {Q : Type 0} (count : Q → ℕ) (Agrees : Q → List PopMade → Type 0) (IsNew : ℕ → Q → Type 0) (a : Question)
+    (ix : IndexParts) (m : ℕ) (best : Best) (team : List Resting) (roots : ℕ) (cells : List (Drainer Q)) : Type 0 where
   pub filled : AllFilled a ix m best team
-  pub count : length runs ≡ m
   pub all_roots : roots ≡ length ix.roots
+  pub equipped : AreEquipped IsNew roots team cells
+  pub counts : (i : ℕ) (q : Q) → IsNew i q → count q ≡ m
+  pub agrees : (i : ℕ) (q : Q) → IsNew i q → Agrees q []
 
--- the searchers with their hands of the drain part, before some turns and after them
-pub record Turned (team : List Resting) (runs : List Run) (roots : ℕ) (before cells : List Draining) : Type 0 where
-  pub is : before ≡ map (draining runs roots) team
-  pub len : length cells ≡ length before
-  pub on : AllDrainOn before cells
+-- searchers before and after their turns
+pub record Worked {Q : Type 0} (Same : Q → Q → Type 0) (Agrees : Q → List PopMade → Type 0) (cells later : List (Drainer Q))
+    : Type 0 where
+  pub count : length later ≡ length cells
+  pub on : EachOn (DrainsOn Same Agrees) cells later
 
-module _ {a : Question} {ix : IndexParts} {m : ℕ} {best : Best} {team : List Resting} {runs : List Run} {roots : ℕ}
-    (outset : Outset a ix m best team runs roots) where
-  abbrev one : Ground
-  one = search_over a ix 1 m
+module _ {Q : Type 0} {count : Q → ℕ} {Agrees : Q → List PopMade → Type 0} {IsNew : ℕ → Q → Type 0} {a : Question} {ix : IndexParts}
+    {m : ℕ} {best : Best} {team : List Resting} {roots : ℕ} {cells : List (Drainer Q)}
+    (outset : Outset count Agrees IsNew a ix m best team roots cells) where
+  -- a searcher with its hand, and what it was after it had filled
+  pub record Began (i : ℕ) (d : Drainer Q) : Type 0 where
+    pub was : HasRecord outset.filled i
+    pub is : IsEquipped IsNew roots i was.from d
 
-  -- before the drain part its record has no pops, and no run has answered it
-  fresh_tied : (c : Resting) (x : RecordedWorker) (i : ℕ) → HasFilled a ix m best i c x
-      → DrainTied (draining runs roots c).hand x.own
-  fresh_tied c x i has = record {
-    reads = λ v n.
-        let r = has.tied.reads v n in
-        (subst (λ (k : Kept). k.floor ≤ v) (sym has.rests) r.0, subst (λ (k : Kept). v ≤ k.best.start) (sym has.rests) r.1);
-    popped = λ j l low.
-        ap (total (popped_of j l)) has.tied.pops
-        ∙ sym (ap (given_of l (run_at runs j)) (fresh_at runs j low));
-    closed = λ j low w. absurd (none_in x.own.pops w.0 has.tied.pops w.2);
-    kept = λ j v low e. absurd (none-some v (ap (λ (z : Visit). z.closed) (sym (fresh_at runs j low)) ∙ e));
-  }
+  began_at : (i : ℕ) (d : Drainer Q) → slice_get cells i ≡ Some d → Began i d
+  began_at i d at =
+      let c = get_some team i (let low = slice_get_within cells i d at in let a = outset.equipped.count in omega arith) in
+      let x = has_at outset.filled i c.0 c.1 in
+      record {
+        was = record { from = c.0; record_of = x.0; at = c.1; at_record = x.1; has = x.2 };
+        is = outset.equipped.each i c.0 d c.1 at;
+      }
 
-  pub known_at : (c : Resting) (x : RecordedWorker) (i : ℕ) → HasFilled a ix m best i c x
-      → DrainsBy c.worker (draining runs roots c).hand x
-  known_at c x i has = record {
-    shows = has.shows;
-    stands = subst (λ (j : ℕ). StandsFor (search_of c.worker 1) j x) (sym has.place.number)
-        (subst (λ (h : Ground). StandsFor h i x) (sym (search_at a ix m i c.worker has.place)) has.stands);
-    tied = fresh_tied c x i has;
-  }
+  serves_at : (i : ℕ) (d : Drainer Q) → Began i d → DrainServes count d.worker d.hand
+  serves_at i d b =
+      subst (λ (w : Working). DrainServes count w d.hand) (sym b.is.worker)
+      (subst (DrainServes count b.was.from.worker) (sym b.is.hand) (record {
+        shown = b.was.record_of.worker;
+        shows = b.was.has.shows;
+        fits = subst (λ (h : Ground). Fits h) (sym (search_at a ix m i b.was.from.worker b.was.has.place))
+            (search_fits a ix 1 m outset.filled.searches (omega arith) outset.filled.some);
+        roots = outset.all_roots ∙ sym (ap (λ ix. length ix.roots) b.was.has.place.index);
+        floor = b.was.has.floor ∙ sym (ap last_of b.was.has.place.question);
+        queues = outset.counts i b.is.queues b.is.new ∙ sym b.was.has.place.queues;
+      }))
 
-  -- what all are as they begin to drain
-  serving_at : (c : Resting) (x : RecordedWorker) (i : ℕ) → HasFilled a ix m best i c x
-      → DrainServes c.worker (draining runs roots c).hand
-  serving_at c x i has = record {
-    shown = x.worker;
-    shows = has.shows;
-    fits = subst (λ (h : Ground). Fits h) (sym (search_at a ix m i c.worker has.place))
-        (search_fits a ix 1 m outset.searches (omega arith) outset.some);
-    roots = outset.all_roots ∙ sym (ap (λ ix. length ix.roots) has.place.index);
-    floor = has.floor ∙ sym (ap last_of has.place.question);
-    queues = outset.count ∙ sym has.place.queues;
-    visits = length-map runs (λ (run : Run). fresh_visit run.claims);
-  }
+  pub all_ready : All (MayDrain count) cells
+  all_ready = all_from (MayDrain count) cells (λ i d at.
+      let b = began_at i d at in
+      record {
+        serves = serves_at i d b;
+        filled = ap (λ (w : Working). fills w.phase) b.is.worker ∙ b.was.has.filled;
+        running = subst (λ (w : Working). w.phase ≢ Done) (sym b.is.worker) b.was.has.running;
+      })
 
-  pub all_word : All (λ (c : Resting). c.hand.best ≡ best) team
-  all_word = all_from (λ (c : Resting). c.hand.best ≡ best) team (λ i c at. (has_at outset.filled i c at).2.word)
+  -- its record has no pops yet
+  knows_at : (i : ℕ) (d : Drainer Q) (b : Began i d) → DrainsBy Agrees d.worker d.hand b.was.record_of
+  knows_at i d b =
+      subst (λ (w : Working). DrainsBy Agrees w d.hand b.was.record_of) (sym b.is.worker)
+      (subst (λ (h : DrainKept Q). DrainsBy Agrees b.was.from.worker h b.was.record_of) (sym b.is.hand) (record {
+        shows = b.was.has.shows;
+        stands = subst (λ (j : ℕ). StandsFor (search_of b.was.from.worker 1) j b.was.record_of) (sym b.was.has.place.number)
+            (subst (λ (h : Ground). StandsFor h i b.was.record_of) (sym (search_at a ix m i b.was.from.worker b.was.has.place)) b.was.has.stands);
+        tied = record {
+          reads = λ v n.
+              subst (λ (k : Kept). (k.floor ≤ v) × (v ≤ k.best.start)) (sym b.was.has.rests) (b.was.has.tied.reads v n);
+          pops = subst (Agrees b.is.queues) (sym b.was.has.tied.pops) (outset.agrees i b.is.queues b.is.new);
+        };
+      }))
 
-  pub all_draining : (cells : List Draining) → cells ≡ map (draining runs roots) team
-      → All (λ (c : Draining). DrainServes c.worker c.hand) cells
-  all_draining cells is =
-      all_map (λ (c : Draining). DrainServes c.worker c.hand) (draining runs roots) team cells is
-      (λ i c at. let x = has_at outset.filled i c at in serving_at c x.0 i x.2)
+  module _ {Same : Q → Q → Type 0} {later : List (Drainer Q)} (worked : Worked Same Agrees cells later) where
+    abbrev On : Drainer Q → Drainer Q → Type 0
+    On x y = DrainsOn Same Agrees x.worker x.hand y.worker y.hand
 
-  pub all_busy : (cells : List Draining) → cells ≡ map (draining runs roots) team
-      → All (λ (c : Draining). c.worker.phase ≢ Done) cells
-  all_busy cells is =
-      all_map (λ (c : Draining). c.worker.phase ≢ Done) (draining runs roots) team cells is
-      (λ i c at. (has_at outset.filled i c at).2.running)
+    -- a searcher after the part, with what it was before
+    pub record Came (i : ℕ) (e : Drainer Q) : Type 0 where
+      pub first : Drainer Q
+      pub began : Began i first
+      pub goes : On first e
+      pub known : DrainsBy Agrees first.worker first.hand began.was.record_of
 
-  pub all_drain : (cells : List Draining) → cells ≡ map (draining runs roots) team
-      → All (λ (c : Draining). fills c.worker.phase ≡ false) cells
-  all_drain cells is =
-      all_map (λ (c : Draining). fills c.worker.phase ≡ false) (draining runs roots) team cells is
-      (λ i c at. (has_at outset.filled i c at).2.filled)
+    pub came_at : (i : ℕ) (e : Drainer Q) → slice_get later i ≡ Some e → Came i e
+    came_at i e at =
+        let r = by_place On cells later worked.count worked.on i e at in
+        let b = began_at i r.from r.at in
+        record { first = r.from; began = b; goes = r.on; known = knows_at i r.from b }
 
-  abbrev On : Draining → Draining → Type 0
-  On x y = DrainsOn x.worker x.hand y.worker y.hand
+    -- what holds of new queues, and stays, holds of each hand's
+    pub all_still : (P : Q → Type 0) → ((i : ℕ) (q k : Q) → IsNew i q → Same q k → P k)
+        → All (λ (e : Drainer Q). P e.hand.queues) later
+    all_still P still = all_from (λ (e : Drainer Q). P e.hand.queues) later (λ i e at.
+        let r = came_at i e at in
+        still i r.began.is.queues e.hand.queues r.began.is.new
+        (subst (λ (h : DrainKept Q). Same h.queues e.hand.queues) r.began.is.hand r.goes.queues))
 
-  module _ {before cells : List Draining} (turned : Turned team runs roots before cells) where
-    -- a searcher that has drained, with what it was after it had filled
-    pub record Went (i : ℕ) (d : Draining) : Type 0 where
-      pub from : Resting
-      pub record_of : RecordedWorker
-      pub at : slice_get team i ≡ Some from
-      pub at_record : slice_get outset.filled.records i ≡ Some record_of
-      pub has : HasFilled a ix m best i from record_of
-      pub goes : On (draining runs roots from) d
-
-    pub went : (i : ℕ) (d : Draining) → slice_get cells i ≡ Some d → Went i d
-    went i d at =
-        let r = by_place On before cells turned.len turned.on i d at in
-        let s = get_map (draining runs roots) team i r.from (ap (λ l. slice_get l i) (sym turned.is) ∙ r.at) in
-        let x = has_at outset.filled i s.0 s.1 in
-        record {
-          from = s.0;
-          record_of = x.0;
-          at = s.1;
-          at_record = x.1;
-          has = x.2;
-          goes = subst (λ x. On x d) (sym s.2) r.on;
-        }
-
-    -- its runs are these, and its worker searches this index
-    pub all_runs : All (λ (c : Draining). c.hand.runs ≡ runs) cells
-    all_runs = all_from (λ (c : Draining). c.hand.runs ≡ runs) cells (λ i d at. (went i d at).goes.runs)
-
-    pub all_over : (ws : List Working) → ws ≡ map (λ (c : Draining). c.worker) cells → AreOver a ix ws
+    pub all_over : (ws : List Working) → ws ≡ map (λ (e : Drainer Q). e.worker) later → AreOver a ix ws
     all_over ws are i w at =
-        let d = get_map (λ (c : Draining). c.worker) cells i w (ap (λ l. slice_get l i) (sym are) ∙ at) in
-        let t = went i d.0 d.1 in
-        subst (λ (v : Working). (v.question ≡ a) × (v.index ≡ ix)) d.2
-        (t.goes.place.question ∙ t.has.place.question, t.goes.place.index ∙ t.has.place.index)
+        let e = get_map (λ (e : Drainer Q). e.worker) later i w (ap (λ l. slice_get l i) (sym are) ∙ at) in
+        let r = came_at i e.0 e.1 in
+        let place = ap (λ (w : Working). w.question) r.began.is.worker in
+        let index = ap (λ (w : Working). w.index) r.began.is.worker in
+        subst (λ (v : Working). (v.question ≡ a) × (v.index ≡ ix)) e.2
+        (r.goes.place.question ∙ place ∙ r.began.was.has.place.question, r.goes.place.index ∙ index ∙ r.began.was.has.place.index)
+
+    pub team_count : length later ≡ length team
+    team_count = worked.count ∙ outset.equipped.count
+
+    pub as_many : (ws : List Working) → ws ≡ map (λ (e : Drainer Q). e.worker) later → length team ≡ length ws
+    as_many ws are =
+        sym (ap (λ (ws : List Working). length ws) are ∙ length-map later (λ (e : Drainer Q). e.worker) ∙ team_count)

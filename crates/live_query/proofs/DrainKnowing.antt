@@ -1,7 +1,7 @@
--- A turn in the drain part: whatever the record was, there is a later one (`drain_on`), and less is left to do (`drain_less`).
-use Rattle.std.proofs.Common.{◌≡◌, ◌≢◌, ◌<◌, ℕ, None, false, length, sym, refl, ap, ◌∙◌, subst, inl, inr, arith}
+-- A turn in the drain part, over lawful queues: whatever the record was, there is a later one (`drain_on`); and turns one after another.
+use Rattle.std.proofs.Common.{◌≡◌, ◌≢◌, ℕ, None, List, false, length, sym, refl, ap, ◌∙◌, subst}
 use Rattle.series_core.specs.declared.queue_words.PutReply.TheVariants.{Filled}
-use Rattle.sealed_runs.specs.Visits.{visit_at}
+use Rattle.series_core.specs.declared.queue_words.PopReply.{PopReply}
 use Rattle.search_machine.specs.declared.calls.Call.{Call}
 use Rattle.search_machine.specs.declared.calls.Call.TheVariants.{Claim, Read, Offer, Put, Pop}
 use Rattle.search_machine.specs.declared.calls.Reply.{Reply}
@@ -9,7 +9,7 @@ use Rattle.search_machine.specs.declared.calls.Reply.TheVariants.{Claimed, Seen,
 use Rattle.search_machine.specs.declared.phase.Phase.TheVariants.{Done}
 use Rattle.search_machine.specs.Ground.{Fits, Ground}
 use Rattle.search_machine.specs.Workers.{fills}
-use Rattle.search_machine.specs.OwnRecord.{RecordedWorker, nothing_yet}
+use Rattle.search_machine.specs.OwnRecord.{PopMade, RecordedWorker, nothing_yet}
 use Rattle.search_machine.specs.Replies.{after}
 use Rattle.search_machine.specs.Stands.{StandsFor}
 use Rattle.search_machine.proofs.EveryReply.{reply_stands}
@@ -18,105 +18,129 @@ use Rattle.search_task.specs.Questions.{last_of}
 use Rattle.query_core.specs.Turning.{Turns, search_of}
 use Rattle.query_core.specs.Working.{IsOf, Working}
 use Rattle.live_query.specs.DrainHands.{DrainKept, DrainDid}
-use Rattle.live_query.specs.Efforts.{drain_left, round_left}
+use Rattle.live_query.specs.Parts.{Drainer, MayDrain}
 use Rattle.live_query.specs.Knowing.{DrainServes, DrainsBy, DrainsOn, IsLater}
-use Rattle.live_query.proofs.DrainTies.{drain_ties}
-use Rattle.live_query.proofs.DrainEffort.{drain_reply_left}
+use Rattle.live_query.proofs.DrainTies.{LawfulQueues, drain_ties}
 use Rattle.live_query.proofs.FillKnowing.{same_search}
-use Rattle.live_query.proofs.FillTies.{set_length}
+use Rattle.live_query.proofs.GoingOn.{place_on, same_place}
 
--- a call leaves the objects of the hand as they are
-pub record SameDrain (h k : DrainKept) : Type 0 where
-  pub runs : k.runs ≡ h.runs
-  pub best : k.best ≡ h.best
-  pub floor : k.floor ≡ h.floor
-  pub roots : k.roots ≡ h.roots
-  pub visits : length k.visits ≡ length h.visits
+module _ {Q : Type 0} {count : Q → ℕ} {Pops : Q → ℕ → ℕ → PopReply → Q → Type 0} {Same : Q → Q → Type 0}
+    {Agrees : Q → List PopMade → Type 0} (laws : LawfulQueues count Pops Same Agrees) where
+  -- a call leaves the objects of the hand as they are, and of the queues what Same says
+  record SameDrain (h k : DrainKept Q) : Type 0 where
+    best : k.best ≡ h.best
+    floor : k.floor ≡ h.floor
+    roots : k.roots ≡ h.roots
+    queues : Same h.queues k.queues
 
-same_of : (h k : DrainKept) → k ≡ h → SameDrain h k
-same_of h k e =
-    subst (SameDrain h) (sym e) (record { runs = refl; best = refl; floor = refl; roots = refl; visits = refl })
+  same_of : (h k : DrainKept Q) → k ≡ h → SameDrain h k
+  same_of h k e =
+      subst (SameDrain h) (sym e) (record { best = refl; floor = refl; roots = refl; queues = laws.stays h.queues })
 
-did_same : (h k : DrainKept) (call : Call) (reply : Reply) → DrainDid h call reply k → SameDrain h k
-did_same h k Claim (Claimed None) d = same_of h k d
-did_same h k Read (Seen v) d = same_of h k d.1
-did_same h k (Offer x) (Offered v) d = same_of h k d.1
-did_same h k (Put m e) (PutTold (Filled c)) d = same_of h k d.1
-did_same h k (Pop m v) (PopTold reply) (inl idle) = same_of h k idle.2
-did_same h k (Pop m v) (PopTold reply) (inr pops) =
-    subst (SameDrain h) (sym pops.after) (record {
-      runs = refl;
-      best = refl;
-      floor = refl;
-      roots = refl;
-      visits = set_length h.visits m (visit_at k.visits m);
-    })
-did_same h k _ _ d = absurd d
+  did_same : (h k : DrainKept Q) (call : Call) (reply : Reply) → DrainDid Pops h call reply k → SameDrain h k
+  did_same h k Claim (Claimed None) d = same_of h k d
+  did_same h k Read (Seen v) d = same_of h k d.1
+  did_same h k (Offer x) (Offered v) d = same_of h k d.1
+  did_same h k (Put m e) (PutTold (Filled c)) d = same_of h k d.1
+  did_same h k (Pop m v) (PopTold reply) d =
+      subst (SameDrain h) (sym d.1) (record {
+        best = refl;
+        floor = refl;
+        roots = refl;
+        queues = laws.same h.queues k.queues m v reply d.0;
+      })
+  did_same h k _ _ d = absurd d
 
-module _ (w v : Working) (h k : DrainKept) (serves : DrainServes w h)
-    (is : IsOf w.question w.index w.queues w.number v) (running : w.phase ≢ Done) (drains : fills w.phase ≡ false)
-    (t : Turns DrainDid h k w v) where
-  abbrev g : Ground
-  g = search_of w 1
+  -- a turn: the worker and its hand before, and after it
+  module _ (w v : Working) (h k : DrainKept Q) (serves : DrainServes count w h) (drains : fills w.phase ≡ false)
+      (is : IsOf w.question w.index w.queues w.number v) (t : Turns (DrainDid Pops) h k w v) where
+    abbrev g : Ground
+    g = search_of w 1
 
-  -- the machine's worker before and after, with no record
-  abbrev x : RecordedWorker
-  x = record { worker = serves.shown; own = nothing_yet }
+    -- the machine's worker before and after, with no record
+    abbrev x : RecordedWorker
+    x = record { worker = serves.shown; own = nothing_yet }
 
-  same : SameDrain h k
-  same = did_same h k _ t.0 (t.1.called 1 x serves.shows)
+    same : SameDrain h k
+    same = did_same h k _ t.0 (t.1.called 1 x serves.shows)
 
-  pub drain_serves : DrainServes v k
-  drain_serves = record {
-    shown = (after g w.number x t.0).worker;
-    shows = t.1.next 1 x serves.shows;
-    fits = subst (λ (g : Ground). Fits g) (sym (same_search w v is)) serves.fits;
-    roots = same.roots ∙ serves.roots ∙ sym (ap (λ ix. length ix.roots) is.index);
-    floor = same.floor ∙ serves.floor ∙ sym (ap last_of is.question);
-    queues = ap (λ rs. length rs) same.runs ∙ serves.queues ∙ sym is.queues;
-    visits = same.visits ∙ serves.visits ∙ sym (ap (λ rs. length rs) same.runs);
+    drain_serves : DrainServes count v k
+    drain_serves = record {
+      shown = (after g w.number x t.0).worker;
+      shows = t.1.next 1 x serves.shows;
+      fits = subst (λ (g : Ground). Fits g) (sym (same_search w v is)) serves.fits;
+      roots = same.roots ∙ serves.roots ∙ sym (ap (λ ix. length ix.roots) is.index);
+      floor = same.floor ∙ serves.floor ∙ sym (ap last_of is.question);
+      queues = laws.counted h.queues k.queues same.queues ∙ serves.queues ∙ sym is.queues;
+    }
+
+    -- it fills no more
+    still_drains : fills v.phase ≡ false
+    still_drains =
+        ap fills (sym (t.1.next 1 x serves.shows).phase)
+        ∙ (drains_on g w.number x.worker x.own x.worker.phase t.0 refl (ap fills serves.shows.phase ∙ drains)).0
+
+    later : (y : RecordedWorker) → DrainsBy Agrees w h y → IsLater Agrees y v k (after g w.number y t.0)
+    later y known =
+        let filled : fills y.worker.phase ≡ false = ap fills known.shows.phase ∙ drains in
+        let kept = drains_on g w.number y.worker y.own y.worker.phase t.0 refl filled in
+        record {
+          known = record {
+            shows = t.1.next 1 y known.shows;
+            stands = subst (λ (i : ℕ). StandsFor (search_of v 1) i (after g w.number y t.0)) (sym is.number)
+                (subst (λ (g : Ground). StandsFor g w.number (after (search_of w 1) w.number y t.0)) (sym (same_search w v is))
+                (reply_stands g serves.fits w.number y t.0 (t.1.fits 1) known.stands));
+            tied = drain_ties laws g w.number y.worker y.own h k y.worker.phase t.0 serves.queues serves.fits.some_queue filled
+                known.tied (t.1.called 1 y known.shows);
+          };
+          claims = kept.1;
+          puts = kept.2;
+        }
+
+    -- whatever the record was, there is a later one
+    drain_on : DrainsOn Same Agrees w h v k
+    drain_on = record {
+      place = is;
+      best = same.best;
+      floor = same.floor;
+      queues = same.queues;
+      on = λ y known. (after g w.number y t.0, later y known);
+    }
+
+  pub drain_stays : (w : Working) (h : DrainKept Q) → DrainsOn Same Agrees w h w h
+  drain_stays w h = record {
+    place = same_place w;
+    best = refl;
+    floor = refl;
+    queues = laws.stays h.queues;
+    on = λ x known. (x, record { known = known; claims = refl; puts = refl });
   }
 
-  shown_drains : fills serves.shown.phase ≡ false
-  shown_drains = ap fills serves.shows.phase ∙ drains
-
-  -- it fills no more
-  pub still_drains : fills v.phase ≡ false
-  still_drains =
-      ap fills (sym (t.1.next 1 x serves.shows).phase)
-      ∙ (drains_on g w.number x.worker x.own x.worker.phase t.0 refl shown_drains).0
-
-  later : (y : RecordedWorker) → DrainsBy w h y → IsLater y v k (after g w.number y t.0)
-  later y known = record {
-    known = record {
-      shows = t.1.next 1 y known.shows;
-      stands = subst (λ (i : ℕ). StandsFor (search_of v 1) i (after g w.number y t.0)) (sym is.number)
-          (subst (λ (g : Ground). StandsFor g w.number (after (search_of w 1) w.number y t.0)) (sym (same_search w v is))
-          (reply_stands g serves.fits w.number y t.0 (t.1.fits 1) known.stands));
-      tied = drain_ties g w.number y.worker y.own h k y.worker.phase t.0 (ap fills known.shows.phase ∙ drains) known.tied
-          (t.1.called 1 y known.shows);
-    };
-    claims = (drains_on g w.number y.worker y.own y.worker.phase t.0 refl (ap fills known.shows.phase ∙ drains)).1;
-    puts = (drains_on g w.number y.worker y.own y.worker.phase t.0 refl (ap fills known.shows.phase ∙ drains)).2;
+  drain_then : (w v u : Working) (h k m : DrainKept Q) → DrainsOn Same Agrees w h v k → DrainsOn Same Agrees v k u m
+      → DrainsOn Same Agrees w h u m
+  drain_then w v u h k m first second = record {
+    place = place_on w v u first.place second.place;
+    best = second.best ∙ first.best;
+    floor = second.floor ∙ first.floor;
+    queues = laws.onward h.queues k.queues m.queues first.queues second.queues;
+    on = λ x known.
+        let y = first.on x known in
+        let z = second.on y.0 y.1.known in
+        (z.0, record { known = z.1.known; claims = z.1.claims ∙ y.1.claims; puts = z.1.puts ∙ y.1.puts });
   }
 
-  -- whatever the record was, there is a later one
-  pub drain_on : DrainsOn w h v k
-  drain_on = record {
-    place = is;
-    runs = same.runs;
-    best = same.best;
-    floor = same.floor;
-    on = λ y known. (after g w.number y t.0, later y known);
-  }
+  -- a searcher after some turns, and after one more: it may drain on where it is not done
+  module _ (before later : Drainer Q) (ready : MayDrain count before)
+      (is : IsOf before.worker.question before.worker.index before.worker.queues before.worker.number later.worker)
+      (t : Turns (DrainDid Pops) before.hand later.hand before.worker later.worker) where
+    pub ready_on : later.worker.phase ≢ Done → MayDrain count later
+    ready_on running = record {
+      serves = drain_serves before.worker later.worker before.hand later.hand ready.serves ready.filled is t;
+      filled = still_drains before.worker later.worker before.hand later.hand ready.serves ready.filled is t;
+      running = running;
+    }
 
-  -- less is left to do
-  pub drain_less : drain_left v k < drain_left w h
-  drain_less =
-      let next = t.1.next 1 x serves.shows in
-      let less = drain_reply_left g w.number x.worker h k x.worker.phase t.0 shown_drains
-      (λ e. running (sym serves.shows.phase ∙ e)) (t.1.called 1 x serves.shows) in
-      let a = ap (round_left w.queues) next.phase in
-      let b = ap (round_left w.queues) serves.shows.phase in
-      let c = ap (λ m. round_left m v.phase) is.queues in
-      omega arith
+    pub goes_on : (w : Working) (h : DrainKept Q) → DrainsOn Same Agrees w h before.worker before.hand
+        → DrainsOn Same Agrees w h later.worker later.hand
+    goes_on w h so_far = drain_then w before.worker later.worker h before.hand later.hand so_far
+        (drain_on before.worker later.worker before.hand later.hand ready.serves ready.filled is t)

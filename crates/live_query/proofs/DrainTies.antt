@@ -1,245 +1,66 @@
--- What a call and its reply did to the hand in the drain part, the longer record says too (`drain_ties`).
-use Rattle.std.proofs.Common.{◌≡◌, ℕ, zero, suc, ◌+◌, ◌<◌, ◌≤◌, List, [], ◌∷◌, ◌⊎◌, None, Some, true, false, length, set, is_some, sym, refl, ap, ◌∙◌, subst, inl, inr, ⊎_elim, eqb, arith}
-use Rattle.std.proofs.lemmas.Option.{none-some, same_Some}
-use Rattle.std.proofs.lemmas.Bool.{cases_eq, cond-true, cond-false, eq-eqb, ne_eqb, true≢false}
-use Rattle.list_totals.specs.Totals.{one_if_same, total}
-use Rattle.list_totals.specs.Standing.{In}
-use Rattle.list_totals.proofs.Totals.{total_push}
-use Rattle.series_core.specs.declared.queue_words.Entry.{Entry}
+-- What is known of the queues of the drain part (`LawfulQueues`), and by it that a hand stays tied to the record of its calls (`drain_ties`).
+use Rattle.std.proofs.Common.{◌≡◌, ℕ, ◌+◌, ◌<◌, List, ◌∷◌, false, sym, subst, ⊎_elim, arith}
+use Rattle.std.proofs.Math.Nat.{mod-lt}
+use Rattle.std.proofs.lemmas.Bool.{true≢false}
 use Rattle.series_core.specs.declared.queue_words.PopReply.{PopReply}
-use Rattle.series_core.specs.declared.queue_words.PopReply.TheVariants.{Leaf, Closed}
-use Rattle.sealed_runs.specs.Entries.{run_at}
-use Rattle.sealed_runs.specs.Visits.{Visit, visit_at, leaves}
+use Rattle.search_machine.specs.declared.calls.Call.TheVariants.{Pop as ToPop}
 use Rattle.search_machine.specs.declared.calls.Reply.{Reply}
-use Rattle.search_machine.specs.declared.calls.Reply.TheVariants.{Claimed, Seen, Offered, PutTold, PopTold}
+use Rattle.search_machine.specs.declared.calls.Reply.TheVariants.{Seen, Offered, PopTold}
 use Rattle.search_machine.specs.declared.phase.Phase.{Phase}
 use Rattle.search_machine.specs.declared.phase.Phase.TheVariants.{Claim, Look, Give, Late, Aim, Pop, Offer, Done}
 use Rattle.search_machine.specs.declared.phase.Onward.TheVariants.{Look as ToLook, Aim as ToAim}
 use Rattle.search_machine.specs.Ground.{Ground, worst}
-use Rattle.search_machine.specs.Workers.{Worker, fills, round_queue}
-use Rattle.search_machine.specs.OwnRecord.{OfferMade, OwnRecord, PopMade, WasClosed, with_offer, with_pop, with_read}
 use Rattle.search_machine.specs.Calls.{call_in}
-use Rattle.search_machine.specs.Closes.{leaf_of, popped_of}
+use Rattle.search_machine.specs.OwnRecord.{OfferMade, OwnRecord, PopMade, with_offer, with_pop, with_read}
 use Rattle.search_machine.specs.Replies.{own_after}
+use Rattle.search_machine.specs.Workers.{Worker, fills, round_queue}
 use Rattle.live_query.specs.FillHands.{InRange}
-use Rattle.live_query.specs.DrainHands.{DrainKept, DrainDid, DrainTied, IsIdle, PopsRun, given_of}
+use Rattle.live_query.specs.DrainHands.{DrainDid, DrainKept, DrainTied}
 
--- the visit that was written
-pub visit_here : (vs : List Visit) (m : ℕ) (v : Visit) → m < length vs → visit_at (set vs m v) m ≡ v
-visit_here [] m v low = absurd (omega arith)
-visit_here (x ∷ xs) zero v low = refl
-visit_here (x ∷ xs) (suc m) v low = visit_here xs m v (omega arith)
+-- Same says what stays of the queues, by a pop too; and where they agree with pops, after one more they agree with that one too
+pub record LawfulQueues {Q : Type 0} (count : Q → ℕ) (Pops : Q → ℕ → ℕ → PopReply → Q → Type 0) (Same : Q → Q → Type 0)
+    (Agrees : Q → List PopMade → Type 0) : Type 0 where
+  pub stays : (q : Q) → Same q q
+  pub onward : (q k n : Q) → Same q k → Same k n → Same q n
+  pub counted : (q k : Q) → Same q k → count k ≡ count q
+  pub same : (q k : Q) (m v : ℕ) (reply : PopReply) → Pops q m v reply k → Same q k
+  pub agrees : (q k : Q) (ps : List PopMade) (m v : ℕ) (reply : PopReply) → m < count q → Pops q m v reply k → Agrees q ps
+      → Agrees k (record { queue = m; limit = v; reply = reply } ∷ ps)
 
--- another visit is as it was
-pub visit_other : (vs : List Visit) (m n : ℕ) (v : Visit) → (n ≡ m → ⊥) → visit_at (set vs m v) n ≡ visit_at vs n
-visit_other [] m n v ne = refl
-visit_other (x ∷ xs) zero zero v ne = absurd (ne refl)
-visit_other (x ∷ xs) zero (suc n) v ne = refl
-visit_other (x ∷ xs) (suc m) zero v ne = refl
-visit_other (x ∷ xs) (suc m) (suc n) v ne = visit_other xs m n v (λ e. ne (ap suc e))
-
-tied_read : (h : DrainKept) (r : OwnRecord) (v : ℕ) → InRange h.floor h.best v → DrainTied h r → DrainTied h (with_read v r)
-tied_read h r v low t = record {
-  reads = λ u i. ⊎_elim (λ (e : u ≡ v). subst (InRange h.floor h.best) (sym e) low) (t.reads u) i;
-  popped = t.popped;
-  closed = t.closed;
-  kept = t.kept;
-}
-
-tied_offer : (h : DrainKept) (r : OwnRecord) (o : OfferMade) → DrainTied h r → DrainTied h (with_offer o r)
-tied_offer h r o t = record { reads = t.reads; popped = t.popped; closed = t.closed; kept = t.kept }
-
--- a pop from the queue itself counts its reply, and one from another queue counts nothing
-popped_here : (m l : ℕ) (p : PopMade) → p.queue ≡ m → popped_of m l p ≡ leaf_of l p.reply
-popped_here m l p e = cond-true (eqb p.queue m) (leaf_of l p.reply) 0 (eq-eqb p.queue m e)
-
-popped_there : (m l : ℕ) (p : PopMade) → (p.queue ≡ m → ⊥) → popped_of m l p ≡ 0
-popped_there m l p ne = cond-false (eqb p.queue m) (leaf_of l p.reply) 0 (ne_eqb p.queue m ne)
-
-is_leaf_not_closed : (e : Entry) (v : ℕ) → Leaf e ≡ Closed v → ⊥
-is_leaf_not_closed e v q =
-    subst (λ (p : PopReply). elim p as (λ _. Type 0) [ Leaf e ↦ Unit {0} | Closed x ↦ ⊥ ]) q tt
-
--- a Closed reply of the pop just made, or of an older one
-closed_old : (r : OwnRecord) (p : PopMade) (n : ℕ) → WasClosed (with_pop p r) n
-    → ((p.queue ≡ n) × ((v : ℕ) × (p.reply ≡ Closed v))) ⊎ WasClosed r n
-closed_old r p n w = ⊎_elim
-    (λ (e : w.0 ≡ p).
-    inl (ap (λ (q : PopMade). q.queue) (sym e) ∙ w.3, (w.1, ap (λ (q : PopMade). q.reply) (sym e) ∙ w.4)))
-    (λ (i : In w.0 r.pops). inr (w.0, w.1, i, w.3, w.4))
-    w.2
-
-module _ (h : DrainKept) (r : OwnRecord) (m v : ℕ) (t : DrainTied h r) where
-  -- a pop with v from queue m
-  abbrev popped_with : PopReply → PopMade
-  popped_with reply = record { queue = m; limit = v; reply = reply }
-
-  -- the visit of the later hand, and the visits with it
-  abbrev now : DrainKept → Visit
-  now k = visit_at k.visits m
-
-  abbrev visits : DrainKept → List Visit
-  visits k = set h.visits m (now k)
-
-  -- a pop that takes no step, answered Closed
-  idle_tied : IsIdle h m → DrainTied h (with_pop (popped_with (Closed v)) r)
-  idle_tied idle = record {
-    reads = t.reads;
-    popped = λ n l low.
-        let old = t.popped n l low in
-        let none : popped_of n l (popped_with (Closed v)) ≡ 0 = ⊎_elim
-        (λ (e : m ≡ n). popped_here n l (popped_with (Closed v)) e)
-        (λ (ne : m ≡ n → ⊥). popped_there n l (popped_with (Closed v)) ne)
-        (cases_eq m n) in
-        omega arith;
-    closed = λ n low w. ⊎_elim
-        (λ (new : (m ≡ n) × ((u : ℕ) × (Closed v ≡ Closed u))). ⊎_elim
-        (λ (out : length h.runs ≤ m). let same = new.0 in absurd (omega arith))
-        (λ (shut : is_some (visit_at h.visits m).closed ≡ true).
-        subst (λ (k : ℕ). is_some (visit_at h.visits k).closed ≡ true) new.0 shut)
-        idle)
-        (λ (old : WasClosed r n). t.closed n low old)
-        (closed_old r (popped_with (Closed v)) n w);
-    kept = λ n u low e. let k = t.kept n u low e in (k.0, inr k.1, k.2, k.3);
+module _ {Q : Type 0} {count : Q → ℕ} {Pops : Q → ℕ → ℕ → PopReply → Q → Type 0} {Same : Q → Q → Type 0}
+    {Agrees : Q → List PopMade → Type 0} (laws : LawfulQueues count Pops Same Agrees) where
+  tied_read : (h : DrainKept Q) (r : OwnRecord) (v : ℕ) → InRange h.floor h.best v → DrainTied Agrees h r
+      → DrainTied Agrees h (with_read v r)
+  tied_read h r v low t = record {
+    reads = λ u i. ⊎_elim (λ (e : u ≡ v). subst (InRange h.floor h.best) (sym e) low) (t.reads u) i;
+    pops = t.pops;
   }
 
-  -- a pop that takes a step
-  module _ (k : DrainKept) (reply : PopReply) (d : PopsRun h m v reply k) where
-    here : visit_at (visits k) m ≡ now k
-    here = visit_here h.visits m (now k) d.visit
+  tied_pop : (h k : DrainKept Q) (r : OwnRecord) (m v : ℕ) (reply : PopReply) → m < count h.queues
+      → DrainDid Pops h (ToPop m v) (PopTold reply) k → DrainTied Agrees h r
+      → DrainTied Agrees k (with_pop (record { queue = m; limit = v; reply = reply }) r)
+  tied_pop h k r m v reply low d t =
+      let p : PopMade = record { queue = m; limit = v; reply = reply } in
+      subst (λ (k : DrainKept Q). DrainTied Agrees k (with_pop p r)) (sym d.1) (record {
+        reads = t.reads;
+        pops = laws.agrees h.queues k.queues r.pops m v reply low d.0 t.pops;
+      })
 
-    other : (n : ℕ) → (m ≡ n → ⊥) → visit_at (visits k) n ≡ visit_at h.visits n
-    other n ne = visit_other h.visits m n (now k) (λ q. ne (sym q))
-
-    -- where the run that was popped handed out what the reply names, the pops count what each run handed out
-    popped_now : ((l : ℕ) → given_of l (run_at h.runs m) (now k) ≡ given_of l (run_at h.runs m) (visit_at h.visits m) + leaf_of l reply)
-        → (n l : ℕ) → n < length h.runs
-        → total (popped_of n l) (with_pop (popped_with reply) r).pops ≡ given_of l (run_at h.runs n) (visit_at (visits k) n)
-    popped_now more n l low = ⊎_elim
-        (λ (same : m ≡ n).
-        let old = t.popped n l low in
-        let one = popped_here n l (popped_with reply) same in
-        let handed = more l in
-        let there = ap (given_of l (run_at h.runs m)) here in
-        let at = ap (λ (j : ℕ). given_of l (run_at h.runs j) (visit_at h.visits j)) same in
-        let at_new = ap (λ (j : ℕ). given_of l (run_at h.runs j) (visit_at (visits k) j)) same in
-        omega arith)
-        (λ (ne : m ≡ n → ⊥).
-        let old = t.popped n l low in
-        let none = popped_there n l (popped_with reply) ne in
-        let stays = ap (given_of l (run_at h.runs n)) (other n ne) in
-        omega arith)
-        (cases_eq m n)
-
-    -- what a closed run keeps is a pop's limit, where that of the run that was popped is
-    kept_now : ((n u : ℕ) → m ≡ n → (visit_at (visits k) n).closed ≡ Some u
-        → (p : PopMade) × In p (with_pop (popped_with reply) r).pops × (p.queue ≡ n) × (p.limit ≡ u))
-        → (n u : ℕ) → n < length h.runs → (visit_at (visits k) n).closed ≡ Some u
-        → (p : PopMade) × In p (with_pop (popped_with reply) r).pops × (p.queue ≡ n) × (p.limit ≡ u)
-    kept_now own n u low c = ⊎_elim
-        (λ (same : m ≡ n). own n u same c)
-        (λ (ne : m ≡ n → ⊥).
-        let was : (visit_at h.visits n).closed ≡ Some u
-        = ap (λ (x : Visit). x.closed) (sym (other n ne)) ∙ c in
-        let k = t.kept n u low was in (k.0, inr k.1, k.2, k.3))
-        (cases_eq m n)
-
-  -- a pop that was answered by an entry
-  leaf_tied : (k : DrainKept) (e : Entry) → PopsRun h m v (Leaf e) k
-      → DrainTied k (with_pop (popped_with (Leaf e)) r)
-  leaf_tied k e d = subst (λ (k : DrainKept). DrainTied k (with_pop (popped_with (Leaf e)) r)) (sym d.after) (record {
-    reads = t.reads;
-    popped = popped_now k (Leaf e) d (λ l.
-        let f : Entry → ℕ = λ e. one_if_same l e.leaf in
-        ap (total f) d.leaf.next ∙ total_push f (leaves (run_at h.runs m).entries (visit_at h.visits m)) e);
-    closed = closed_now;
-    kept = kept_now k (Leaf e) d (λ n u same c.
-        let going : (visit_at (visits k) n).closed ≡ None
-        = ap (λ (j : ℕ). (visit_at (visits k) j).closed) (sym same) ∙ ap (λ (x : Visit). x.closed) (here k (Leaf e) d)
-        ∙ d.leaf.going in
-        absurd (none-some u (sym going ∙ c)));
-  })
-    where
-      closed_now : (n : ℕ) → n < length h.runs → WasClosed (with_pop (popped_with (Leaf e)) r) n
-          → is_some (visit_at (visits k) n).closed ≡ true
-      closed_now n low w = ⊎_elim
-          (λ (new : (m ≡ n) × ((u : ℕ) × (Leaf e ≡ Closed u))). absurd (is_leaf_not_closed e new.1.0 new.1.1))
-          (λ (old : WasClosed r n). ⊎_elim
-          (λ (same : m ≡ n).
-          let shut = t.closed n low old in
-          let going : is_some (visit_at h.visits n).closed ≡ false
-          = ap (λ (k : ℕ). is_some (visit_at h.visits k).closed) (sym same) ∙ ap is_some d.goes_on in
-          absurd (true≢false (sym shut ∙ going)))
-          (λ (ne : m ≡ n → ⊥). ap (λ (x : Visit). is_some x.closed) (other k (Leaf e) d n ne) ∙ t.closed n low old)
-          (cases_eq m n))
-          (closed_old r (popped_with (Leaf e)) n w)
-
-  -- a pop that was answered Closed
-  shut_tied : (k : DrainKept) (told : ℕ) → PopsRun h m v (Closed told) k
-      → DrainTied k (with_pop (popped_with (Closed told)) r)
-  shut_tied k told d = subst (λ (k : DrainKept). DrainTied k (with_pop (popped_with (Closed told)) r)) (sym d.after) (record {
-    reads = t.reads;
-    popped = popped_now k (Closed told) d
-        (λ l. let stays = ap (total (λ (e : Entry). one_if_same l e.leaf)) d.closed.none in omega arith);
-    closed = closed_now;
-    kept = kept_now k (Closed told) d
-        (λ n u same c. ((popped_with (Closed told)), inl refl, same, same_Some v u (sym (shut_now n same) ∙ c)));
-  })
-    where
-      shut_now : (n : ℕ) → m ≡ n → (visit_at (visits k) n).closed ≡ Some v
-      shut_now n same =
-          ap (λ (j : ℕ). (visit_at (visits k) j).closed) (sym same) ∙ ap (λ (x : Visit). x.closed) (here k (Closed told) d)
-          ∙ d.closed.shut
-
-      closed_now : (n : ℕ) → n < length h.runs → WasClosed (with_pop (popped_with (Closed told)) r) n
-          → is_some (visit_at (visits k) n).closed ≡ true
-      closed_now n low w = ⊎_elim
-          (λ (same : m ≡ n). ap is_some (shut_now n same))
-          (λ (ne : m ≡ n → ⊥). ⊎_elim
-          (λ (new : (m ≡ n) × ((u : ℕ) × (Closed told ≡ Closed u))). absurd (ne new.0))
-          (λ (old : WasClosed r n). ap (λ (x : Visit). is_some x.closed) (other k (Closed told) d n ne) ∙ t.closed n low old)
-          (closed_old r (popped_with (Closed told)) n w))
-          (cases_eq m n)
-
-  pop_tied : (k : DrainKept) (reply : PopReply)
-      → (IsIdle h m × (reply ≡ Closed v) × (k ≡ h)) ⊎ PopsRun h m v reply k
-      → DrainTied k (with_pop (popped_with reply) r)
-  pop_tied k reply (inl idle) =
-      subst (λ (k : DrainKept). DrainTied k (with_pop (popped_with reply) r)) (sym idle.2)
-      (subst (λ (p : PopReply). DrainTied h (with_pop (popped_with p) r)) (sym idle.1)
-      (idle_tied idle.0))
-  pop_tied k (Leaf e) (inr d) = leaf_tied k e d
-  pop_tied k (Closed told) (inr d) = shut_tied k told d
-
--- the hand after a call in the drain part is tied to the record after it
-pub drain_ties : (g : Ground) (i : ℕ) (w : Worker) (r : OwnRecord) (h k : DrainKept) (phase : Phase) (reply : Reply)
-    → fills phase ≡ false → DrainTied h r → DrainDid h (call_in g i w phase) reply k
-    → DrainTied k (own_after g i w r phase reply)
-drain_ties g i w r h k (Aim j) (Seen v) f t d =
-    subst (λ (k : DrainKept). DrainTied k (with_read v r)) (sym d.1) (tied_read h r v d.0 t)
-drain_ties g i w r h k (Pop j v) (PopTold reply) f t d = pop_tied h r (round_queue g i j) v t k reply d
-drain_ties g i w r h k (Offer (ToAim j)) (Offered v) f t d =
-    let made : OfferMade = record { value = worst g w.list; reply = v } in
-    subst (λ (k : DrainKept). DrainTied k (with_offer made r)) (sym d.1) (tied_offer h r made t)
-drain_ties g i w r h k Claim reply f t d = absurd (true≢false f)
-drain_ties g i w r h k Look reply f t d = absurd (true≢false f)
-drain_ties g i w r h k (Give l) reply f t d = absurd (true≢false f)
-drain_ties g i w r h k (Late l) reply f t d = absurd (true≢false f)
-drain_ties g i w r h k (Offer ToLook) reply f t d = absurd (true≢false f)
-drain_ties g i w r h k Done (Seen v) f t d = subst (λ (k : DrainKept). DrainTied k r) (sym d.1) t
-drain_ties g i w r h k Done (Claimed o) f t d = absurd d
-drain_ties g i w r h k Done (Offered v) f t d = absurd d
-drain_ties g i w r h k Done (PutTold p) f t d = absurd d
-drain_ties g i w r h k Done (PopTold p) f t d = absurd d
-drain_ties g i w r h k (Aim j) (Claimed o) f t d = absurd d
-drain_ties g i w r h k (Aim j) (Offered v) f t d = absurd d
-drain_ties g i w r h k (Aim j) (PutTold p) f t d = absurd d
-drain_ties g i w r h k (Aim j) (PopTold p) f t d = absurd d
-drain_ties g i w r h k (Pop j v) (Claimed o) f t d = absurd d
-drain_ties g i w r h k (Pop j v) (Seen u) f t d = absurd d
-drain_ties g i w r h k (Pop j v) (Offered u) f t d = absurd d
-drain_ties g i w r h k (Pop j v) (PutTold p) f t d = absurd d
-drain_ties g i w r h k (Offer (ToAim j)) (Claimed o) f t d = absurd d
-drain_ties g i w r h k (Offer (ToAim j)) (Seen u) f t d = absurd d
-drain_ties g i w r h k (Offer (ToAim j)) (PutTold p) f t d = absurd d
-drain_ties g i w r h k (Offer (ToAim j)) (PopTold p) f t d = absurd d
+  -- the hand after a call in the drain part is tied to the record after it
+  pub drain_ties : (g : Ground) (i : ℕ) (w : Worker) (r : OwnRecord) (h k : DrainKept Q) (phase : Phase) (reply : Reply)
+      → count h.queues ≡ g.queues → 0 < g.queues → fills phase ≡ false → DrainTied Agrees h r
+      → DrainDid Pops h (call_in g i w phase) reply k → DrainTied Agrees k (own_after g i w r phase reply)
+  drain_ties g i w r h k (Aim j) (Seen v) q some f t d =
+      subst (λ (k : DrainKept Q). DrainTied Agrees k (with_read v r)) (sym d.1) (tied_read h r v d.0 t)
+  drain_ties g i w r h k (Pop j v) (PopTold reply) q some f t d =
+      let low = mod-lt (i + j) some in tied_pop h k r (round_queue g i j) v reply (omega arith) d t
+  drain_ties g i w r h k (Offer (ToAim j)) (Offered v) q some f t d =
+      let made : OfferMade = record { value = worst g w.list; reply = v } in
+      subst (λ (k : DrainKept Q). DrainTied Agrees k (with_offer made r)) (sym d.1) (record { reads = t.reads; pops = t.pops })
+  drain_ties g i w r h k Done (Seen v) q some f t d = subst (λ (k : DrainKept Q). DrainTied Agrees k r) (sym d.1) t
+  drain_ties g i w r h k Claim reply q some f t d = absurd (true≢false f)
+  drain_ties g i w r h k Look reply q some f t d = absurd (true≢false f)
+  drain_ties g i w r h k (Give l) reply q some f t d = absurd (true≢false f)
+  drain_ties g i w r h k (Late l) reply q some f t d = absurd (true≢false f)
+  drain_ties g i w r h k (Offer ToLook) reply q some f t d = absurd (true≢false f)
+  drain_ties g i w r h k _ _ q some f t d = absurd d

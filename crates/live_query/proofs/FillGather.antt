@@ -60,9 +60,11 @@ module _ (a : Question) (ix : IndexParts) (m : ℕ) (roots : Roots) (best : Best
       tied = record {
         drawn = opener_drawn a ix m roots best some team opens i c o;
         reads = λ v n. absurd n;
-        placed = λ p n. absurd n;
-        marked = λ l e. absurd (no_fresh_mark (length ix.leaves) l e);
-        put = λ l w. absurd w.1;
+        marks = record {
+          placed = λ p n. absurd n;
+          marked = λ l e. absurd (no_fresh_mark (length ix.leaves) l e);
+          put = λ l w. absurd w.1;
+        };
         pops = refl;
       };
     }
@@ -156,6 +158,9 @@ module _ (a : Question) (ix : IndexParts) (m : ℕ) (roots : Roots) (best : Best
 
       pub all_filled : (rested : List Resting) → rested ≡ map resting cells → AllFilled a ix m best rested
       all_filled rested rests = record {
+        searches = opens.searches;
+        some = some;
+        start = opens.start;
         records = all.items;
         count = all.count ∙ sym (length-map cells resting) ∙ ap (λ l. length l) (sym rests);
         each = λ i c x at_c at_x.

@@ -13,7 +13,7 @@ use Rattle.list_totals.specs.Standing.{In}
 use Rattle.search_machine.specs.Ground.{Fits, Ground, entry_of, queue_of, worst}
 use Rattle.search_machine.specs.Workers.{Worker, fills}
 use Rattle.search_machine.specs.Sound.{in_hand}
-use Rattle.search_machine.specs.OwnRecord.{OwnRecord, OfferMade, PutMade, WasPut, is_refused, with_claim, with_read, with_offer, with_put}
+use Rattle.search_machine.specs.OwnRecord.{OwnRecord, OfferMade, PutMade, is_refused, with_claim, with_read, with_offer, with_put}
 use Rattle.search_machine.specs.Calls.{call_in}
 use Rattle.search_machine.specs.Replies.{own_after}
 use Rattle.search_machine.specs.Stands.{Stands}
@@ -21,7 +21,7 @@ use Rattle.search_machine.proofs.Counts.{same_counts}
 use Rattle.search_machine.proofs.OwnLate.{below_real}
 use Rattle.search_machine.proofs.Places.{get_set, get_set_other}
 use Rattle.live_query.specs.RootClaims.{DidClaim, Drawn}
-use Rattle.live_query.specs.FillHands.{FillKept, FillDid, FillTied, InRange}
+use Rattle.live_query.specs.FillHands.{FillKept, FillDid, FillTied, HasPut, InRange}
 use Rattle.live_query.proofs.RootTies.{drawn_ties}
 
 -- a leaf that is given is below n
@@ -39,9 +39,7 @@ tied_claim : (h : FillKept) (r : OwnRecord) (o : Option ℕ) (d : Drawn) → 0 <
 tied_claim h r o d some did t = record {
   drawn = drawn_ties h.roots some h.drawn d r.claims o did t.drawn;
   reads = t.reads;
-  placed = t.placed;
-  marked = t.marked;
-  put = t.put;
+  marks = t.marks;
   pops = t.pops;
 }
 
@@ -49,9 +47,7 @@ tied_read : (h : FillKept) (r : OwnRecord) (v : ℕ) → InRange h.floor h.best 
 tied_read h r v low t = record {
   drawn = t.drawn;
   reads = λ u i. ⊎_elim (λ (e : u ≡ v). subst (InRange h.floor h.best) (sym e) low) (t.reads u) i;
-  placed = t.placed;
-  marked = t.marked;
-  put = t.put;
+  marks = t.marks;
   pops = t.pops;
 }
 
@@ -59,26 +55,24 @@ tied_offer : (h : FillKept) (r : OwnRecord) (v : OfferMade) → FillTied h r →
 tied_offer h r v t = record {
   drawn = t.drawn;
   reads = t.reads;
-  placed = t.placed;
-  marked = t.marked;
-  put = t.put;
+  marks = t.marks;
   pops = t.pops;
 }
 
 module _ (h : FillKept) (r : OwnRecord) (p : PutMade) (low : p.entry.leaf < length h.marks) (is_placed : p.reply ≡ Placed) (t : FillTied h r) where
-  marked_now : (m : ℕ) → slice_get (set h.marks p.entry.leaf true) m ≡ Some true → WasPut (with_put p r) m
+  marked_now : (m : ℕ) → slice_get (set h.marks p.entry.leaf true) m ≡ Some true → HasPut (p ∷ r.puts) m
   marked_now m e = ⊎_elim
       (λ (new : (m ≡ p.entry.leaf) × (true ≡ true)). (p, inl refl, sym new.0))
-      (λ (old : slice_get h.marks m ≡ Some true). let w = t.marked m old in (w.0, inr w.1, w.2))
+      (λ (old : slice_get h.marks m ≡ Some true). let w = t.marks.marked m old in (w.0, inr w.1, w.2))
       (get_set h.marks p.entry.leaf m true true e)
 
-  put_now : (m : ℕ) → WasPut (with_put p r) m → slice_get (set h.marks p.entry.leaf true) m ≡ Some true
+  put_now : (m : ℕ) → HasPut (p ∷ r.puts) m → slice_get (set h.marks p.entry.leaf true) m ≡ Some true
   put_now m w = ⊎_elim
       (λ (e : m ≡ p.entry.leaf).
       subst (λ (k : ℕ). slice_get (set h.marks p.entry.leaf true) k ≡ Some true) (sym e) (get_here h.marks p.entry.leaf true low))
       (λ (ne : m ≡ p.entry.leaf → ⊥). ⊎_elim
       (λ (e : w.0 ≡ p). absurd (ne (sym w.2 ∙ ap (λ (q : PutMade). q.entry.leaf) e)))
-      (λ (i : In w.0 r.puts). get_set_other h.marks p.entry.leaf m true ne ∙ t.put m (w.0, i, w.2))
+      (λ (i : In w.0 r.puts). get_set_other h.marks p.entry.leaf m true ne ∙ t.marks.put m (w.0, i, w.2))
       w.1)
       (cases_eq m p.entry.leaf)
 
@@ -86,12 +80,13 @@ module _ (h : FillKept) (r : OwnRecord) (p : PutMade) (low : p.entry.leaf < leng
   tied_put = record {
     drawn = t.drawn;
     reads = t.reads;
-    placed = λ q i. ⊎_elim
-        (λ (e : q ≡ p). ap (λ (q : PutMade). is_refused q.reply) e
-        ∙ ap is_refused is_placed)
-        (t.placed q) i;
-    marked = marked_now;
-    put = put_now;
+    marks = record {
+      placed = λ q i. ⊎_elim
+          (λ (e : q ≡ p). ap (λ (q : PutMade). is_refused q.reply) e ∙ ap is_refused is_placed)
+          (t.marks.placed q) i;
+      marked = marked_now;
+      put = put_now;
+    };
     pops = t.pops;
   }
 

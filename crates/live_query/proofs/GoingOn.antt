@@ -1,10 +1,8 @@
--- Turns one after another: the worker keeps its place and the hand its objects, and in the drain part, whatever the record
--- was, there is a later one.
+-- Turns of the fill part one after another: the worker keeps its place and the hand its objects (`fills_then`).
 use Rattle.std.proofs.Common.{◌≡◌, ap, refl, ◌∙◌}
 use Rattle.query_core.specs.Working.{IsOf, Working}
 use Rattle.live_query.specs.FillHands.{FillKept}
-use Rattle.live_query.specs.DrainHands.{DrainKept}
-use Rattle.live_query.specs.Knowing.{FillsOn, DrainsOn}
+use Rattle.live_query.specs.Knowing.{FillsOn}
 use Rattle.live_query.specs.Searchers.{with_hand}
 use Rattle.live_query.specs.declared.searcher.Searcher.{Searcher}
 
@@ -38,25 +36,4 @@ fills_then w v u h k m first second = record {
   own = λ own. second.own (first.own own);
   best = second.best ∙ first.best;
   floor = second.floor ∙ first.floor;
-}
-
-pub drains_stays : (w : Working) (h : DrainKept) → DrainsOn w h w h
-drains_stays w h = record {
-  place = same_place w;
-  runs = refl;
-  best = refl;
-  floor = refl;
-  on = λ x known. (x, record { known = known; claims = refl; puts = refl });
-}
-
-pub drains_then : (w v u : Working) (h k m : DrainKept) → DrainsOn w h v k → DrainsOn v k u m → DrainsOn w h u m
-drains_then w v u h k m first second = record {
-  place = place_on w v u first.place second.place;
-  runs = second.runs ∙ first.runs;
-  best = second.best ∙ first.best;
-  floor = second.floor ∙ first.floor;
-  on = λ x known.
-      let y = first.on x known in
-      let z = second.on y.0 y.1.known in
-      (z.0, record { known = z.1.known; claims = z.1.claims ∙ y.1.claims; puts = z.1.puts ∙ y.1.puts });
 }

@@ -8,7 +8,7 @@ use Rattle.leaf_queues.specs.declared.calls.Reply.{Reply}
 use Rattle.leaf_queues.specs.declared.calls.Reply.TheVariants.{Put as PutAnswer, Pop as PopAnswer}
 use Rattle.leaf_queues.specs.PlainQueue.{PlainQueue, next}
 use Rattle.queue_histories.specs.Histories.{History, answers}
-use Rattle.live_query.specs.LockHands.{Answers}
+use Rattle.live_query.specs.LockedQueues.{Answers}
 
 last_reply : (q : PlainQueue) (log : History) (e : Made Call Reply) → IsLegal answers q (log ++ e ∷ [])
     → (r : PlainQueue) × (e.reply ≡ (next r e.call).1)

@@ -7,6 +7,7 @@ pub mod FillEffort
 pub mod FillRunning
 pub mod GoingOn
 pub mod DrainTies
+pub mod SealedTies
 pub mod DrainEffort
 pub mod DrainKnowing
 pub mod Places
@@ -17,12 +18,12 @@ pub mod FillGather
 pub mod RunQueues
 pub mod PutsKept
 pub mod DrainGather
+pub mod Drained
 pub mod SealedClose
 pub mod LastReplies
 pub mod LockPasses
 pub mod Agreeing
 pub mod LockTies
-pub mod LockTurns
 pub mod LockSends
 pub mod Fronts
 pub mod LockRows

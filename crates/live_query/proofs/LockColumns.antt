@@ -7,7 +7,7 @@ use Rattle.turn_lock.specs.History.{calls_by}
 use Rattle.turn_lock.specs.Passes.{AgreesWith, AreAll, HasOneHistory, IsPassOf, callers_of, opening_of}
 use Rattle.turn_lock.proofs.Passes.{all_in_order}
 use Rattle.search_machine.proofs.Places.{get_some}
-use Rattle.live_query.specs.LockHands.{AreOwn, QueueLock, QueuePass, calls_of}
+use Rattle.live_query.specs.LockedQueues.{AreOwn, QueueLock, QueuePass, calls_of}
 use Rattle.live_query.specs.LockParts.{AreFronts, AreNumbered, Row, WentBy, calls_in, calls_in_row}
 use Rattle.live_query.proofs.Places.{all_at, all_from}
 

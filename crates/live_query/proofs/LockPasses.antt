@@ -4,7 +4,7 @@ use Rattle.std.specs.Prelude.{slice_get}
 use Rattle.std.proofs.lemmas.Option.{same_Some}
 use Rattle.turn_lock.specs.Passes.{IsPassOf}
 use Rattle.search_machine.proofs.Places.{get_set}
-use Rattle.live_query.specs.LockHands.{AreOwn, QueueLock, QueuePass}
+use Rattle.live_query.specs.LockedQueues.{AreOwn, QueueLock, QueuePass}
 use Rattle.live_query.proofs.FillTies.{set_length}
 
 pub own_set : (locks : List QueueLock) (passes : List QueuePass) (m : ℕ) (k : QueueLock) (p : QueuePass)

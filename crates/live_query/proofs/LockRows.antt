@@ -6,9 +6,9 @@ use Rattle.std.proofs.lemmas.Option.{slice_get_within, get_or_from_slice_get}
 use Rattle.leaf_queues.specs.PlainQueue.{PlainQueue}
 use Rattle.turn_lock.specs.Passes.{AreNewPasses, IsNewPass, callers_of, opening_of}
 use Rattle.search_machine.proofs.Places.{get_some}
-use Rattle.live_query.specs.LockHands.{AreOwn, QueueLock, QueuePass}
+use Rattle.live_query.specs.LockedQueues.{AreOwn, QueueLock, QueuePass}
 use Rattle.live_query.specs.LockParts.{AreDealt, AreFronts, AreRound, DealtFrom, Row}
-use Rattle.live_query.proofs.Fronts.{at_push, push_both}
+use Rattle.query_core.proofs.Pushes.{at_push, push_both}
 
 pub round_more : (qs : List PlainQueue) (n : ℕ) (ks : List QueueLock) (q : PlainQueue) (k : QueueLock) → AreRound qs n ks
     → opening_of k ≡ q → callers_of k ≡ n → AreRound (qs ++ q ∷ []) n (ks ++ k ∷ [])

@@ -9,7 +9,7 @@ use Rattle.search_machine.specs.Ground.{Ground}
 use Rattle.search_machine.proofs.Places.{get_set, get_set_same, get_some}
 use Rattle.query_core.specs.Portions.{AreLimits, portion_last}
 use Rattle.live_query.specs.PortionRows.{AreRows, AreTaken, IsRow, PassRow}
-use Rattle.live_query.proofs.Fronts.{at_push, push_both}
+use Rattle.query_core.proofs.Pushes.{at_push, push_both}
 use Rattle.live_query.proofs.Openers.{all_replicate}
 use Rattle.live_query.proofs.Places.{all_ends}
 

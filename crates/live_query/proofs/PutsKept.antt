@@ -42,23 +42,36 @@ has_at {team = team} filled i c at =
     let x = get_some filled.records i low in
     (x.0, x.1, filled.each i c x.0 at x.1)
 
--- each searcher is of this search
-pub filled_over : (a : Question) (ix : IndexParts) (m : ℕ) (best : Best) (team : List Resting) → AllFilled a ix m best team
-    → All (λ (c : Resting). (c.worker.question ≡ a) × (c.worker.index ≡ ix)) team
-filled_over a ix m best team filled =
-    all_from (λ (c : Resting). (c.worker.question ≡ a) × (c.worker.index ≡ ix)) team
-    (λ i c at. let has = has_at filled i c at in (has.2.place.question, has.2.place.index))
+module _ {a : Question} {ix : IndexParts} {m : ℕ} {best : Best} {team : List Resting} (filled : AllFilled a ix m best team) where
+  abbrev Of : Resting → Type 0
+  Of c = (c.worker.question ≡ a) × (c.worker.index ≡ ix)
 
--- a record behind that of searcher i after the fill part: it has the same claims and puts
-pub record IsBehind {a : Question} {ix : IndexParts} {m : ℕ} {best : Best} {team : List Resting} (filled : AllFilled a ix m best team)
-    (i : ℕ) (y : RecordedWorker) : Type 0 where
+  -- each searcher is of this search, also as the list is lent
+  pub filled_over : All Of team
+  filled_over = all_from Of team (λ i c at. let has = has_at filled i c at in (has.2.place.question, has.2.place.index))
+
+  pub filled_over_view : {lent : List Resting} → lent ≡ team → All Of lent
+  filled_over_view is = subst (All Of) (sym is) filled_over
+
+  -- and each has the one bound word
+  pub filled_word : All (λ (c : Resting). c.hand.best ≡ best) team
+  filled_word = all_from (λ (c : Resting). c.hand.best ≡ best) team (λ i c at. (has_at filled i c at).2.word)
+
+-- searcher i after the fill part, with the record of its calls
+pub record HasRecord {a : Question} {ix : IndexParts} {m : ℕ} {best : Best} {team : List Resting} (filled : AllFilled a ix m best team)
+    (i : ℕ) : Type 0 where
   pub from : Resting
   pub record_of : RecordedWorker
   pub at : slice_get team i ≡ Some from
   pub at_record : slice_get filled.records i ≡ Some record_of
   pub has : HasFilled a ix m best i from record_of
-  pub claims : y.own.claims ≡ record_of.own.claims
-  pub puts : y.own.puts ≡ record_of.own.puts
+
+-- a record behind that of searcher i after the fill part: it has the same claims and puts
+pub record IsBehind {a : Question} {ix : IndexParts} {m : ℕ} {best : Best} {team : List Resting} (filled : AllFilled a ix m best team)
+    (i : ℕ) (y : RecordedWorker) : Type 0 where
+  pub was : HasRecord filled i
+  pub claims : y.own.claims ≡ was.record_of.own.claims
+  pub puts : y.own.puts ≡ was.record_of.own.puts
 
 -- the records of all searchers, each behind its own, in a search by n workers
 pub record AreBehind {a : Question} {ix : IndexParts} {m : ℕ} {best : Best} {team : List Resting} (filled : AllFilled a ix m best team)
@@ -78,7 +91,7 @@ module _ {a : Question} {ix : IndexParts} {m : ℕ} {best : Best} {team : List R
       totals_same (claimed_by c) (claimed_by c) ys filled.records (behind.count ∙ sym filled.count)
       (λ i y x at_y at_x.
       let e = behind.each i y at_y in
-      let same = same_Some e.record_of x (sym e.at_record ∙ at_x) in
+      let same = same_Some e.was.record_of x (sym e.was.at_record ∙ at_x) in
       ap (λ os. total (claims_of c) os) e.claims ∙ ap (claimed_by c) same)
 
   pub once : ClaimedOnce ys
@@ -89,14 +102,14 @@ module _ {a : Question} {ix : IndexParts} {m : ℕ} {best : Best} {team : List R
   all_claimed i y c at ended low =
       let e = behind.each i y at in
       let s = same_claims c in
-      let x = filled.all_claimed i e.record_of c e.at_record (subst (λ os. In None os) e.claims ended) low in
+      let x = filled.all_claimed i e.was.record_of c e.was.at_record (subst (λ os. In None os) e.claims ended) low in
       omega arith
 
   pub placed_all : (i : ℕ) (y : RecordedWorker) (p : PutMade) → slice_get ys i ≡ Some y → In p y.own.puts
       → is_refused p.reply ≡ false
   placed_all i y p at put =
       let e = behind.each i y at in
-      e.has.tied.placed p (subst (λ ps. In p ps) e.puts put)
+      e.was.has.tied.marks.placed p (subst (λ ps. In p ps) e.puts put)
 
   -- a marked leaf was put, and a leaf that was put is marked
   abbrev PutBy : ℕ → Type 0
@@ -108,10 +121,10 @@ module _ {a : Question} {ix : IndexParts} {m : ℕ} {best : Best} {team : List R
       let low = slice_get_within team marked.0 c.0 c.1 in
       let y = get_some ys marked.0 (let b = behind.count in omega arith) in
       let e = behind.each marked.0 y.0 y.1 in
-      let same = same_Some e.from c.0 (sym e.at ∙ c.1) in
-      let marks : marked.1 ≡ e.has.hand.marks
-      = sym c.2 ∙ ap (λ (c : Resting). c.hand.marks) (sym same) ∙ ap (λ (k : Kept). k.marks) e.has.rests in
-      let w = e.has.tied.marked l (ap (λ (ms : List Bool). slice_get ms l) (sym marks) ∙ marked.3) in
+      let same = same_Some e.was.from c.0 (sym e.was.at ∙ c.1) in
+      let marks : marked.1 ≡ e.was.has.hand.marks
+      = sym c.2 ∙ ap (λ (c : Resting). c.hand.marks) (sym same) ∙ ap (λ (k : Kept). k.marks) e.was.has.rests in
+      let w = e.was.has.tied.marks.marked l (ap (λ (ms : List Bool). slice_get ms l) (sym marks) ∙ marked.3) in
       record {
         place = marked.0;
         member = y.0;
@@ -126,11 +139,11 @@ module _ {a : Question} {ix : IndexParts} {m : ℕ} {best : Best} {team : List R
   put_marked i y p at put =
       let e = behind.each i y at in
       let old = subst (λ ps. In p ps) e.puts put in
-      let marked = e.has.tied.put p.entry.leaf (p, old, refl) in (
+      let marked = e.was.has.tied.marks.put p.entry.leaf (p, old, refl) in (
         i,
-        e.from.hand.marks,
-        map_at (λ (c : Resting). c.hand.marks) team i e.from e.at,
-        ap (λ (k : Kept). slice_get k.marks p.entry.leaf) e.has.rests ∙ marked,
+        e.was.from.hand.marks,
+        map_at (λ (c : Resting). c.hand.marks) team i e.was.from e.was.at,
+        ap (λ (k : Kept). slice_get k.marks p.entry.leaf) e.was.has.rests ∙ marked,
       )
 
   -- a list of exactly the marked leaves of queue j

@@ -1,9 +1,9 @@
--- What the searchers and the closed runs say together: the search has a legal and straight outcome (`ends_right`).
-use Rattle.std.proofs.Common.{◌≡◌, ◌≢◌, ℕ, ◌+◌, ◌<◌, ◌≤◌, ◌⊎◌, List, None, Some, All, true, length, map, refl, sym, ap, ◌∙◌, subst, inl, inr, arith}
+-- What the searchers and the closed runs say together: the search has a legal and straight outcome (`sealed_right`).
+use Rattle.std.proofs.Common.{◌≡◌, ◌≢◌, ℕ, zero, suc, ◌+◌, ◌<◌, ◌≤◌, ◌⊎◌, List, [], ◌∷◌, Option, None, Some, All, true, length, map, refl, sym, ap, ◌∙◌, subst, inl, inr, arith}
 use Rattle.std.specs.Prelude.{IfSome, is_some, not, nat_lt, slice_get}
 use Rattle.std.proofs.lemmas.Bool.{and_from, cases_lt, cond-true, eq-eqb, true≢false}
 use Rattle.std.proofs.lemmas.List.{length-map}
-use Rattle.std.proofs.lemmas.Option.{same_Some, slice_get-get_or, slice_get_within, get_or_from_slice_get}
+use Rattle.std.proofs.lemmas.Option.{none-some, same_Some, slice_get-get_or, slice_get_within, get_or_from_slice_get}
 use Rattle.list_totals.specs.Totals.{one_if_same, total}
 use Rattle.list_totals.specs.Standing.{In}
 use Rattle.list_totals.proofs.Standing.{in_at, in_contains}
@@ -13,127 +13,88 @@ use Rattle.series_core.specs.declared.queue_words.Entry.{Entry}
 use Rattle.leaf_queues.specs.PlainQueue.{PlainQueue}
 use Rattle.sealed_runs.specs.Closed.{AreLines, IsLine, Line, line_at, no_line}
 use Rattle.sealed_runs.specs.Entries.{Run, entry_at, no_entry, run_at}
+use Rattle.sealed_runs.specs.Sealing.{fresh_visits}
 use Rattle.sealed_runs.proofs.Members.{filter_contains, map_contains}
 use Rattle.std.proofs.lemmas.List.Elements.{All-contains}
-use Rattle.sealed_runs.specs.Visits.{IsPass, IsVisit, Visit, column, handed, is_refused as is_refused_place, leaves, visit_at}
+use Rattle.sealed_runs.specs.Visits.{IsPass, IsVisit, Visit, column, fresh_visit, handed, is_refused as is_refused_place, leaves, visit_at}
 use Rattle.subtree_build.specs.Index.{IndexParts}
-use Rattle.subtree_build.specs.Outline.{leaf_numbers}
-use Rattle.search_machine.specs.declared.phase.Phase.TheVariants.{Done}
 use Rattle.search_machine.specs.declared.outcome.QueueLine.{QueueLine}
-use Rattle.search_machine.specs.Basics.{Between, Ordered, entered}
-use Rattle.search_machine.specs.Closes.{AllStand, CameByPop, Closes, ClosesStraight, QueueCloses, placed_by, popped_by}
-use Rattle.search_machine.specs.Ground.{Fits, Ground, start_limit}
+use Rattle.search_machine.specs.Basics.{Ordered, entered}
+use Rattle.search_machine.specs.Closes.{CameByPop, QueueCloses, placed_by, popped_by}
+use Rattle.search_machine.specs.Ground.{Ground}
 use Rattle.search_machine.specs.Machine.{capacity_of}
 use Rattle.search_machine.specs.Outcome.{line_of}
 use Rattle.search_machine.specs.OwnRecord.{RecordedWorker, WasClosed}
 use Rattle.search_machine.specs.Sound.{takes, waits}
-use Rattle.search_machine.specs.Stands.{OwnDrains, OwnPhase, StandsFor}
-use Rattle.search_machine.proofs.AnyWorkers.{stands_any}
+use Rattle.search_machine.specs.Stands.{OwnDrains, OwnPhase}
 use Rattle.search_machine.proofs.Places.{get_map, get_some}
 use Rattle.search_task.specs.Questions.{Question, search_over, view_in}
-use Rattle.query_core.specs.Working.{Working}
-use Rattle.search_task.proofs.OfIndex.{last_is, search_fits}
-use Rattle.live_query.specs.DrainHands.{given_of}
-use Rattle.live_query.specs.Knowing.{IsLater}
 use Rattle.live_query.specs.Marked.{IsRunOf, line_of_run}
-use Rattle.live_query.specs.Parts.{Draining, EndsRight, Resting, draining, marks_of}
-use Rattle.live_query.proofs.DrainGather.{Outset, Turned, Went, known_at, none_closed, went}
-use Rattle.live_query.proofs.Endings.{ends_as}
-use Rattle.live_query.proofs.Openers.{moved, search_at}
+use Rattle.live_query.specs.Parts.{Draining, EndsRight, Resting, marks_of}
+use Rattle.query_core.specs.Working.{Working}
+use Rattle.live_query.specs.DrainHands.{DrainKept}
+use Rattle.live_query.specs.SealedQueues.{IsFresh, SameRuns, SealedAgrees, SealedKept, given_of, run_count}
+use Rattle.live_query.proofs.DrainGather.{Came, Outset, Worked}
+use Rattle.live_query.proofs.Drained.{AllDone, behind, ended_at, ended_records, ends_right, record_count, worker_done}
 use Rattle.live_query.proofs.Places.{Chosen, all_at, all_from, choose, map_at, maps_same, totals_same}
-use Rattle.live_query.proofs.PutsKept.{AreBehind, all_claimed, bound_right, came, once, placed_all, placed_as}
+use Rattle.live_query.proofs.PutsKept.{AreBehind, bound_right, came, placed_as}
 use Rattle.live_query.proofs.RunQueues.{ascending_ordered, entered_in, in_filter, is_left, least_from, least_some, left_of, left_or_taken, once_entered, ordered_filter, round_covers}
 
+-- fresh visits agree with no pops
+pub fresh_agrees : (runs : List Run) → SealedAgrees (record { runs = runs; visits = fresh_visits runs }) []
+fresh_agrees runs = record {
+  popped = λ m l low. sym (ap (given_of l (run_at runs m)) (fresh_at runs m low));
+  closed = λ m p v low i. absurd i;
+  kept = λ m v low e. absurd (none-some v (ap (λ (z : Visit). z.closed) (sym (fresh_at runs m low)) ∙ e));
+}
+  where
+    fresh_at : (runs : List Run) (j : ℕ) → j < length runs
+        → visit_at (fresh_visits runs) j ≡ fresh_visit (run_at runs j).claims
+    fresh_at [] j low = absurd (omega arith)
+    fresh_at (r ∷ rs) zero low = refl
+    fresh_at (r ∷ rs) (suc j) low = fresh_at rs j (omega arith)
+
+none_closed : (o : Option ℕ) → is_some o ≡ true → o ≡ None → ⊥
+none_closed None s e = true≢false (sym s)
+none_closed (Some v) s e = none-some v (sym e)
+
 module _ {a : Question} {ix : IndexParts} {m : ℕ} {best : Best} {team : List Resting} {runs : List Run} {roots : ℕ}
-    (outset : Outset a ix m best team runs roots) {before cells : List Draining} (turned : Turned team runs roots before cells)
-    (n : ℕ) (some_worker : 0 < n) (as_many : length team ≡ n)
-    (start : best.start ≡ start_limit (search_over a ix 1 m))
-    (done : All (λ (c : Draining). c.worker.phase ≡ Done) cells)
+    {cells later : List Draining} (outset : Outset run_count SealedAgrees (IsFresh runs) a ix m best team roots cells)
+    (worked : Worked SameRuns SealedAgrees cells later) (n : ℕ) (all_done : AllDone team later n)
+    (runs_count : length runs ≡ m)
     (sealed : (j : ℕ) → j < m → IsRunOf (view_in a) ix (marks_of team) m j (run_at runs j).entries)
-    (passes : List (List Visit)) (are : passes ≡ map (λ (c : Draining). c.hand.visits) cells)
+    (passes : List (List Visit)) (are : passes ≡ map (λ (c : Draining). c.hand.queues.visits) later)
     (own : All (IsPass runs) passes) (closed : List Line) (lines : AreLines runs passes closed) where
-  abbrev one : Ground
-  one = search_over a ix 1 m
-
-  -- a searcher that has drained, with what it was after it had filled
-  abbrev Way : ℕ → Draining → Type 0
-  Way i d = Went outset turned i d
-
-  -- a searcher that is done, with the record of all its calls
-  record Ended (i : ℕ) (y : RecordedWorker) : Type 0 where
-    cell : Draining
-    at : slice_get cells i ≡ Some cell
-    way : Way i cell
-    later : IsLater way.record_of cell.worker cell.hand y
-
-  ended : (i : ℕ) → i < length cells → (y : RecordedWorker) × Ended i y
-  ended i low =
-      let d = get_some cells i low in
-      let w = went outset turned i d.0 d.1 in
-      let y = w.goes.on w.record_of (known_at outset w.from w.record_of i w.has) in
-      (y.0, record { cell = d.0; at = d.1; way = w; later = y.1 })
-
   abbrev g : Ground
   g = search_over a ix n m
 
-  fits : Fits g
-  fits = search_fits a ix n m outset.searches some_worker outset.some
-
-  all : Chosen (length cells) Ended
-  all = choose (length cells) Ended ended
-
   abbrev ys : List RecordedWorker
-  ys = all.items
+  ys = ended_records outset worked all_done
 
-  cells_count : length cells ≡ n
-  cells_count = turned.len ∙ ap (λ l. length l) turned.is ∙ length-map team (draining runs roots) ∙ as_many
+  are_behind : AreBehind outset.filled n ys
+  are_behind = behind outset worked all_done
 
-  stands : AllStand g ys
-  stands i y at =
-      let e = all.each i y at in
-      let place = moved a ix m i e.way.from.worker e.cell.worker e.way.has.place e.way.goes.place in
-      stands_any one n i y
-      (subst (λ (j : ℕ). StandsFor one j y) place.number
-      (subst (λ (h : Ground). StandsFor h e.cell.worker.number y) (search_at a ix m i e.cell.worker place)
-      e.later.known.stands))
+  ys_count : length ys ≡ length later
+  ys_count = record_count outset worked all_done
 
-  worker_done : (i : ℕ) (y : RecordedWorker) → slice_get ys i ≡ Some y → y.worker.phase ≡ Done
-  worker_done i y at =
-      let e = all.each i y at in
-      e.later.known.shows.phase ∙ all_at (λ (c : Draining). c.worker.phase ≡ Done) cells i e.cell done e.at
+  runs_are : (i : ℕ) (e : Draining) → Came outset worked i e → e.hand.queues.runs ≡ runs
+  runs_are i e w =
+      w.goes.queues.runs ∙ ap (λ (h : DrainKept SealedKept). h.queues.runs) w.began.is.hand
+      ∙ ap (λ (q : SealedKept). q.runs) w.began.is.new
 
-  -- the records have the claims and puts of the fill part
-  behind : AreBehind outset.filled n ys
-  behind = record {
-    fits = fits;
-    count = all.count ∙ cells_count ∙ sym as_many;
-    each = λ i y at.
-        let e = all.each i y at in
-        record {
-          from = e.way.from;
-          record_of = e.way.record_of;
-          at = e.way.at;
-          at_record = e.way.at_record;
-          has = e.way.has;
-          claims = e.later.claims;
-          puts = e.later.puts;
-        };
-    stands = stands;
-  }
-
-  in_range : (i : ℕ) (y : RecordedWorker) (v : ℕ) → slice_get ys i ≡ Some y → In v y.own.reads → Between g v
-  in_range i y v at read =
-      let e = all.each i y at in
-      let r = e.later.known.tied.reads v read in
-      let low = e.way.goes.floor ∙ e.way.has.floor ∙ sym (last_is a ix n m outset.searches.question) in
-      let high = ap (λ (b : Best). b.start) (e.way.goes.best ∙ e.way.has.word) ∙ start in
-      (omega (arith, r.0, low), omega (arith, r.1, high))
+  -- there is a run of a searcher for each queue
+  run_there : (i : ℕ) (y : RecordedWorker) (at : slice_get ys i ≡ Some y) (j : ℕ) → j < m
+      → j < length (ended_at outset worked all_done i y at).cell.hand.queues.runs
+  run_there i y at j low =
+      let e = ended_at outset worked all_done i y at in
+      let b = ap (λ (rs : List Run). length rs) (runs_are i e.cell e.way) ∙ runs_count in omega arith
 
   -- a worker is closed to at each queue
   was_closed : (i : ℕ) (y : RecordedWorker) (j : ℕ) → slice_get ys i ≡ Some y → j < m → WasClosed y.own j
   was_closed i y j at low =
       let drains : OwnDrains g y.own i m y.worker.rest
-      = subst (OwnPhase g y.own i y.worker.rest y.worker.list) (worker_done i y at) (stands i y at).phase in
+      = subst (OwnPhase g y.own i y.worker.rest y.worker.list) (worker_done outset worked all_done i y at)
+      (are_behind.stands i y at).phase in
       let x = round_covers i m j low in
       subst (WasClosed y.own) x.2 (drains.closed x.0 x.1)
 
@@ -148,7 +109,7 @@ module _ {a : Question} {ix : IndexParts} {m : ℕ} {best : Best} {team : List R
     vs = column passes j
 
     is_line : IsLine run vs line
-    is_line = lines.each j (omega (arith, low, outset.count))
+    is_line = lines.each j (omega (arith, low, runs_count))
 
     is_run : IsRunOf (view_in a) ix (marks_of team) m j run.entries
     is_run = sealed j low
@@ -164,7 +125,7 @@ module _ {a : Question} {ix : IndexParts} {m : ℕ} {best : Best} {team : List R
     }
 
     entry_right : (e : Entry) → In e run.entries → e.bound ≡ g.bound e.leaf
-    entry_right = bound_right behind j run.entries is_run.exactly
+    entry_right = bound_right are_behind j run.entries is_run.exactly
 
     from_run : (e : Entry) → In e line.taken → In e run.entries
     from_run e i =
@@ -176,7 +137,7 @@ module _ {a : Question} {ix : IndexParts} {m : ℕ} {best : Best} {team : List R
         of_run k v at =
             let p = get_map (λ (vs : List Visit). visit_at vs j) passes k v at in
             subst (IsVisit run) p.2
-            ((all_at (IsPass runs) passes k p.0 own p.1).each j (let b = outset.count in omega arith))
+            ((all_at (IsPass runs) passes k p.0 own p.1).each j (let b = runs_count in omega arith))
 
         handed_in : (e : Entry) (v : Visit) → IsVisit run v → In e (leaves run.entries v) → In e run.entries
         handed_in e v is i =
@@ -199,37 +160,36 @@ module _ {a : Question} {ix : IndexParts} {m : ℕ} {best : Best} {team : List R
     put_counts : (l : ℕ) → waits l queue + takes l queue ≡ total (placed_by j l) ys
     put_counts l =
         left_or_taken l run.entries line.taken (once_here l) (once_taken l) from_run
-        ∙ placed_as behind j run.entries is_run.exactly once_here l
+        ∙ placed_as are_behind j run.entries is_run.exactly once_here l
 
     popped_counts : (l : ℕ) → takes l queue ≡ total (popped_by j l) ys
     popped_counts l =
         is_line.counts (λ (e : Entry). one_if_same l e.leaf)
         ∙ ap (λ ps. total (given_of l run) (column ps j)) are
-        ∙ total_map (given_of l run) (λ (vs : List Visit). visit_at vs j) (map (λ (c : Draining). c.hand.visits) cells)
-        ∙ total_map (λ (vs : List Visit). given_of l run (visit_at vs j)) (λ (c : Draining). c.hand.visits) cells
-        ∙ sym (totals_same (popped_by j l) (λ (c : Draining). given_of l run (visit_at c.hand.visits j)) ys cells all.count
+        ∙ total_map (given_of l run) (λ (vs : List Visit). visit_at vs j) (map (λ (c : Draining). c.hand.queues.visits) later)
+        ∙ total_map (λ (vs : List Visit). given_of l run (visit_at vs j)) (λ (c : Draining). c.hand.queues.visits) later
+        ∙ sym (totals_same (popped_by j l) (λ (c : Draining). given_of l run (visit_at c.hand.queues.visits j)) ys later ys_count
         (λ i y c at_y at_c.
-        let e = all.each i y at_y in
+        let e = ended_at outset worked all_done i y at_y in
         let same = same_Some e.cell c (sym e.at ∙ at_c) in
-        let low : j < length e.cell.hand.runs = let b = ap (λ rs. length rs) e.way.goes.runs ∙ outset.count in omega arith in
-        e.later.known.tied.popped j l low
-        ∙ ap (λ rs. given_of l (run_at rs j) (visit_at e.cell.hand.visits j)) e.way.goes.runs
-        ∙ ap (λ (c : Draining). given_of l run (visit_at c.hand.visits j)) same))
+        e.later_is.known.tied.pops.popped j l (run_there i y at_y j low)
+        ∙ ap (λ rs. given_of l (run_at rs j) (visit_at e.cell.hand.queues.visits j)) (runs_are i e.cell e.way)
+        ∙ ap (λ (c : Draining). given_of l run (visit_at c.hand.queues.visits j)) same))
 
     -- the visit of worker i
     visit_of : (i : ℕ) (y : RecordedWorker) (at : slice_get ys i ≡ Some y)
-        → slice_get vs i ≡ Some (visit_at (all.each i y at).cell.hand.visits j)
+        → slice_get vs i ≡ Some (visit_at (ended_at outset worked all_done i y at).cell.hand.queues.visits j)
     visit_of i y at =
-        let e = all.each i y at in
+        let e = ended_at outset worked all_done i y at in
         ap (λ ps. slice_get (column ps j) i) are
-        ∙ map_at (λ (vs : List Visit). visit_at vs j) (map (λ (c : Draining). c.hand.visits) cells) i e.cell.hand.visits
-        (map_at (λ (c : Draining). c.hand.visits) cells i e.cell e.at)
+        ∙ map_at (λ (vs : List Visit). visit_at vs j) (map (λ (c : Draining). c.hand.queues.visits) later) i e.cell.hand.queues.visits
+        (map_at (λ (c : Draining). c.hand.queues.visits) later i e.cell e.at)
 
     visit_shut : (i : ℕ) (y : RecordedWorker) (at : slice_get ys i ≡ Some y) → WasClosed y.own j
-        → is_some (visit_at (all.each i y at).cell.hand.visits j).closed ≡ true
+        → is_some (visit_at (ended_at outset worked all_done i y at).cell.hand.queues.visits j).closed ≡ true
     visit_shut i y at w =
-        let e = all.each i y at in
-        e.later.known.tied.closed j (let b = ap (λ rs. length rs) e.way.goes.runs ∙ outset.count in omega arith) w
+        let e = ended_at outset worked all_done i y at in
+        e.later_is.known.tied.pops.closed j w.0 w.1 (run_there i y at j low) w.2 w.3 w.4
 
     shut : (i : ℕ) (y : RecordedWorker) → slice_get ys i ≡ Some y → WasClosed y.own j
         → (v : ℕ) × (queue.kept ≡ Some v)
@@ -241,16 +201,16 @@ module _ {a : Question} {ix : IndexParts} {m : ℕ} {best : Best} {team : List R
     kept v e =
         let r = least_from vs v (sym is_line.kept ∙ e) in
         let inside : r.0 < length vs = slice_get_within vs r.0 r.1 r.2 in
-        let y = get_some ys r.0 (omega (arith, inside, vs_count, all.count)) in
-        let w = all.each r.0 y.0 y.1 in
-        let same = same_Some (visit_at w.cell.hand.visits j) r.1 (sym (visit_of r.0 y.0 y.1) ∙ r.2) in
-        let k = w.later.known.tied.kept j v (let b = ap (λ rs. length rs) w.way.goes.runs ∙ outset.count in omega arith)
+        let y = get_some ys r.0 (omega (arith, inside, vs_count, ys_count)) in
+        let w = ended_at outset worked all_done r.0 y.0 y.1 in
+        let same = same_Some (visit_at w.cell.hand.queues.visits j) r.1 (sym (visit_of r.0 y.0 y.1) ∙ r.2) in
+        let k = w.later_is.known.tied.pops.kept j v (run_there r.0 y.0 y.1 j low)
         (ap (λ (x : Visit). x.closed) same ∙ r.3) in
         record { place = r.0; member = y.0; at = y.1; made = k.0; has = k.1; such = k.3 }
       where
-        vs_count : length vs ≡ length cells
+        vs_count : length vs ≡ length later
         vs_count = length-map passes (λ (vs : List Visit). visit_at vs j) ∙ ap (λ ps. length ps) are
-            ∙ length-map cells (λ (c : Draining). c.hand.visits)
+            ∙ length-map later (λ (c : Draining). c.hand.queues.visits)
 
     above : (v : ℕ) → queue.kept ≡ Some v → (e : Entry) → In e queue.waiting → v < e.bound
     above v is_kept e waits =
@@ -261,7 +221,7 @@ module _ {a : Question} {ix : IndexParts} {m : ℕ} {best : Best} {team : List R
         all_shut : All (λ (x : Visit). x.closed ≢ None) vs
         all_shut = all_from (λ (x : Visit). x.closed ≢ None) vs (λ i x at none.
             let low = slice_get_within vs i x at in
-            let y = get_some ys i (omega (arith, low, vs_long, all.count)) in
+            let y = get_some ys i (omega (arith, low, vs_long, ys_count)) in
             let same = same_Some _ x (sym (visit_of i y.0 y.1) ∙ at) in
             none_closed x.closed
             (ap (λ (x : Visit). is_some x.closed) (sym same) ∙ visit_shut i y.0 y.1 (was_closed i y.0 j y.1 low_j)) none)
@@ -269,9 +229,9 @@ module _ {a : Question} {ix : IndexParts} {m : ℕ} {best : Best} {team : List R
             low_j : j < m
             low_j = low
 
-            vs_long : length vs ≡ length cells
+            vs_long : length vs ≡ length later
             vs_long = length-map passes (λ (vs : List Visit). visit_at vs j) ∙ ap (λ ps. length ps) are
-                ∙ length-map cells (λ (c : Draining). c.hand.visits)
+                ∙ length-map later (λ (c : Draining). c.hand.queues.visits)
 
         not_taken : (e : Entry) → is_left line.taken e ≡ true → In e line.taken → ⊥
         not_taken e left taken = gone (entered e.leaf line.taken) (entered_in e line.taken taken) left
@@ -284,7 +244,7 @@ module _ {a : Question} {ix : IndexParts} {m : ℕ} {best : Best} {team : List R
       ordered = ordered_filter (is_left line.taken) run.entries (ascending_ordered run.entries is_run.ascending);
       placed = refl;
       capacity = refl;
-      came = λ e h. came behind j run.entries is_run.exactly e (either e h);
+      came = λ e h. came are_behind j run.entries is_run.exactly e (either e h);
       put = put_counts;
       popped = popped_counts;
       shut = shut;
@@ -300,35 +260,16 @@ module _ {a : Question} {ix : IndexParts} {m : ℕ} {best : Best} {team : List R
   queues : Chosen m Stood
   queues = choose m Stood (λ j low. (queue j low, record { low = low; same = refl }))
 
-  closes : Closes g ys queues.items
-  closes = record {
-    members = all.count ∙ cells_count;
-    stands = stands;
-    done = worker_done;
-    claims = once behind;
-    all_claimed = λ i y c at ended low.
-        let roots = length-map ix.nodes leaf_numbers in
-        all_claimed behind i y c at ended (omega arith);
-    reads = in_range;
-    queue_count = queues.count;
-    queues = λ j q at. let s = queues.each j q at in
-        subst (QueueCloses g ys j) (sym s.same) (queue_closes j s.low);
-  }
+  close : (j : ℕ) (q : PlainQueue) → slice_get queues.items j ≡ Some q → QueueCloses g ys j q × Ordered q.taken
+  close j q at =
+      let s = queues.each j q at in
+      subst (λ (q : PlainQueue). QueueCloses g ys j q × Ordered q.taken) (sym s.same)
+      (queue_closes j s.low, ascending_ordered (line_at closed j).taken (is_line j s.low).ascending)
 
-  closes_straight : ClosesStraight g ys queues.items
-  closes_straight = record {
-    closes = closes;
-    placed = placed_all behind;
-    order = λ j q at. let s = queues.each j q at in
-        subst (λ (q : PlainQueue). Ordered q.taken) (sym s.same)
-        (ascending_ordered (line_at closed j).taken (is_line j s.low).ascending);
-  }
-
-  pub ends_right : (ws : List Working) (ls : List QueueLine) → ws ≡ map (λ (c : Draining). c.worker) cells
+  pub sealed_right : (ws : List Working) (ls : List QueueLine) → ws ≡ map (λ (c : Draining). c.worker) later
       → ls ≡ map line_of_run closed → EndsRight g ws ls
-  ends_right ws ls ws_are ls_are = ends_as g fits ys queues.items closes_straight (λ (c : Draining). c.worker) cells all.count
-      (λ i y at. let e = all.each i y at in (e.cell, e.at, e.later.known.shows)) ws ls ws_are
-      (ls_are ∙ sym (maps_same line_of line_of_run queues.items closed (queues.count ∙ sym (lines.count ∙ outset.count))
+  sealed_right ws ls ws_are ls_are = ends_right outset worked all_done queues.items queues.count close ws ls ws_are
+      (ls_are ∙ sym (maps_same line_of line_of_run queues.items closed (queues.count ∙ sym (lines.count ∙ runs_count))
       (λ j q l at_q at_l.
       let s = queues.each j q at_q in
       ap line_of s.same ∙ ap line_of_run (get_or_from_slice_get closed j l no_line at_l))))

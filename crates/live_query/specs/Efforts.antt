@@ -14,6 +14,7 @@ use Rattle.query_core.specs.Working.{Working}
 use Rattle.live_query.specs.RootClaims.{Drawn}
 use Rattle.live_query.specs.FillHands.{FillKept}
 use Rattle.live_query.specs.DrainHands.{DrainKept}
+use Rattle.live_query.specs.SealedQueues.{SealedKept}
 
 -- at most how many turns of the fill part are left from this phase, without those for its rest
 abbrev pub phase_left : Phase → ℕ
@@ -64,12 +65,12 @@ abbrev pub open_left : Option ℕ → ℕ → ℕ
 open_left None n = n
 open_left (Some v) n = 0
 
--- how many run m may still give to the hand
-abbrev pub run_left : DrainKept → ℕ → ℕ
-run_left h m =
-    open_left (visit_at h.visits m).closed
-    (length (run_at h.runs m).entries - (visit_at h.visits m).claim.met)
+-- how many run m may still give to a worker
+abbrev pub run_left : SealedKept → ℕ → ℕ
+run_left q m =
+    open_left (visit_at q.visits m).closed
+    (length (run_at q.runs m).entries - (visit_at q.visits m).claim.met)
 
 -- all that is left of the drain part
-abbrev pub drain_left : Working → DrainKept → ℕ
-drain_left w h = round_left w.queues w.phase + 3 * sum_below (length h.runs) (run_left h)
+abbrev pub drain_left : Working → DrainKept SealedKept → ℕ
+drain_left w h = round_left w.queues w.phase + 3 * sum_below (length h.queues.runs) (run_left h.queues)

@@ -8,7 +8,7 @@ use Rattle.search_machine.specs.declared.calls.Call.{Call}
 use Rattle.search_machine.specs.declared.calls.Call.TheVariants.{Claim, Read, Offer, Put, Pop}
 use Rattle.search_machine.specs.declared.calls.Reply.{Reply}
 use Rattle.search_machine.specs.declared.calls.Reply.TheVariants.{Claimed, Seen, Offered, PutTold, PopTold}
-use Rattle.search_machine.specs.OwnRecord.{OwnRecord, PutMade, WasPut, is_refused}
+use Rattle.search_machine.specs.OwnRecord.{OwnRecord, PutMade, is_refused}
 use Rattle.live_query.specs.RootClaims.{DidClaim, Drawn, DrawTied, Roots}
 
 -- the root children that are claimed and its draws of them, the bound word and what no limit is below, the number of queues, and
@@ -38,11 +38,19 @@ FillDid h (Put m e) (PutTold (Filled c)) k =
 FillDid h (Pop m v) (PopTold (Closed x)) k = (x ≡ v) × (k ≡ h)
 FillDid h _ _ k = ⊥
 
+-- one of these puts named leaf l
+abbrev pub HasPut : List PutMade → ℕ → Type 0
+HasPut puts l = (p : PutMade) × In p puts × (p.entry.leaf ≡ l)
+
+-- none of these puts was refused, and the leaves that they named are just those with a mark
+pub record AreMarks (marks : List Bool) (puts : List PutMade) : Type 0 where
+  pub placed : (p : PutMade) → In p puts → is_refused p.reply ≡ false
+  pub marked : (l : ℕ) → slice_get marks l ≡ Some true → HasPut puts l
+  pub put : (l : ℕ) → HasPut puts l → slice_get marks l ≡ Some true
+
 -- the hand is tied to the record of its calls
 pub record FillTied (h : FillKept) (r : OwnRecord) : Type 0 where
   pub drawn : DrawTied h.roots h.drawn r.claims
   pub reads : (v : ℕ) → In v r.reads → InRange h.floor h.best v
-  pub placed : (p : PutMade) → In p r.puts → is_refused p.reply ≡ false
-  pub marked : (l : ℕ) → slice_get h.marks l ≡ Some true → WasPut r l
-  pub put : (l : ℕ) → WasPut r l → slice_get h.marks l ≡ Some true
+  pub marks : AreMarks h.marks r.puts
   pub pops : r.pops ≡ []

@@ -3,10 +3,10 @@ pub mod RootClaims
 -- What the hands of running workers hold, and what each call did to them.
 pub mod FillHands
 pub mod DrainHands
-pub mod LockHands
+pub mod SealedQueues
+pub mod LockedQueues
 -- What a worker and its hand know together, and how much is left for them to do.
 pub mod Knowing
-pub mod LockKnowing
 pub mod Efforts
 -- The limits of portions that the workers share.
 pub mod PortionRows

@@ -6,12 +6,9 @@ use Rattle.turn_lock.specs.History.{calls_by}
 use Rattle.turn_lock.specs.Passes.{IsNewPass, callers_of, opening_of}
 use Rattle.queue_histories.specs.Histories.{History, Leads}
 use Rattle.queue_histories.specs.Callers.{CalledBelow}
-use Rattle.query_core.specs.Working.{Working}
-use Rattle.live_query.specs.declared.searcher.Searcher.{Searcher}
-use Rattle.live_query.specs.Parts.{EachOn, Resting}
-use Rattle.live_query.specs.Resting.{Kept}
-use Rattle.live_query.specs.LockHands.{LockKept, QueueLock, QueuePass, calls_of, lock_over}
-use Rattle.live_query.specs.LockKnowing.{LocksOn}
+use Rattle.live_query.specs.Parts.{Drainer, EachOn}
+use Rattle.live_query.specs.LockedQueues.{LockedKept, QueueLock, QueuePass, calls_of}
+use Rattle.live_query.specs.Knowing.{LockedOn}
 
 -- a row of passes
 abbrev pub Row : Type 0
@@ -63,24 +60,15 @@ pub record WentBy (callers : ℕ) (calls : ℕ → History) (q r : PlainQueue) :
 
 -- a searcher that drains locked queues
 abbrev pub Locking : Type 0
-Locking = Searcher Working LockKept
+Locking = Drainer LockedKept
 
 -- each searcher at its place, before some turns and after them
 abbrev pub AllLocksOn : List Locking → List Locking → Type 0
-AllLocksOn old new = EachOn LocksOn old new
+AllLocksOn old new = EachOn LockedOn old new
 
--- the hand of a searcher with the new passes of number i of these locks, where there are `roots` root children
-pub record HasNew (roots : ℕ) (locks : List QueueLock) (i : ℕ) (c : Kept) (h : LockKept) : Type 0 where
-  pub passes : List QueuePass
-  pub is : h ≡ lock_over c.best c.floor roots locks passes
-  pub count : length passes ≡ length locks
-  pub fresh : (m : ℕ) (k : QueueLock) (p : QueuePass) → slice_get locks m ≡ Some k → slice_get passes m ≡ Some p
+-- worker i has the new passes of number i of these locks
+pub record HasNew (locks : List QueueLock) (i : ℕ) (q : LockedKept) : Type 0 where
+  pub locks_are : q.locks ≡ locks
+  pub count : length q.passes ≡ length locks
+  pub fresh : (m : ℕ) (k : QueueLock) (p : QueuePass) → slice_get locks m ≡ Some k → slice_get q.passes m ≡ Some p
       → IsNewPass k i p
-
--- each searcher with its hand over these locks
-pub record AreEquipped (roots : ℕ) (locks : List QueueLock) (team : List Resting) (cells : List Locking) : Type 0 where
-  pub count : length cells ≡ length team
-  pub workers : (i : ℕ) (c : Resting) (d : Locking) → slice_get team i ≡ Some c → slice_get cells i ≡ Some d
-      → d.worker ≡ c.worker
-  pub hands : (i : ℕ) (c : Resting) (d : Locking) → slice_get team i ≡ Some c → slice_get cells i ≡ Some d
-      → HasNew roots locks i c.hand d.hand

@@ -5,7 +5,6 @@ use Rattle.list_totals.specs.Standing.{In}
 use Rattle.best_word.specs.Passes.{Best}
 use Rattle.series_core.specs.declared.queue_words.Entry.{Entry}
 use Rattle.sealed_runs.specs.Entries.{Run, run_at}
-use Rattle.sealed_runs.specs.Sealing.{fresh_visits}
 use Rattle.subtree_build.specs.Index.{IndexParts}
 use Rattle.search_machine.specs.declared.phase.Phase.TheVariants.{Done}
 use Rattle.search_machine.specs.declared.outcome.QueueLine.{QueueLine}
@@ -18,7 +17,7 @@ use Rattle.search_machine.specs.OwnRecord.{RecordedWorker}
 use Rattle.search_machine.specs.Stands.{StandsFor}
 use Rattle.search_machine.specs.Closes.{ClaimedOnce, claimed_by}
 use Rattle.search_task.specs.Questions.{CanBeSearched, Question, last_of, search_over, view_in}
-use Rattle.query_core.specs.Teams.{EndsIn}
+use Rattle.query_core.specs.Teams.{AreOver, EndsIn}
 use Rattle.query_core.specs.Working.{IsOf, Shows, Working, opens_as}
 use Rattle.live_query.specs.declared.searcher.Searcher.{Searcher}
 use Rattle.live_query.specs.Marked.{AreMarked, IsRunOf}
@@ -27,9 +26,10 @@ use Rattle.live_query.specs.Holding.{Held, fresh_held}
 use Rattle.live_query.specs.RootClaims.{Roots}
 use Rattle.live_query.specs.FillHands.{FillKept, FillTied}
 use Rattle.live_query.specs.DrainHands.{DrainKept, drain_over}
-use Rattle.live_query.specs.Knowing.{FillsOn, DrainsOn}
+use Rattle.live_query.specs.SealedQueues.{SealedKept}
+use Rattle.live_query.specs.Knowing.{DrainServes, FillsOn, SealedOn}
 
--- a searcher that holds its draws; one between the parts, and in the fill part; and without locks one in the drain part
+-- a searcher that holds its draws; one between the parts, and in the fill part; one that drains queues, and one that drains sealed runs
 abbrev pub Between : Type 0
 Between = Searcher Working Held
 
@@ -39,8 +39,11 @@ Resting = Searcher Working Kept
 abbrev pub Filling : Type 0
 Filling = Searcher Working FillKept
 
+abbrev pub Drainer : Type 0 → Type 0
+Drainer Q = Searcher Working (DrainKept Q)
+
 abbrev pub Draining : Type 0
-Draining = Searcher Working DrainKept
+Draining = Drainer SealedKept
 
 -- each searcher at its place, before some turns and after them: On holds of its worker and its hand before and after
 abbrev pub EachOn : {H : Type 0} → (Working → H → Working → H → Type 0) → List (Searcher Working H) → List (Searcher Working H) → Type 0
@@ -54,7 +57,7 @@ abbrev pub AllFillOn : List Filling → List Filling → Type 0
 AllFillOn old new = EachOn FillsOn old new
 
 abbrev pub AllDrainOn : List Draining → List Draining → Type 0
-AllDrainOn old new = EachOn DrainsOn old new
+AllDrainOn old new = EachOn SealedOn old new
 
 -- the searcher with its draws of these root children, over `queues` queues, with no mark of any of `leaves` leaves
 abbrev pub filling : Roots → ℕ → ℕ → Between → Filling
@@ -83,15 +86,24 @@ resting c = record {
   apart = tt;
 }
 
--- the searcher with fresh visits of these runs, where there are `roots` root children
-abbrev pub draining : List Run → ℕ → Resting → Draining
-draining runs roots c = record {
-  worker = c.worker;
-  hand = drain_over c.hand.best c.hand.floor roots runs (fresh_visits runs);
-  number = c.number;
-  turn = c.turn;
-  apart = tt;
-}
+-- a searcher that may drain its queues: its hand is of its search, and its worker has filled and is not done
+pub record MayDrain {Q : Type 0} (count : Q → ℕ) (c : Drainer Q) : Type 0 where
+  pub serves : DrainServes count c.worker c.hand
+  pub filled : fills c.worker.phase ≡ false
+  pub running : c.worker.phase ≢ Done
+
+-- searcher i with its hand over new queues, where there are `roots` root children
+pub record IsEquipped {Q : Type 0} (IsNew : ℕ → Q → Type 0) (roots i : ℕ) (c : Resting) (d : Drainer Q) : Type 0 where
+  pub worker : d.worker ≡ c.worker
+  pub queues : Q
+  pub hand : d.hand ≡ drain_over c.hand.best c.hand.floor roots queues
+  pub new : IsNew i queues
+
+-- so with each searcher
+pub record AreEquipped {Q : Type 0} (IsNew : ℕ → Q → Type 0) (roots : ℕ) (team : List Resting) (cells : List (Drainer Q)) : Type 0 where
+  pub count : length cells ≡ length team
+  pub each : (i : ℕ) (c : Resting) (d : Drainer Q) → slice_get team i ≡ Some c → slice_get cells i ≡ Some d
+      → IsEquipped IsNew roots i c d
 
 -- the marks of all searchers
 abbrev pub marks_of : List Resting → List (List Bool)
@@ -137,9 +149,12 @@ pub record HasFilled (a : Question) (ix : IndexParts) (m : ℕ) (best : Best) (i
   pub rests : c.hand ≡ record { best = hand.best; floor = hand.floor; marks = hand.marks }
   pub tied : FillTied hand x.own
 
--- all searchers after the fill part, with the records of their calls: no root child was claimed twice, and each was claimed
--- where a claim was answered None
+-- all searchers of a search over m queues after the fill part, with the records of their calls: no root child was claimed twice, and
+-- each was claimed where a claim was answered None
 pub record AllFilled (a : Question) (ix : IndexParts) (m : ℕ) (best : Best) (team : List Resting) : Type 0 where
+  pub searches : CanBeSearched a ix
+  pub some : 0 < m
+  pub start : best.start ≡ start_limit (search_over a ix 1 m)
   pub records : List RecordedWorker
   pub count : length records ≡ length team
   pub each : (i : ℕ) (c : Resting) (x : RecordedWorker) → slice_get team i ≡ Some c
@@ -154,3 +169,8 @@ pub record EndsRight (g : Ground) (ws : List Working) (ls : List QueueLine) : Ty
   pub ends : EndsIn ws ls state
   pub legal : Legal g (outcome g state)
   pub straight : IsStraight (outcome g state)
+
+-- the workers and lines with which a search over m queues ends: the workers are of the search, and they end right
+pub record HaveDrained (a : Question) (ix : IndexParts) (m : ℕ) (ws : List Working) (ls : List QueueLine) : Type 0 where
+  pub over : AreOver a ix ws
+  pub ends : EndsRight (search_over a ix (length ws) m) ws ls

@@ -1,7 +1,7 @@
 //! Room between the searchers of a row. Its one rule: nothing is said of it.
 use std::marker::Model;
 
-/// Room that nobody uses, of two cache lines: what one worker writes at each turn is then on no line that its neighbour reads.
+/// Room that is never used, of two cache lines: what one worker writes at each turn is then on no line that its neighbour reads.
 #[derive(Drop)]
 pub struct Apart {
     lines: [u64; 16],

@@ -4,8 +4,7 @@ ghost use Rattle.series_core.specs.Answer.{answer};
 ghost use Rattle.search_machine.specs.Basics.{start_of};
 ghost use Rattle.search_machine.specs.Legal.{IsStraight, Legal};
 ghost use Rattle.search_task.specs.Questions.{search_over};
-ghost use Rattle.query_core.specs.Teams.{AreOver};
-ghost use Rattle.live_query.specs.Parts.{EndsRight};
+ghost use Rattle.live_query.specs.Parts.{HaveDrained};
 
 use crate::plan::Plan;
 use outside::NoMemory;
@@ -21,11 +20,9 @@ pub(crate) fn outcome_of<R: Rows>(
     ended: &[Worker<'_, R>],
     lines: LineList,
 ) -> Result<Outcome, NoMemory>
-    requires start { start ≡ start_of (search_over plan.now.search.question plan.now.search.index 1 1) }
-    requires over { AreOver plan.now.search.question plan.now.search.index ended.now }
     requires few { (length ended.now ≤ 64) × (length lines ≤ 64) }
-    requires ends { let g = search_over plan.now.search.question plan.now.search.index (length ended.now) plan.now.queues in
-        EndsRight g ended.now lines }
+    requires drained { HaveDrained plan.now.search.question plan.now.search.index plan.now.queues ended.now lines }
+    requires start { start ≡ start_of (search_over plan.now.search.question plan.now.search.index 1 1) }
     ensures legal { let g = search_over plan.now.search.question plan.now.search.index (length ended.now) plan.now.queues in
         IfOk result (λ o. Legal g o) }
     ensures straight { IfOk result IsStraight }

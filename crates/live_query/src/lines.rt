@@ -26,7 +26,7 @@ pub(crate) fn lines(alloc: Global, closed: &RunsClosed, queues: u32) -> Result<L
     Ok(LineList { items: lines })
 }
 
-/// What each queue tells; one that was never shut keeps the limit 0.
+/// The line of each queue; one that was never shut keeps the limit 0.
 pub(crate) fn queue_lines(alloc: Global, queues: &[Queue]) -> Result<LineList, NoMemory>
     ensures { IfOk result (λ ls. ls ≡ map line_of queues.now) }
 {

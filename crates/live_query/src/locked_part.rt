@@ -1,10 +1,7 @@
 //! The drain part over locked queues: the leaves that were put wait in queues, the searchers take them, each queue under a lock of
 //! its own, and the locks are closed. No lock outlives the part, so that the queues come back with all that was taken from them.
 ghost use Rattle.std.specs.Prelude.{◌≡◌, ◌≤◌, IfOk, length};
-ghost use Rattle.search_machine.specs.Ground.{start_limit};
-ghost use Rattle.search_task.specs.Questions.{search_over};
-ghost use Rattle.query_core.specs.Teams.{AreOver};
-ghost use Rattle.live_query.specs.Parts.{AllFilled, EndsRight};
+ghost use Rattle.live_query.specs.Parts.{AllFilled, HaveDrained};
 
 use crate::filled_queues::filled_queues;
 use crate::lines::queue_lines;
@@ -21,7 +18,7 @@ use std::alloc::Global;
 use std::sync::Wait;
 use std::thread::Threads;
 
-/// Lets all searchers that have filled drain side by side: the workers as they end, and what each queue tells.
+/// Lets all searchers that have filled drain side by side: the workers as they end, and the line of each queue.
 pub(crate) fn locked_part<'a, T: Threads + Wait + Sync, R: Rows + Sync, G: Gate + Sync>(
     rt: &T,
     alloc: Global,
@@ -32,13 +29,10 @@ pub(crate) fn locked_part<'a, T: Threads + Wait + Sync, R: Rows + Sync, G: Gate 
 ) -> Result<(Vec<Worker<'a, R>>, LineList), NoMemory>
     requires queues { (1 ≤ plan.now.queues) × (plan.now.queues ≤ 64) }
     requires team { (1 ≤ length team.items) × (length team.items ≤ 64) }
-    requires word { let g = search_over plan.now.search.question plan.now.search.index 1 plan.now.queues in
-        word.now.start ≡ start_limit g }
     requires filled { AllFilled plan.now.search.question plan.now.search.index plan.now.queues word.now team.items }
-    ensures over { IfOk result (λ r. AreOver plan.now.search.question plan.now.search.index r.0.items) }
     ensures sizes { IfOk result (λ r. (length r.0.items ≡ length team.entry.items) × (length r.1 ≡ plan.now.queues)) }
-    ensures ends { IfOk result (λ r. EndsRight
-        (search_over plan.now.search.question plan.now.search.index (length team.entry.items) plan.now.queues) r.0.items r.1) }
+    ensures drained { IfOk result (λ r.
+        HaveDrained plan.now.search.question plan.now.search.index plan.now.queues r.0.items r.1) }
 {
     let queues = filled_queues(alloc, plan, &team)?;
     let (locks, rows) = begin_locks(alloc, queues, team.len() as u32)?;

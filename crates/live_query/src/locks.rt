@@ -3,7 +3,7 @@
 ghost use Rattle.std.specs.Prelude.{◌≡◌, ℕ, ◌<◌, ◌≤◌, IfOk, List, Some, length, slice_get, vec_len};
 ghost use Rattle.turn_lock.specs.Passes.{opening_of};
 ghost use Rattle.leaf_queues.specs.PlainQueue.{PlainQueue};
-ghost use Rattle.live_query.specs.LockHands.{AreOwn, QueueLock};
+ghost use Rattle.live_query.specs.LockedQueues.{AreOwn, QueueLock};
 ghost use Rattle.live_query.specs.LockParts.{AreDealt, AreFronts, AreNumbered, AreRound, Row, WentBy, calls_in};
 
 use leaf_queues::Queue;

@@ -28,8 +28,8 @@ impl<'b, 'a, R: Rows> Floor for Portion<'b, 'a, R> {
         portion_last (search_over p.plan.now.search.question p.plan.now.search.index 1 p.plan.now.queues) p.number };
 }
 
-/// The words of the limits, and for each word a row of passes, one for each worker. There are none over one queue, where the best-so-far
-/// is all that they could tell, and none where some queue is no worker's first: nobody would lower its limit.
+/// The words of the limits, and for each word a row of passes, one for each worker. There are none over one queue, since its limit would be
+/// the best-so-far, and none where some queue is no worker's first, since no worker would lower the limit of that queue.
 pub(crate) fn begin_limits<'a, R: Rows>(
     alloc: Global,
     plan: &Plan<'a, R>,

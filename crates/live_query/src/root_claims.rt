@@ -4,6 +4,7 @@ ghost use Rattle.std.specs.Prelude.{◌≡◌, ◌≤◌, false, All, IfOk, map,
 ghost use Rattle.claim_word.specs.Passes.{EachDrawnOnce, fresh_pass};
 ghost use Rattle.live_query.specs.RootClaims.{DidClaim, IsOwn, fresh_drawn, group_count};
 
+use crate::tuning::{GROUPS_A_SHARE, MOST_ROOTS_A_GROUP};
 use claim_word::{ClaimPass, Claims};
 use outside::NoMemory;
 use std::alloc::Global;
@@ -20,12 +21,13 @@ pub struct RootClaims {
 impl Model for RootClaims {
     ghost use Rattle.std.specs.Prelude.{◌≡◌, ◌<◌, ◌≤◌, ◌^◌};
     ghost use Rattle.live_query.specs.RootClaims.{Roots, group_count};
+    ghost use Rattle.live_query.specs.declared.tuning.TheConstants.{MOST_ROOTS_A_GROUP};
 
     ghost Value = { Roots };
 
     ghost view = { λ r. record { counter = r.groups; count = r.roots; size = r.size } };
 
-    ghost invariant = { λ r. (0 < r.size) × (r.size ≤ 64) × (r.roots ≤ 2 ^ 32) × (r.groups.count ≡ group_count r.size r.roots) };
+    ghost invariant = { λ r. (0 < r.size) × (r.size ≤ MOST_ROOTS_A_GROUP) × (r.roots ≤ 2 ^ 32) × (r.groups.count ≡ group_count r.size r.roots) };
 }
 
 /// What a worker drew: its pass of the counter, whether that has ended, and the root children that it has still to be given.
@@ -70,8 +72,7 @@ impl Drawing {
 }
 
 impl RootClaims {
-    /// The root children below a number, with a fresh drawing for each of the 1 to 64 workers. A group is an eighth of a
-    /// worker's share, but no more than 64.
+    /// The root children below a number, with a fresh drawing for each of the 1 to 64 workers.
     pub(crate) fn begin(
         alloc: Global,
         roots: u32,
@@ -82,7 +83,7 @@ impl RootClaims {
         ensures workers { IfOk result (λ r. r.0.counter.callers ≡ workers) }
         ensures drawings { IfOk result (λ r. r.1.items ≡ replicate workers (fresh_drawn (fresh_pass r.0.counter))) }
     {
-        let size = (roots / (8 * workers)).clamp(1, 64);
+        let size = (roots / (GROUPS_A_SHARE * workers)).clamp(1, MOST_ROOTS_A_GROUP);
         let groups = groups_of(roots, size);
         let (groups, passes) = Claims::begin(alloc, groups, workers)?;
         let drawings = drawings(alloc, passes)?;
@@ -95,7 +96,7 @@ impl RootClaims {
     }
 
     /// The next root child for a worker: of its group, or the first of a group that it draws. `None` comes exactly where none of
-    /// its group is left and all groups are drawn; no draw follows. It takes no memory and waits for nobody.
+    /// its group is left and all groups are drawn; no draw follows. It takes no memory and never waits.
     pub(crate) fn claim(&self, drawing: &mut Drawing) -> Option<u64>
         requires { IsOwn self.now drawing.old }
         ensures own { IsOwn self.now drawing.new }

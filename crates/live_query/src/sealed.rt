@@ -1,4 +1,4 @@
-//! The search without locks: what was put is sealed into runs between the parts, so nobody waits for anybody.
+//! The search without locks: what was put is sealed into runs between the parts, so that no worker waits for another.
 ghost use Rattle.std.specs.Prelude.{◌≡◌, ◌≤◌, IfOk};
 ghost use Rattle.series_core.specs.Answer.{answer};
 ghost use Rattle.subtree_build.specs.Fits.{Fits as IndexFits};
@@ -20,7 +20,7 @@ use subtree_build::Index;
 
 /// The search for the answer by 1 to 64 workers over 1 to 64 queues, each worker in a thread of its own; a worker alone starts
 /// none. Whatever the order of their steps, the outcome is legal and straight, and its pairs are the answer: the k nearest rows.
-/// It waits for nobody and returns; want of memory is its one refusal, and no memory is taken while workers take turns. Before
+/// It never waits, and it returns; want of memory is its one refusal, and no memory is taken while workers take turns. Before
 /// each turn comes `gate.pass(worker, turn)`, with turns counted from 0 over both parts.
 pub fn nearest_sealed<T: Threads + Sync, R: Rows + Sync, G: Gate + Sync>(
     rt: &T,

@@ -1,10 +1,17 @@
 //! A worker with what it shares the search by. It has plain parameters alone, so that it goes to a thread of its own.
-ghost use Rattle.std.specs.Prelude.{◌≡◌, ◌↔◌, Some, true, slice_get};
+ghost use Rattle.std.specs.Prelude.{◌≡◌, ◌≢◌, ◌↔◌, Some, true, length, slice_get};
+ghost use Rattle.search_machine.specs.declared.phase.Phase.TheVariants.{Done};
+ghost use Rattle.search_task.specs.Questions.{last_of};
+ghost use Rattle.query_core.specs.Turning.{Turns};
+ghost use Rattle.query_core.specs.Working.{IsOf};
 ghost use Rattle.live_query.specs.Searchers.{with_hand};
 
 use crate::apart::Apart;
 use crate::root_claims::Drawing;
 use best_word::WordPass;
+use outside::Gate;
+use query_core::{Shared, Turn, Worker};
+use series_core::Rows;
 use std::marker::Model;
 
 /// A worker of a search with its hand on what the workers share, its number, and how many turns it has taken.
@@ -58,6 +65,22 @@ impl<W> Searcher<W, ()> {
             turn: self.turn,
             apart: self.apart,
         }
+    }
+}
+
+impl<'a, R: Rows, H: Shared> Searcher<Worker<'a, R>, H> {
+    /// One turn, once the gate has let it through. Done exactly where the worker is done now.
+    pub(crate) fn take_turn<G: Gate>(&mut self, gate: &G) -> Turn
+        requires running { self.old.worker.phase ≢ Done }
+        requires floor { H.floor self.old.hand ≡ last_of self.old.worker.question }
+        requires roots { H.roots self.old.hand ≡ length self.old.worker.index.roots }
+        ensures turns { Turns H.did self.old.hand self.new.hand self.old.worker self.new.worker }
+        ensures place { let w = self.old.worker in IsOf w.question w.index w.queues w.number self.new.worker }
+        ensures done { (result ≡ Turn.Done) ↔ (self.new.worker.phase ≡ Done) }
+    {
+        gate.pass(self.number, self.turn);
+        self.turn = self.turn.saturating_add(1);
+        self.worker.turn(&mut self.hand)
     }
 }
 

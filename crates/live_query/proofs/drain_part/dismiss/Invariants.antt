@@ -9,10 +9,10 @@ abbrev pub invariant-loop-searcher : goal.invariant-loop-searcher
 invariant-loop-searcher g l = record {
   whole : l.yielded ++ into_iter_items l.searcher-iterator ≡ l.fn.team.items;
   workers : l.workers.items ≡ map (λ c. c.worker) l.yielded;
-  passes : l.passes.items ≡ map (λ c. c.hand.visits) l.yielded;
+  passes : l.passes.items ≡ map (λ c. c.hand.queues.visits) l.yielded;
   len : vec_len l.passes ≡ length l.yielded;
   long : vec_len l.workers ≡ length l.yielded;
   room : length l.fn.team.items ≤ vec_capacity l.passes;
   space : length l.fn.team.items ≤ vec_capacity l.workers;
-  own : (runs : List Run) → All (λ c. c.hand.runs ≡ runs) l.fn.team.items → All (IsPass runs) l.passes.items;
+  own : (runs : List Run) → All (λ c. c.hand.queues.runs ≡ runs) l.fn.team.items → All (IsPass runs) l.passes.items;
 }

@@ -1,9 +1,8 @@
 -- A hand for each searcher so far.
-use Rattle.std.proofs.Common.{◌≡◌, ◌+◌, ◌≤◌, ◌++◌, All, length, map, vec_capacity, vec_len}
+use Rattle.std.proofs.Common.{◌≡◌, ◌+◌, ◌≤◌, ◌++◌, All, length, vec_capacity, vec_len}
 use Rattle.std.specs.Vec.Iter.{into_iter_items}
-use Rattle.sealed_runs.specs.Sealing.{fresh_visits}
-use Rattle.sealed_runs.specs.Visits.{IsPass}
-use Rattle.live_query.specs.Parts.{draining}
+use Rattle.live_query.specs.Parts.{AreEquipped}
+use Rattle.live_query.specs.SealedQueues.{IsFresh, IsFreshPass}
 use Rattle.live_query.proofs.drain_part.equip.Given as goal
 
 abbrev pub invariant-loop-searcher : goal.invariant-loop-searcher
@@ -12,7 +11,6 @@ invariant-loop-searcher g l = record {
   len : vec_len l.ready ≡ length l.yielded;
   left : vec_len l.passes + length l.yielded ≡ length l.fn.team.items;
   room : length l.fn.team.items ≤ vec_capacity l.ready;
-  fresh : All (λ p. p ≡ fresh_visits l.runs.runs) l.passes.items;
-  own : All (IsPass l.runs.runs) l.passes.items;
-  ready : l.ready.items ≡ map (draining l.runs.runs l.roots) l.yielded;
+  passes : All (IsFreshPass l.runs.runs) l.passes.items;
+  equipped : AreEquipped (IsFresh l.runs.runs) l.roots l.yielded l.ready.items;
 }

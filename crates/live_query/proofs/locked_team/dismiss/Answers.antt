@@ -2,7 +2,7 @@
 use Rattle.std.proofs.Common.{◌≡◌, List, [], ◌∷◌, ◌++◌, All, map, refl, sym, ap, ◌∙◌, subst, length-append, arith}
 use Rattle.std.proofs.lemmas.List.{map-append}
 use Rattle.std.proofs.lemmas.List.Elements.{All-push}
-use Rattle.live_query.specs.LockHands.{AreOwn, QueueLock, QueuePass}
+use Rattle.live_query.specs.LockedQueues.{AreOwn, LockedKept, QueueLock, QueuePass}
 use Rattle.live_query.specs.LockParts.{Locking, Row}
 use Rattle.live_query.proofs.Places.{all_next, cut_later, map_more}
 use Rattle.live_query.proofs.locked_team.dismiss.Goals as goal
@@ -15,7 +15,7 @@ loop-searcher-preserved g c =
     let row : Row = c.into_passes.result in
     let rows = c.push_reserved-in-loop-searcher in
     let items : Row → List QueuePass = λ row. row.items in
-    let own_passes : Locking → List QueuePass = λ c. c.hand.passes in
+    let own_passes : Locking → List QueuePass = λ c. c.hand.queues.passes in
     record {
       whole = cut_later done c.in-Some.ensures.steps.0 was.whole;
       workers = map_more (λ (s : Locking). s.worker) done searcher searcher.worker c.loop-searcher.workers.items
@@ -23,7 +23,8 @@ loop-searcher-preserved g c =
       passes = ap (map items) rows.ensures.items
           ∙ map-append items c.loop-searcher.rows.items (row ∷ [])
           ∙ ap (λ (l : List (List QueuePass)). l ++ row.items ∷ []) was.passes
-          ∙ ap (λ (z : List QueuePass). map own_passes done ++ z ∷ []) c.into_passes.ensures.passes
+          ∙ ap (λ (z : List QueuePass). map own_passes done ++ z ∷ [])
+          (c.into_passes.ensures.passes ∙ ap (λ (q : LockedKept). q.passes) c.into_queues.ensures)
           ∙ sym (map-append own_passes done (searcher ∷ []));
       len = omega (arith, rows.ensures.len, was.len, length-append done (searcher ∷ []));
       long = omega (arith, c.push_reserved.ensures.len, was.long, length-append done (searcher ∷ []));
@@ -33,6 +34,7 @@ loop-searcher-preserved g c =
           subst (All (λ (row : Row). AreOwn locks row.items)) (sym rows.ensures.items)
           (All-push (λ (row : Row). AreOwn locks row.items) c.loop-searcher.rows.items row (was.own locks all)
           (subst (λ (ks : List QueueLock). AreOwn ks row.items)
-          (all_next done c.in-Some.ensures.steps.0 was.whole (λ (s : Locking). s.hand.locks ≡ locks) all)
+          (ap (λ (q : LockedKept). q.locks) c.into_queues.ensures
+          ∙ all_next done c.in-Some.ensures.steps.0 was.whole (λ (s : Locking). s.hand.queues.locks ≡ locks) all)
           c.into_passes.ensures.own));
     }

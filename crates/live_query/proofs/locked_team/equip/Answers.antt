@@ -1,14 +1,10 @@
 -- The next searcher has its hand, with the next pass of each lock.
 use Rattle.std.proofs.Common.{◌≡◌, ◌+◌, ℕ, List, [], ◌∷◌, ◌++◌, length, refl, sym, ap, ◌∙◌, subst, length-append, arith}
 use Rattle.std.proofs.lemmas.Option.{slice_get_within}
-use Rattle.best_word.specs.Passes.{Best}
-use Rattle.live_query.specs.LockHands.{LockKept, lock_over}
-use Rattle.live_query.specs.LockParts.{AreDealt, AreEquipped, Locking}
+use Rattle.live_query.specs.LockParts.{AreDealt, HasNew}
 use Rattle.live_query.specs.Parts.{Resting}
 use Rattle.live_query.specs.Resting.{Kept}
-use Rattle.live_query.specs.Searchers.{with_hand}
-use Rattle.live_query.proofs.GoingOn.{hand_taken}
-use Rattle.live_query.proofs.LockGather.{equipped_more}
+use Rattle.live_query.proofs.DrainGather.{equipped_more}
 use Rattle.live_query.proofs.LockRows.{dealt_less, front_new, fronts_own, rows_some}
 use Rattle.live_query.proofs.Places.{all_next, at_next, cut_later}
 use Rattle.live_query.proofs.locked_team.equip.Goals as goal
@@ -25,10 +21,11 @@ take_fronts-requires g c =
           omega (arith, some, row.ok.0);
     }
 
-pub new-requires-clause-own : goal.new-requires-clause-own
-new-requires-clause-own g c =
-    fronts_own c.args.locks.now (length c.loop-searcher.yielded) c.loop-searcher.rows.items c.in_ok-passes.passes.items
-    c.take_fronts.new.rows.items c.loop-searcher.invariant.dealt c.in_ok-passes.ensures
+pub new-queues-requires : goal.new-queues-requires
+new-queues-requires g c = record {
+  own = fronts_own c.args.locks.now (length c.loop-searcher.yielded) c.loop-searcher.rows.items c.in_ok-passes.passes.items
+      c.take_fronts.new.rows.items c.loop-searcher.invariant.dealt c.in_ok-passes.ensures;
+}
 
 pub loop-searcher-preserved : goal.loop-searcher-preserved
 loop-searcher-preserved g c =
@@ -42,23 +39,17 @@ loop-searcher-preserved g c =
     let new = c.take_fronts.new.rows.items in
     let word : searcher.hand.best ≡ c.args.word.now
     = all_next done c.in-Some.ensures.steps.0 was.whole (λ (s : Resting). s.hand.best ≡ c.args.word.now) c.requires.word in
-    let over : Best → Kept → LockKept = λ b k. lock_over b k.floor c.args.roots locks passes in
-    let cell : Locking = c.take.result in
-    let taken : cell ≡ with_hand searcher c.new.result
-    = hand_taken searcher c.let_go-hand.ensures.rest c.take.ensures refl in
     record {
       whole = cut_later done c.in-Some.ensures.steps.0 was.whole;
       len = omega (arith, c.push_reserved.ensures.len, was.len, length-append done (searcher ∷ []));
       room = omega (arith, c.push_reserved.ensures.capacity, was.room);
       dealt = subst (λ (n : ℕ). AreDealt locks n new) count
           (dealt_less locks (length done) old passes new was.dealt c.in_ok-passes.ensures);
-      equipped = subst (AreEquipped c.args.roots locks (done ++ searcher ∷ [])) (sym c.push_reserved.ensures.items)
-          (equipped_more c.args.roots locks done c.loop-searcher.ready.items searcher cell was.equipped
-          (ap (λ (d : Locking). d.worker) taken) (record {
-            passes = passes;
-            is = ap (λ (d : Locking). d.hand) taken ∙ c.new.ensures
-                ∙ ap (over c.args.word.now) (c.hand.view_is ∙ c.let_go-hand.ensures.hand)
-                ∙ ap (λ (b : Best). over b searcher.hand) (sym word);
+      equipped = equipped_more (HasNew locks) c.args.roots done c.loop-searcher.ready.items searcher c.take.result
+          c.new-queues.result c.args.word.now was.equipped c.push_reserved.ensures.items c.let_go-hand.ensures.rest c.take.ensures
+          c.new.ensures (ap (λ (k : Kept). k.floor) (c.hand.view_is ∙ c.let_go-hand.ensures.hand)) word
+          (subst (HasNew locks (length done)) (sym c.new-queues.ensures) (record {
+            locks_are = refl;
             count = c.in_ok-passes.ensures.count ∙ was.dealt.count;
             fresh = front_new locks (length done) old passes new was.dealt c.in_ok-passes.ensures;
           }));

@@ -1,6 +1,6 @@
 -- One more queue has its lock, and the row of its passes.
 use Rattle.std.proofs.Common.{◌≡◌, List, [], ◌∷◌, ◌++◌, sym, ◌∙◌, subst, length-append, arith}
-use Rattle.live_query.specs.LockHands.{QueueLock}
+use Rattle.live_query.specs.LockedQueues.{QueueLock}
 use Rattle.live_query.specs.LockParts.{AreDealt, AreRound, Row}
 use Rattle.live_query.proofs.LockRows.{dealt_all, dealt_more, round_more}
 use Rattle.live_query.proofs.locks.begin_locks.Goals as goal

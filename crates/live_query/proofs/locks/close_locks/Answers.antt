@@ -5,9 +5,9 @@ use Rattle.std.specs.Vec.Iter.{into_iter_items}
 use Rattle.std.proofs.lemmas.Option.{slice_get_within}
 use Rattle.leaf_queues.specs.PlainQueue.{PlainQueue}
 use Rattle.turn_lock.specs.Passes.{callers_of, opening_of}
-use Rattle.live_query.specs.LockHands.{QueueLock}
+use Rattle.live_query.specs.LockedQueues.{QueueLock}
 use Rattle.live_query.specs.LockParts.{Row, WentBy, calls_in}
-use Rattle.live_query.proofs.Fronts.{push_both}
+use Rattle.query_core.proofs.Pushes.{push_both}
 use Rattle.live_query.proofs.LockColumns.{LeftFrom, column_all, column_passes, column_went, get_all, left_less, left_some}
 use Rattle.live_query.proofs.Places.{at_next, cut_later}
 use Rattle.live_query.proofs.locks.close_locks.Goals as goal

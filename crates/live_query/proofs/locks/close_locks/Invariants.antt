@@ -4,7 +4,7 @@ use Rattle.std.specs.Prelude.{slice_get}
 use Rattle.std.specs.Vec.Iter.{into_iter_items}
 use Rattle.leaf_queues.specs.PlainQueue.{PlainQueue}
 use Rattle.turn_lock.specs.Passes.{opening_of}
-use Rattle.live_query.specs.LockHands.{QueueLock}
+use Rattle.live_query.specs.LockedQueues.{QueueLock}
 use Rattle.live_query.specs.LockParts.{WentBy, calls_in}
 use Rattle.live_query.proofs.LockColumns.{LeftFrom}
 use Rattle.live_query.proofs.locks.close_locks.Given as goal

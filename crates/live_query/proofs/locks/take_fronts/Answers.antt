@@ -2,7 +2,7 @@
 use Rattle.std.proofs.Common.{◌≡◌, ◌<◌, ℕ, List, [], ◌∷◌, ◌++◌, Some, length, set, sym, ap, ◌∙◌, subst, arith}
 use Rattle.std.specs.Prelude.{slice_get}
 use Rattle.std.proofs.lemmas.Option.{slice_get-get_or}
-use Rattle.live_query.specs.LockHands.{QueuePass}
+use Rattle.live_query.specs.LockedQueues.{QueuePass}
 use Rattle.live_query.specs.LockParts.{Row}
 use Rattle.live_query.proofs.Fronts.{FrontsTo, front_rest, fronts_all, fronts_more}
 use Rattle.live_query.proofs.locks.take_fronts.Goals as goal

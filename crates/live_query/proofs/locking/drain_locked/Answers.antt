@@ -2,12 +2,13 @@
 use denote.Param.Send.{IsSync, sendable}
 use Rattle.std.proofs.Crossing.{crosses}
 use Rattle.query_core.proofs.Sends.{worker_sends}
-use Rattle.live_query.proofs.LockSends.{lock_hand_sends}
+use Rattle.live_query.proofs.drain_hand.DrainHand.TheSendSync as hand
+use Rattle.live_query.proofs.LockSends.{locked_queues_send}
 use Rattle.live_query.proofs.searcher.Searcher.TheSendSync.{the_send}
-use Rattle.live_query.proofs.locking.drain_row.Goals as goal
+use Rattle.live_query.proofs.locking.drain_locked.Goals as goal
 
 pub for_each_mut-requires-send-T : goal.for_each_mut-requires-send-T
 for_each_mut-requires-send-T g c κs within =
     let shared : IsSync g.row.R = record { shared = c.type_bounds.sync-R.shared } in
     let runs : IsSync g.row.T = record { shared = c.type_bounds.sync-T.shared } in
-    search (the_send, worker_sends, lock_hand_sends, crosses, sendable, shared, runs) depth 60 fits 20000
+    search (the_send, worker_sends, hand.the_send, locked_queues_send, crosses, sendable, shared, runs) depth 60 fits 20000
