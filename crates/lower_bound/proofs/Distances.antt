@@ -16,7 +16,7 @@ apart (x ∷ xs) [] = 0
 apart (x ∷ xs) (y ∷ ys) = unsigned_abs (x -ℤ y) + apart xs ys
 
 -- twice a product is at most the two squares
-twice_product : (a b : ℕ) → 2 * (a * b) ≤ a * a + b * b
+pub twice_product : (a b : ℕ) → 2 * (a * b) ≤ a * a + b * b
 twice_product a b =
     ⊎_elim (λ less. more a b (omega arith)) (λ least. omega (arith, more b a least)) (cases_lt a b)
   where

@@ -1,11 +1,7 @@
 -- The definitions of this crate, and those of the crates below that its public clauses cite.
 pub mod Means
 pub mod MeanBound
-pub mod Spread
 pub mod Boxes
-pub mod Cells
-pub mod Finer
-pub mod Kept
 pub use Rattle.segment_sums.specs.Division
 pub use Rattle.segment_sums.specs.Sum
 pub use Rattle.series_core.specs.Distance

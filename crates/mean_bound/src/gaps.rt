@@ -34,7 +34,7 @@ fn gaps(lows: u16x16, highs: u16x16, leasts: u16x16, greatests: u16x16) -> u16x1
 }
 
 /// How far each number lies above the other, and 0 where it does not.
-pub(crate) fn excess(a: u16x16, b: u16x16) -> u16x16
+fn excess(a: u16x16, b: u16x16) -> u16x16
     requires a { length a ≡ 16 }
     requires b { length b ≡ 16 }
     ensures { result ≡ zip2 (λ x y. x - y) a b }
@@ -69,7 +69,7 @@ fn cut(numbers: u16x16) -> u16x16
 }
 
 /// The squares of sixteen numbers of at most 16383.
-pub(crate) fn squares(numbers: u16x16) -> u32x16
+fn squares(numbers: u16x16) -> u32x16
     requires { Each1 (λ n. n ≤ 16383) numbers }
     ensures { result ≡ map square numbers }
 {

@@ -3,10 +3,8 @@ ghost use Rattle.std.specs.Prelude.{◌≡◌, ◌≤◌, ◌<◌, [], length, s
 ghost use Rattle.series_core.specs.Distance.{squared_distance};
 ghost use Rattle.mean_bound.specs.MeanBound.{mean_bound, mean_view_of};
 ghost use Rattle.mean_bound.specs.Boxes.{box_bound, box_of, box_of_boxes};
-ghost use Rattle.mean_bound.specs.Finer.{finer_bound, finer_means, finer_view};
 ghost use Rattle.mean_bound.specs.Means.{row_means};
 
-use crate::finer::FinerCuts;
 use crate::mean_box::MeanBox;
 use crate::means::Means;
 use crate::view::MeanView;
@@ -36,15 +34,3 @@ pub fn wider_box_bound_is_no_greater(view: &MeanView, boxes: &[MeanBox], i: usiz
     requires { i < length boxes.now }
     ensures { box_bound view.now (box_of_boxes boxes.now) ≤ box_bound view.now (slice_index_or boxes.now i (box_of [])) }
 {}
-
-/// The law that the bound of a series by its finer means is at most its distance.
-pub fn finer_bound_is_below_distance(cuts: &FinerCuts, query: &[i16], series: &[i16])
-    requires query_length { length query.now ≡ cuts.now }
-    requires series_length { length series.now ≡ cuts.now }
-    ensures { finer_bound (finer_view cuts.now query.now) (finer_means cuts.now series.now)
-        ≤ squared_distance series.now query.now }
-{
-    let _parts = cuts.parts();
-    values_fit(query);
-    values_fit(series);
-}

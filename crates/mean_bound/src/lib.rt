@@ -2,22 +2,14 @@
 //! can be to a query as far as its means tell. A bound is never above the distance.
 #![tactic(auto)]
 
-mod cells;
-mod finer;
 mod gaps;
 mod laws;
 mod mean_box;
 mod means;
-mod part;
-mod places;
-mod spread;
 mod view;
 
-pub use cells::MeanCells;
-pub use finer::{FinerCuts, FinerView};
 pub use laws::{
-    box_bound_is_no_greater, finer_bound_is_below_distance, mean_bound_is_below_distance,
-    wider_box_bound_is_no_greater,
+    box_bound_is_no_greater, mean_bound_is_below_distance, wider_box_bound_is_no_greater,
 };
 pub use mean_box::MeanBox;
 pub use means::Means;

@@ -4,7 +4,6 @@ ghost use Rattle.std.specs.Prelude.{◌≡◌, ◌*◌, ◌/◌, ◌≤◌, pos,
 ghost use Rattle.mean_bound.specs.Means.{of_segments, raised_sum, row_means, AreMeans, NoRaisedSumAbove};
 
 use segment_sums::Cuts;
-use series_core::values_fit;
 use std::marker::Model;
 use std::simd::prelude::*;
 
@@ -37,13 +36,8 @@ impl Means {
         requires { length row.now ≡ cuts.now.row_length }
         ensures { result ≡ row_means cuts.now row.now }
     {
-        match (cuts.segments(), cuts.length()) {
-            (16, 32) => Means::of_pairs(cuts, row),
-            _ => {
-                let (_sums, raised) = sums_and_means(cuts, row);
-                Means { raised }
-            }
-        }
+        let (_sums, raised) = sums_and_means(cuts, row);
+        Means { raised }
     }
 
     // The means in lanes.
@@ -52,23 +46,6 @@ impl Means {
         ensures sixteen { length result ≡ 16 }
     {
         u16x16::from_array(self.raised)
-    }
-
-    // The means of sixteen segments of two values each, which finer means are of most often.
-    fn of_pairs(cuts: &Cuts, row: &[i16]) -> Means
-        requires length { length row.now ≡ cuts.now.row_length }
-        requires sixteen { cuts.now.segments ≡ 16 }
-        requires pairs { cuts.now.row_length ≡ 32 }
-        ensures { result ≡ row_means cuts.now row.now }
-    {
-        // for the facts that the cuts divide, and that the values fit
-        let _segments = cuts.segments();
-        values_fit(row);
-        let mut raised = [0; 16];
-        for j in 0..16 {
-            raised[j] = mean_of_pair(row[2 * j], row[2 * j + 1]);
-        }
-        Means { raised }
     }
 }
 
@@ -129,14 +106,6 @@ fn mean_of(sum: u32, length: u32) -> u16
     ensures { result ≡ sum / length }
 {
     (sum / length) as u16
-}
-
-/// The mean of two values, each raised by 32768, rounded down.
-#[inline(always)]
-fn mean_of_pair(a: i16, b: i16) -> u16
-    ensures { result ≡ unsigned_abs (a +ℤ b +ℤ pos 65536) / 2 }
-{
-    ((i32::from(a) + i32::from(b) + 65536) as u32 / 2) as u16
 }
 
 /// The sums of a row's values, each raised by 32768, over each segment; the entries from the number of segments on are 0.

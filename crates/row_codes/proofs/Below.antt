@@ -4,6 +4,7 @@ use Rattle.std.specs.Prelude.{max, min}
 use Rattle.std.proofs.lemmas.Bool.{cases_lt}
 use Rattle.std.proofs.lemmas.List.{length-append, length-map, length-take, length-drop, append_assoc, map-append, take-append-drop}
 use Rattle.series_core.specs.Distance.{squared_distance}
+use Rattle.lower_bound.proofs.Distances.{squared_distance-append}
 use Rattle.row_codes.specs.Roots.{root, root_up, square}
 use Rattle.row_codes.specs.Codes.{code_of, doubled, pictured, places_squared, step_of}
 use Rattle.row_codes.specs.Rows.{block_codes, block_count, block_of, blocks_of, forgotten, row_codes, value_codes}
@@ -11,7 +12,7 @@ use Rattle.row_codes.specs.Bound.{AreCodesFor, HaveSquares, block_distance, boun
 use Rattle.row_codes.proofs.RootLemmas.{root_up_high}
 use Rattle.row_codes.proofs.Triangle.{distance_turned, side_left}
 use Rattle.row_codes.proofs.Pictures.{doubled_distance}
-use Rattle.row_codes.proofs.Lists.{distance_append, pictured_front}
+use Rattle.row_codes.proofs.Lists.{pictured_front}
 use Rattle.row_codes.proofs.OfBlocks.{front_codes, held_codes, length-block_codes}
 
 -- twice what the codes of a block's values stand for
@@ -56,10 +57,10 @@ below_from (suc k) us ps vs xs qs long_u long_p same =
     let long_own : length own ≡ length x = length-map (value_codes x) _ ∙ length-map x (code_of (step_of x)) in
     let long_dx : length (doubled x) ≡ length x = length-map x _ in
     let long_dq : length (doubled q) ≡ length q = length-map q _ in
-    let is_before : before ≡ squared_distance (us ++ doubled x) (ps ++ own) = sym (distance_append us ps (doubled x) own long_u) in
+    let is_before : before ≡ squared_distance (us ++ doubled x) (ps ++ own) = sym (squared_distance-append us ps (doubled x) own long_u) in
     let is_here : here ≡ squared_distance (ps ++ own) (vs ++ doubled q)
     = ap (λ n. squared_distance ps vs + n) (distance_of_block (squared_distance us ps) xs qs same)
-    ∙ sym (distance_append ps vs own (doubled q) long_p) in
+    ∙ sym (squared_distance-append ps vs own (doubled q) long_p) in
     let next_u : length (us ++ doubled x) ≡ length (ps ++ own)
     = omega (arith, length-append us (doubled x), length-append ps own, long_u, long_dx, long_own) in
     let next_p : length (ps ++ own) ≡ length (vs ++ doubled q)
@@ -81,7 +82,7 @@ below_from (suc k) us ps vs xs qs long_u long_p same =
     ≡ squared_distance ((us ++ doubled x) ++ doubled (drop 256 xs)) ((vs ++ doubled q) ++ doubled (drop 256 qs))
     = ap (λ l. squared_distance l (vs ++ doubled qs)) (parted us xs)
     ∙ ap (λ l. squared_distance ((us ++ doubled x) ++ doubled (drop 256 xs)) l) (parted vs qs) in
-    let sum = distance_append (us ++ doubled x) (vs ++ doubled q) (doubled (drop 256 xs)) (doubled (drop 256 qs)) next_v in
+    let sum = squared_distance-append (us ++ doubled x) (vs ++ doubled q) (doubled (drop 256 xs)) (doubled (drop 256 qs)) next_v in
     greater (bound_at here (root_up before)) (bound_from here (drop 256 qs) (blocks_of k before (drop 256 xs)))
     (squared_distance (us ++ doubled xs) (vs ++ doubled qs))
     (omega (arith, near, whole, sum)) (omega (arith, rest, rest_is, whole))

@@ -1,12 +1,13 @@
 -- Codes by a reciprocal are exact (`by_reciprocal`); and what loops over the values of a block and their codes add (`reach_more`,
 -- `code_more`, `places_more`, `forgotten_more`).
-use Rattle.std.proofs.Common.{◌≡◌, ℕ, zero, suc, ◌+◌, ◌-◌, ◌*◌, ◌/◌, ◌<◌, ◌≤◌, arith, ap, refl, sym, ◌∙◌, ◌⊎◌, inl, inr, ℤ, pos, negsuc, ◌+ℤ◌, ◌-ℤ◌, ◌*ℤ◌, add-one, replicate, List, [], ◌∷◌, ◌++◌, get_or, length, map, take, set}
-use Rattle.std.specs.Prelude.{max, unsigned_abs, ◌≤ℤ◌, ◌<ℤ◌}
-use Rattle.std.proofs.lemmas.Int.{ints}
+use Rattle.std.proofs.Common.{◌≡◌, ℕ, zero, suc, ◌+◌, ◌-◌, ◌*◌, ◌/◌, ◌<◌, ◌≤◌, arith, ap, refl, sym, ◌∙◌, ◌⊎◌, inl, inr, ℤ, pos, negsuc, ◌+ℤ◌, ◌-ℤ◌, ◌*ℤ◌, add-one, replicate, List, [], ◌∷◌, ◌++◌, get_or, length, map, take, set, subst, to_z, of_z}
+use Rattle.std.specs.Prelude.{FitsSigned, max, unsigned_abs, ◌≤ℤ◌, ◌<ℤ◌}
+use Rattle.std.proofs.lemmas.Int.{ints, to_z-of_z}
 use Rattle.std.proofs.lemmas.Bool.{cases_lt}
 use Rattle.std.proofs.lemmas.Nat.{mul-le}
 use Rattle.std.proofs.lemmas.List.{length-map, length-take-le, map-append, take_more}
 use Rattle.std.proofs.Math.Nat.{div-mul-le_self, lt-div-mul-add}
+use mir.Syntax.{w16}
 use Rattle.series_core.specs.Distance.{squared_difference, squared_distance}
 use Rattle.row_codes.specs.Roots.{square}
 use Rattle.row_codes.specs.Codes.{doubled, from_middle, pictured, place, places_squared, reach}
@@ -87,6 +88,13 @@ pub within_reach : (xs : List ℤ) (i : ℕ) (d : ℤ) → i < length xs → fro
 within_reach [] i d inside = absurd (omega (arith, inside))
 within_reach (x ∷ xs) zero d inside = omega arith
 within_reach (x ∷ xs) (suc i) d inside = omega (arith, within_reach xs i d (omega (arith, inside)))
+
+-- so a value that is handed on lies within a step that reaches as far as all
+pub handed_near : (xs : List ℤ) (i s : ℕ) → FitsSigned w16 (get_or xs i (pos 0)) → i < length xs → reach xs < 8 * s
+    → from_middle (to_z w16 (of_z w16 (get_or xs i (pos 0)))) < 8 * s
+handed_near xs i s fits inside near =
+    let low = within_reach xs i (pos 0) inside in
+    subst (λ z. from_middle z < 8 * s) (sym (to_z-of_z w16 (get_or xs i (pos 0)) fits)) (omega (arith, low, near))
 
 -- twice a value and twice what a code stands for, both taken from the least value that is coded
 pub left_is : (x : ℤ) (s c n : ℕ) → pos 0 ≤ℤ (x +ℤ pos (8 * s)) → n ≡ unsigned_abs (x +ℤ pos (8 * s))

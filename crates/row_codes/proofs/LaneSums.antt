@@ -4,12 +4,13 @@ use Rattle.std.specs.Prelude.{ℤ, pos, ◌+ℤ◌, ◌*ℤ◌, FitsSigned}
 use Rattle.std.specs.Int.{int_wrapping_add}
 use Rattle.std.specs.List.{All}
 use Rattle.std.proofs.lemmas.Int.{ints, to_z-of_z, wrapping_add_is, wrapping_mul_is, wrapping_add_onto, wrapping_add-bits, int_wrap-add_left, int_wrap-add_right, fits_signed_from_abs}
+use Rattle.std.proofs.lemmas.List.{length-map}
 use Rattle.std.proofs.lemmas.List.Elements.{All-head, All-tail, All-nil, All-cons, All-same}
 use Rattle.std.proofs.lemmas.List.FromFn.{fill_by_all}
 use Rattle.std.proofs.Math.Facts.{sfits_to_z}
 use lib.Lanes.{zip2, fold_l, Each1}
 use mir.Val.{to_z, of_z, Fits}
-use mir.Syntax.{w16, w32}
+use mir.Syntax.{Width, w16, w32}
 use Rattle.row_codes.specs.Lanes.{code_dot, lane_total, wrapped}
 
 -- a lane and the rest
@@ -118,31 +119,22 @@ lanes_are xs long =
     let all = fill_by_all at xs 16 (pos 0) long (λ k inside. refl) in
     subst (λ l. lanes l ≡ paired l) (sym all) refl
 
--- lanes that are handed on are the same
-pub handed_back : (xs : List ℤ) → All (FitsSigned w32) xs → map (to_z w32) (map (of_z w32) xs) ≡ xs
+-- what is handed on is the same, lanes and values alike
+pub handed_back : {w : Width} (xs : List ℤ) → All (FitsSigned w) xs → map (to_z w) (map (of_z w) xs) ≡ xs
 handed_back [] fits = refl
-handed_back (x ∷ xs) fits =
-    let fit = FitsSigned w32 in
-    let first = to_z-of_z w32 x (All-head fit x xs fits) in
-    let rest = handed_back xs (All-tail fit x xs fits) in
+handed_back {w} (x ∷ xs) fits =
+    let fit = FitsSigned w in
+    let first = to_z-of_z w x (All-head fit x xs fits) in
+    let rest = handed_back {w = w} xs (All-tail fit x xs fits) in
     λ i. first i ∷ rest i
 
--- so they fit
-pub handed_fit : (xs : List ℤ) → All (FitsSigned w32) xs → All (FitsSigned w32) (map (to_z w32) (map (of_z w32) xs))
-handed_fit xs fits = All-same (FitsSigned w32) (map (to_z w32) (map (of_z w32) xs)) xs (handed_back xs fits) fits
+-- so it fits
+pub handed_fit : {w : Width} (xs : List ℤ) → All (FitsSigned w) xs → All (FitsSigned w) (map (to_z w) (map (of_z w) xs))
+handed_fit {w} xs fits = All-same (FitsSigned w) (map (to_z w) (map (of_z w) xs)) xs (handed_back {w = w} xs fits) fits
 
--- values that are handed on are the same
-pub values_back : (xs : List ℤ) → All (FitsSigned w16) xs → map (to_z w16) (map (of_z w16) xs) ≡ xs
-values_back [] fits = refl
-values_back (x ∷ xs) fits =
-    let fit = FitsSigned w16 in
-    let first = to_z-of_z w16 x (All-head fit x xs fits) in
-    let rest = values_back xs (All-tail fit x xs fits) in
-    λ i. first i ∷ rest i
-
--- so they fit
-pub values_fit : (xs : List ℤ) → All (FitsSigned w16) xs → All (FitsSigned w16) (map (to_z w16) (map (of_z w16) xs))
-values_fit xs fits = All-same (FitsSigned w16) (map (to_z w16) (map (of_z w16) xs)) xs (values_back xs fits) fits
+-- and is as long
+pub handed_long : (w : Width) (xs : List ℤ) → length (map (to_z w) (map (of_z w) xs)) ≡ length xs
+handed_long w xs = length-map (map (of_z w) xs) (to_z w) ∙ length-map xs (of_z w)
 
 -- two sums, each up to multiples of 2^32
 pub both : (a b m n : ℤ) → wrapped a ≡ wrapped m → wrapped b ≡ wrapped n → wrapped (a +ℤ b) ≡ wrapped (m +ℤ n)
@@ -175,18 +167,4 @@ products_long f g [] vs same = refl
 products_long f g (c ∷ cs) [] same = absurd (omega (arith, same))
 products_long f g (c ∷ cs) (v ∷ vs) same =
     let rest = products_long f g cs vs (omega (arith, same)) in
-    omega (arith, rest)
-
--- and lanes that are handed on
-pub handed_long : (xs : List ℤ) → length (map (to_z w32) (map (of_z w32) xs)) ≡ length xs
-handed_long [] = refl
-handed_long (x ∷ xs) =
-    let rest = handed_long xs in
-    omega (arith, rest)
-
--- and values
-pub values_long : (xs : List ℤ) → length (map (to_z w16) (map (of_z w16) xs)) ≡ length xs
-values_long [] = refl
-values_long (x ∷ xs) =
-    let rest = values_long xs in
     omega (arith, rest)

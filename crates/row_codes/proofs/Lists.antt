@@ -1,18 +1,7 @@
--- Lists of values and codes: distances of lists that stand one behind the other (`distance_append`), and of what codes stand for from no
--- more values than there are (`pictured_front`).
-use Rattle.std.proofs.Common.{◌≡◌, ℕ, zero, suc, ◌+◌, ◌≤◌, arith, refl, ℤ, List, [], ◌∷◌, ◌++◌, length, take}
+-- Lists of values and codes: how far what codes stand for lies from no more values than there are (`pictured_front`).
+use Rattle.std.proofs.Common.{◌≡◌, ℕ, zero, suc, ◌≤◌, arith, refl, ℤ, List, [], ◌∷◌, length, take}
 use Rattle.series_core.specs.Distance.{squared_distance}
 use Rattle.row_codes.specs.Codes.{doubled, pictured}
-
--- the distances of two lists, and of two that stand behind them, add up
-pub distance_append : (us vs xs ys : List ℤ) → length us ≡ length vs
-    → squared_distance (us ++ xs) (vs ++ ys) ≡ squared_distance us vs + squared_distance xs ys
-distance_append [] [] xs ys same = omega arith
-distance_append [] (v ∷ vs) xs ys same = absurd (omega (arith, same))
-distance_append (u ∷ us) [] xs ys same = absurd (omega (arith, same))
-distance_append (u ∷ us) (v ∷ vs) xs ys same =
-    let rest = distance_append us vs xs ys (omega (arith, same)) in
-    omega (arith, rest)
 
 -- of n codes at most, only so many values count, and of the codes only as many as these
 pub pictured_front : (n s : ℕ) (cs : List ℕ) (qs : List ℤ) → length cs ≤ n

@@ -1,8 +1,9 @@
--- How a query stands behind some blocks of a row: before the first (`stands_first`), behind one more (`stands_more`), and in the end, or
+-- How a query stands behind some blocks of a row: before the first (`stands_first`), behind one more (`stands_more`, `stands_next`), and in the end, or
 -- where it is too far already (`stands_last`, `stands_far`).
-use Rattle.std.proofs.Common.{◌≡◌, ℕ, suc, ◌+◌, ◌-◌, ◌*◌, ◌<◌, ◌≤◌, arith, sym, ap, ◌∙◌, refl, subst, Bool, true, false, not, leb, ℤ, List, ◌∷◌, length, drop, get_or}
+use Rattle.std.proofs.Common.{◌≡◌, ℕ, suc, ◌+◌, ◌-◌, ◌*◌, ◌<◌, ◌≤◌, arith, sym, ap, ◌∙◌, refl, subst, Bool, true, false, not, leb, ℤ, List, ◌∷◌, length, drop, get_or, slice_index}
 use Rattle.std.specs.Prelude.{◌&&◌}
 use Rattle.std.proofs.lemmas.Bool.{leb-true, leb-false, le-leb, lt-leb}
+use Rattle.std.proofs.lemmas.Grind.{get_or_default_zero}
 use Rattle.std.proofs.lemmas.List.{drop_all}
 use Rattle.std.proofs.Math.Seq.{drop-cons}
 use Rattle.row_codes.specs.Rows.{Block}
@@ -61,6 +62,17 @@ stands_more query codes limit k squared after within next b inside is_b stands i
     by_test true false is =
         far_more query codes limit squared k b inside is_b
         (subst (λ n. limit < bound_at n b.rest) is_after (leb-false (bound_at after b.rest) limit is))
+
+-- and so where the limit is one of a list
+pub stands_next : (query : List ℤ) (codes : List Block) (limits : List ℕ) (at k squared after : ℕ) (within next : Bool) (b : Block)
+    (d : ℕ) → at < length limits → k < length codes → b ≡ get_or codes k b
+    → Stands query codes (slice_index limits at) k squared within
+    → after ≡ squared + block_distance (drop (256 * k) query) b → after ≤ 8383759384576 * (k + 1)
+    → next ≡ (within && leb (bound_at after b.rest) (get_or limits at d))
+    → Stands query codes (slice_index limits at) (k + 1) after next
+stands_next query codes limits at k squared after within next b d there inside is_b stands is_after small is_next =
+    stands_more query codes (slice_index limits at) k squared after within next b inside is_b stands is_after small
+    (is_next ∙ ap (λ l. within && leb (bound_at after b.rest) l) (get_or_default_zero limits at d there))
 
 -- in the end
 pub stands_last : (query : List ℤ) (codes : List Block) (limit k squared : ℕ) (within : Bool) → length codes ≤ k

@@ -1,10 +1,11 @@
 -- The triangle inequality in squares, by that of Cauchy: a side is as long at least as another is longer than the third (`side_left`).
-use Rattle.std.proofs.Common.{◌≡◌, ℕ, zero, suc, ◌+◌, ◌-◌, ◌*◌, ◌<◌, ◌≤◌, arith, refl, ap, subst, ⊎_elim, ◌⊎◌, inl, inr, ℤ, ◌-ℤ◌, List, [], ◌∷◌, length}
+use Rattle.std.proofs.Common.{◌≡◌, ℕ, zero, suc, ◌+◌, ◌-◌, ◌*◌, ◌<◌, ◌≤◌, arith, refl, ap, subst, ◌⊎◌, inl, inr, ℤ, ◌-ℤ◌, List, [], ◌∷◌, length}
 use Rattle.std.specs.Prelude.{unsigned_abs}
 use Rattle.std.proofs.lemmas.Int.{ints}
 use Rattle.std.proofs.lemmas.Bool.{cases_lt}
 use Rattle.std.proofs.lemmas.Nat.{mul-le}
 use Rattle.series_core.specs.Distance.{squared_difference, squared_distance}
+use Rattle.lower_bound.proofs.Distances.{twice_product}
 use Rattle.row_codes.specs.Roots.{root, square}
 use Rattle.row_codes.proofs.RootLemmas.{root_below, root_low}
 
@@ -18,21 +19,6 @@ crossed [] vs bs = 0
 crossed (a ∷ us) [] bs = 0
 crossed (a ∷ us) (v ∷ vs) [] = 0
 crossed (a ∷ us) (v ∷ vs) (b ∷ bs) = gap a v * gap v b + crossed us vs bs
-
--- twice a product is at most the two squares
-twice_product : (a b : ℕ) → 2 * (a * b) ≤ a * a + b * b
-twice_product a b =
-    ⊎_elim (λ less. more a b (omega arith)) (λ least. omega (arith, more b a least)) (cases_lt a b)
-  where
-    -- the square of the excess is what is left over
-    by_excess : (a k : ℕ) → 2 * (a * (a + k)) ≤ a * a + (a + k) * (a + k)
-    by_excess a k = omega arith
-
-    -- the claim where the first number is not the greater
-    more : (a b : ℕ) → a ≤ b → 2 * (a * b) ≤ a * a + b * b
-    more a b less =
-        let is : a + (b - a) ≡ b = omega arith in
-        subst (λ n. 2 * (a * n) ≤ a * a + n * n) is (by_excess a (b - a))
 
 -- twice a product with all crossed products is at most the squares of one side times those of the other
 mixed : (x y : ℕ) (us vs bs : List ℤ)

@@ -17,7 +17,7 @@ use Rattle.subtree_build.specs.declared.leaf.TreeLeaf.{TreeLeaf}
 use Rattle.subtree_build.specs.Assembly.{HasMeansOf}
 use Rattle.subtree_build.specs.Fits.{Fits, MembersAreSeries, WordContainsMembers, times_in}
 use Rattle.subtree_build.specs.Index.{IndexParts}
-use Rattle.subtree_build.specs.Means.{leaf_means, leaf_finer}
+use Rattle.subtree_build.specs.Means.{leaf_means, leaf_codes}
 use Rattle.subtree_build.specs.Members.{numbers_of}
 use Rattle.saved_index.specs.Membership.{first_unfit_of, is_unfit, leaf_weight, weight, weight_for}
 
@@ -153,5 +153,5 @@ fits_by_weight c layout ix jx segments own below none means =
       own_words = subst Own (sym means.leaves) own;
       contained = subst Contained (sym means.leaves) (all_contained (length c.series) ix.leaves below none);
       own_means = means.own_means ∙ ap (map (leaf_means c layout)) (sym means.leaves);
-      own_finer = means.own_finer ∙ ap (map (leaf_finer c)) (sym means.leaves);
+      own_codes = means.own_codes ∙ ap (map (leaf_codes c)) (sym means.leaves);
     }

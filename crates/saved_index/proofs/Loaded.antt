@@ -121,16 +121,16 @@ module _ (c : Collection) (bytes : List ℕ) (r : Spelled) (each : (i : ℕ) →
     module _ (jx : IndexParts) (means : HasMeansOf c settings.layout ix jx) (count : ℕ) (all : count ≡ length c.series)
         (none : None ≡ first_unfit_of ix.leaves count) where
       js : IsIndex jx
-      js = subst IsIndex same (other_means ix jx.means jx.finer is)
+      js = subst IsIndex same (other_means ix jx.means jx.codes is)
         where
-          same : record ix { means = jx.means; finer = jx.finer } ≡ jx
+          same : record ix { means = jx.means; codes = jx.codes } ≡ jx
           same i = record {
             segments = sym means.segments i;
             roots = sym means.roots i;
             nodes = sym means.nodes i;
             leaves = sym means.leaves i;
             means = jx.means;
-            finer = jx.finer;
+            codes = jx.codes;
           }
 
       fits : Fits c settings.layout jx

@@ -14,7 +14,7 @@ use Rattle.subtree_build.specs.declared.settings.Settings.{Settings}
 use Rattle.subtree_build.specs.Division.{leaf_with}
 use Rattle.subtree_build.specs.Fits.{HasItsWord, MembersAreSeries}
 use Rattle.subtree_build.specs.Index.{IndexParts, IsIndex}
-use Rattle.subtree_build.specs.Means.{leaf_means, leaf_finer}
+use Rattle.subtree_build.specs.Means.{leaf_means, leaf_codes}
 use Rattle.subtree_build.specs.Members.{numbers_of, series_at}
 use Rattle.subtree_build.specs.Outline.{outline, leaf_numbers}
 use Rattle.subtree_build.specs.Tree.{Tree, absent, leaf, split, leaves_of, numbered, all_numbered}
@@ -151,6 +151,6 @@ same_index c s t m n ix jx of_ix of_jx same =
         leaves = leaves;
         means = of_ix.fits.own_means ∙ ap (map (leaf_means c s.layout)) leaves
             ∙ ap (λ (l : Layout). map (leaf_means c l) jx.leaves) layout ∙ sym of_jx.fits.own_means;
-        finer = of_ix.fits.own_finer ∙ ap (map (leaf_finer c)) leaves ∙ sym of_jx.fits.own_finer;
+        codes = of_ix.fits.own_codes ∙ ap (map (leaf_codes c)) leaves ∙ sym of_jx.fits.own_codes;
       },
     )

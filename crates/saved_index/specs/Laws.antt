@@ -37,7 +37,7 @@ pub record AreSame (ix jx : IndexParts) : Type 0 where
   pub nodes : map outline ix.nodes ≡ map outline jx.nodes
   pub leaves : ix.leaves ≡ jx.leaves
   pub means : ix.means ≡ jx.means
-  pub finer : ix.finer ≡ jx.finer
+  pub codes : ix.codes ≡ jx.codes
 
 -- indexes that fit one collection and have one text are the same, and have the same settings
 abbrev pub TextTellsIndex : Type 0

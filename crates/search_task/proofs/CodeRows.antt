@@ -6,14 +6,14 @@ use Rattle.std.specs.Prelude.{flat_map, ltb}
 use Rattle.std.specs.List.{All}
 use Rattle.std.proofs.Math.Nat.{mul-le-mul_right}
 use Rattle.std.proofs.lemmas.Grind.{flat_map-append}
-use Rattle.std.proofs.lemmas.List.{length-take, length-take-le, map-append, take_all}
+use Rattle.std.proofs.lemmas.List.{length-take-le, map-append, take_all}
 use Rattle.std.proofs.lemmas.List.Elements.{All-from_get_or, All-get_or}
 use Rattle.list_totals.specs.Totals.{once_below, times, total}
 use Rattle.list_totals.proofs.Totals.{times_append}
 use Rattle.isax_word.specs.declared.layout.Layout.{Layout}
 use Rattle.isax_word.specs.declared.member.Member.{Member}
 use Rattle.row_codes.specs.Bound.{AreCodesFor, code_bound}
-use Rattle.row_codes.specs.Rows.{Block, block_count, blocks_of, row_codes}
+use Rattle.row_codes.specs.Rows.{Block, block_count, row_codes}
 use Rattle.row_codes.proofs.Below.{bound_below, have_squares}
 use Rattle.series_core.specs.Collection.{Collection, IsCollection}
 use Rattle.series_core.specs.Distance.{squared_distance}
@@ -76,17 +76,11 @@ coded_alike true n x q long same some =
 coded_alike false n x q long same some =
     length-take-le n q (omega (arith, same)) ∙ sym (length-take-le n x (omega (arith, long)))
 
--- a short row makes no block
-no_blocks : (n : ℕ) → n < 16 → block_count n ≡ 0
-no_blocks n short = omega (arith, short)
-
 -- the bound by codes, of which there may be none
 below_or_none : (none : Bool) (n : ℕ) (x q : List ℤ) → length x ≡ n → length q ≡ n
     → code_bound (take (cond none 1 n) q) (row_codes (take (cond none 1 n) x)) ≤ squared_distance x q
-below_or_none true n x q long same = none_coded (take 1 x) (omega (arith, length-take 1 x))
-  where
-    none_coded : (y : List ℤ) → length y < 16 → code_bound (take 1 q) (row_codes y) ≤ squared_distance x q
-    none_coded y short = subst (λ k. code_bound (take 1 q) (blocks_of k 0 y) ≤ squared_distance x q) (sym (no_blocks (length y) short)) (omega arith)
+below_or_none true n [] q long same = omega arith
+below_or_none true n (v ∷ x) q long same = omega arith
 below_or_none false n x q long same =
     subst (λ y. code_bound (take n q) (row_codes y) ≤ squared_distance x q) (sym (take_all n x (omega (arith, long))))
     (subst (λ r. code_bound r (row_codes x) ≤ squared_distance x q) (sym (take_all n q (omega (arith, same))))

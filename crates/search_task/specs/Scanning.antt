@@ -29,6 +29,6 @@ AreScanned a limit numbers before after =
     (ix : IndexParts) (workers queues : ℕ) → after ≡ scan (search_over a ix workers queues) limit numbers before
 
 -- members of the question's collection, and the codes of their rows one behind another
-pub record AreCoded (a : Question) (members : List Member) (codes : List Block) : Type 0 where
-  pub members : All (IsMemberOf a) members
-  pub codes : codes ≡ all_codes a.collection members
+pub record AreCoded (a : Question) (ms : List Member) (bs : List Block) : Type 0 where
+  pub members : All (IsMemberOf a) ms
+  pub codes : bs ≡ all_codes a.collection ms

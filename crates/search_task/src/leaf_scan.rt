@@ -56,9 +56,8 @@ impl<'a, R: Rows> Search<'a, R> {
     {
         let members = self.index.leaf_members(leaf);
         let codes = self.index.leaf_codes(leaf);
-        let member = &members[place];
-        let own = codes_at_place(codes, self.task.code_blocks(), place);
-        self.task.codes_may_be_within(member, own, limit)
+        self.task
+            .codes_at_may_be_within(members, codes, place, limit)
     }
 
     /// A bound that is above the distance of no member of the leaf: that of the box of their means.
@@ -122,8 +121,28 @@ impl<'a, R: Rows> Task<'a, R> {
         }
     }
 
+    // Whether the codes of the member at a place do not lie above the limit. Where they do, so does its distance.
+    fn codes_at_may_be_within(
+        &self,
+        members: &[Member],
+        codes: &[CodeBlock],
+        place: usize,
+        limit: &CodeLimit,
+    ) -> bool
+        requires coded { AreCoded self.now members.now codes.now }
+        requires place { place < length members.now }
+        ensures { let s = slice_index (numbers_of members.now) place in result ≡ false
+            → limit.now < squared_distance (series_at self.now.collection s) self.now.query }
+    {
+        let blocks = self.code_blocks();
+        let member = &members[place];
+        let own = codes_at_place(codes, blocks, place);
+        self.codes_may_be_within(member, own, limit)
+    }
+
     /// Adds the member's pair where it is near and its distance is at most `most`, and tells what is then the most. As a limit of codes it
     /// is made anew only where it changes.
+    #[inline(always)]
     pub fn measure_near(
         &self,
         near: bool,

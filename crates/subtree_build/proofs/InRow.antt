@@ -1,5 +1,5 @@
--- Leaves that lie behind one another in the row of all members: their members are all of these (`members_seen`), and the finer means
--- that stand for them are all finer means (`codes_seen_are_all`).
+-- Leaves that lie behind one another in the row of all members: their members are all of these (`members_seen`), and the codes
+-- that stand for them are all codes (`codes_seen_are_all`).
 use Rattle.std.proofs.Common.{◌≡◌, ◌∙◌, ℕ, ◌+◌, ◌-◌, ◌*◌, List, [], ◌∷◌, ◌++◌, length, take, drop, refl, sym, ap, arith}
 use Rattle.std.specs.Prelude.{flat_map}
 use Rattle.std.proofs.lemmas.List.{drop_all, drop-drop, length-drop, take-append-drop}
@@ -30,30 +30,30 @@ members_seen members places seen =
     ap (flat_map (λ (x : TreeLeaf). x.members)) (ap (leaves_seen members) seen.lie ∙ seen_is_cut members 0 seen.leaves)
     ∙ all_in_row seen.leaves members seen.whole
 
--- the finer means at the places of leaves that lie behind one another, with `parts` parts a member, are all from the first on
-codes_in_row : (parts first : ℕ) (codes : List Block) (leaves : List GrownLeaf)
-    → length codes ≡ (first + members_in leaves) * parts
-    → flat_map (λ (cs : List Block). cs) (codes_seen parts codes (places_from first leaves)) ≡ drop (first * parts) codes
-codes_in_row parts first codes [] long =
-    let end : length codes ≡ first * parts = long ∙ ap (λ n. n * parts) (omega arith) in
-    sym (drop_all (first * parts) codes (omega (arith, end)))
-codes_in_row parts first codes (l ∷ leaves) long =
+-- the codes at the places of leaves that lie behind one another, with so many blocks a member, are all from the first on
+codes_in_row : (blocks first : ℕ) (codes : List Block) (leaves : List GrownLeaf)
+    → length codes ≡ (first + members_in leaves) * blocks
+    → flat_map (λ (cs : List Block). cs) (codes_seen blocks codes (places_from first leaves)) ≡ drop (first * blocks) codes
+codes_in_row blocks first codes [] long =
+    let end : length codes ≡ first * blocks = long ∙ ap (λ n. n * blocks) (omega arith) in
+    sym (drop_all (first * blocks) codes (omega (arith, end)))
+codes_in_row blocks first codes (l ∷ leaves) long =
     let count : first + l.count - first ≡ l.count = omega arith in
-    let whole : length codes ≡ (first + l.count + members_in leaves) * parts = long ∙ ap (λ n. n * parts) (omega arith) in
-    let further : first * parts + l.count * parts ≡ (first + l.count) * parts = omega arith in
-    ap (λ n. take (n * parts) (drop (first * parts) codes)
-    ++ flat_map (λ (cs : List Block). cs) (codes_seen parts codes (places_from (first + l.count) leaves))) count
-    ∙ ap (λ cs. take (l.count * parts) (drop (first * parts) codes) ++ cs)
-    (codes_in_row parts (first + l.count) codes leaves whole
-    ∙ ap (λ n. drop n codes) (sym further) ∙ sym (drop-drop (l.count * parts) (first * parts) codes))
-    ∙ take-append-drop (l.count * parts) (drop (first * parts) codes)
+    let whole : length codes ≡ (first + l.count + members_in leaves) * blocks = long ∙ ap (λ n. n * blocks) (omega arith) in
+    let further : first * blocks + l.count * blocks ≡ (first + l.count) * blocks = omega arith in
+    ap (λ n. take (n * blocks) (drop (first * blocks) codes)
+    ++ flat_map (λ (cs : List Block). cs) (codes_seen blocks codes (places_from (first + l.count) leaves))) count
+    ∙ ap (λ cs. take (l.count * blocks) (drop (first * blocks) codes) ++ cs)
+    (codes_in_row blocks (first + l.count) codes leaves whole
+    ∙ ap (λ n. drop n codes) (sym further) ∙ sym (drop-drop (l.count * blocks) (first * blocks) codes))
+    ∙ take-append-drop (l.count * blocks) (drop (first * blocks) codes)
 
 -- and at the places of all members they are all
-pub codes_seen_are_all : (parts : ℕ) (codes : List Block) (members : List Member) (places : List LeafPlace)
-    → length codes ≡ length members * parts → AreAllSeen members places
-    → flat_map (λ (cs : List Block). cs) (codes_seen parts codes places) ≡ codes
-codes_seen_are_all parts codes members places long seen =
-    let none : 0 * parts ≡ 0 = omega arith in
-    ap (λ ps. flat_map (λ (cs : List Block). cs) (codes_seen parts codes ps)) seen.lie
-    ∙ codes_in_row parts 0 codes seen.leaves (long ∙ ap (λ n. n * parts) (omega (arith, seen.whole)))
+pub codes_seen_are_all : (blocks : ℕ) (codes : List Block) (members : List Member) (places : List LeafPlace)
+    → length codes ≡ length members * blocks → AreAllSeen members places
+    → flat_map (λ (cs : List Block). cs) (codes_seen blocks codes places) ≡ codes
+codes_seen_are_all blocks codes members places long seen =
+    let none : 0 * blocks ≡ 0 = omega arith in
+    ap (λ ps. flat_map (λ (cs : List Block). cs) (codes_seen blocks codes ps)) seen.lie
+    ∙ codes_in_row blocks 0 codes seen.leaves (long ∙ ap (λ n. n * blocks) (omega (arith, seen.whole)))
     ∙ ap (λ n. drop n codes) none

@@ -37,5 +37,5 @@ pub mod Assembling
 pub mod Flattened
 pub mod Numbering
 pub mod Assembled
-pub mod CodedPoints
+pub mod MemberCodes
 pub mod LeafSteps

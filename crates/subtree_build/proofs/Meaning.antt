@@ -1,15 +1,10 @@
 -- Means in the order of all members: cut by the places of leaves they are those of the leaves (`means_are_own`), what holds of
 -- the members of all leaves holds of all members (`all_cut`), and one more stands behind (`map_push`); the means of a leaf
--- of an index that fits are those of its members (`means_of_leaf`), one by one (`means_of_one`); and so for finer means; and tables by them are tables (`tables_are`).
+-- of an index that fits are those of its members (`means_of_leaf`), one by one (`means_of_one`).
 use Rattle.std.proofs.Common.{◌≡◌, ℕ, ◌+◌, ◌-◌, ◌*◌, ◌<◌, List, [], ◌∷◌, ◌++◌, length, take, drop, map, get_or, refl, sym, ap, ◌∙◌, subst, arith, All}
 use Rattle.std.proofs.lemmas.List.{length-map, take-append-drop, take-map, drop-map, map-append, take_more, take_all, take-append-le, length-drop, length-take-le, get_or-map, ext_get_or}
-use Rattle.std.proofs.lemmas.List.Concat.{get_or-flat_map}
-use Rattle.std.proofs.lemmas.List.FromFn.{length-map-range_with_len, get_or-map-range_with_len}
 use Rattle.std.proofs.lemmas.List.Elements.{All-nil, All-append, All-head, All-tail}
 use Rattle.series_core.specs.Collection.{Collection}
-use Rattle.mean_bound.proofs.Parts.{part_few}
-use Rattle.mean_bound.specs.Cells.{Cells, no_cells}
-use Rattle.mean_bound.specs.Finer.{part_cells, part_count}
 use Rattle.isax_word.specs.declared.layout.Layout.{Layout}
 use Rattle.isax_word.specs.declared.member.Member.{Member}
 use Rattle.subtree_build.specs.declared.leaf.GrownLeaf.{GrownLeaf}
@@ -19,11 +14,9 @@ use Rattle.subtree_build.specs.Division.{leaf_with}
 use Rattle.subtree_build.specs.Grown.{cut_leaves, members_in}
 use Rattle.subtree_build.specs.Fits.{Fits}
 use Rattle.subtree_build.specs.Index.{IndexParts, leaf_at, no_leaf}
-use Rattle.subtree_build.specs.Means.{means_of, all_means, leaf_means, means_at, codes_of_member, coded_points, all_codes, leaf_codes, codes_at}
+use Rattle.subtree_build.specs.Means.{means_of, all_means, leaf_means, means_at}
 use Rattle.subtree_build.specs.declared.tables.Tables.{Tables}
-use Rattle.subtree_build.specs.Places.{leaves_seen, means_seen, codes_seen, AreTables, AreTablesOf}
-use Rattle.subtree_build.specs.Members.{series_at}
-use Rattle.subtree_build.proofs.Flattened.{length_pieces, drop_pieces, take_pieces, first_piece, drop_at}
+use Rattle.subtree_build.specs.Places.{leaves_seen, means_seen, AreTablesOf}
 
 -- the means of all members, cut by places, are those of the leaves at the places
 pub means_are_own : (c : Collection) (layout : Layout) (members : List Member) (means : List (List ℕ))
@@ -96,73 +89,6 @@ pub means_there : (c : Collection) (layout : Layout) (members : List Member) (i 
     → m ≡ get_or members i m → means_of c layout m ≡ get_or (all_means c layout members) i []
 means_there c layout members i m inside item =
     ap (means_of c layout) item ∙ sym (get_or-map (means_of c layout) members i m [] inside)
-
--- a member has cells for each part
-codes_long : (c : Collection) (m : Member) → length (codes_of_member c m) ≡ part_count (coded_points c)
-codes_long c m = length-map-range_with_len (part_cells (coded_points c) (series_at c m.number)) 0 (part_count (coded_points c))
-
--- so the finer means of all members are as many as the members times the parts of each
-pub length_codes : (c : Collection) (members : List Member)
-    → length (all_codes c members) ≡ length members * part_count (coded_points c)
-length_codes c members = length_pieces (codes_of_member c) (part_count (coded_points c)) (codes_long c) members
-
--- the cells of part p of a member stand p places behind those of the members before it
-pub finer_place : (c : Collection) (members : List Member) (i p : ℕ) (m : Member) → i < length members
-    → p < part_count (coded_points c) → m ≡ get_or members i m
-    → part_cells (coded_points c) (series_at c m.number) p
-    ≡ get_or (all_codes c members) (i * part_count (coded_points c) + p) no_cells
-finer_place c members i p m inside low item =
-    let n = part_count (coded_points c) in
-    let own = get_or members i m in
-    let before : length (all_codes c (take i members)) ≡ i * n
-    = length_codes c (take i members) ∙ ap (λ k. k * n) (length-take-le i members (omega arith)) in
-    ap (λ (x : Member). part_cells (coded_points c) (series_at c x.number) p) item
-    ∙ sym (get_or-map-range_with_len (part_cells (coded_points c) (series_at c own.number)) 0 n p p no_cells low (omega arith))
-    ∙ sym (get_or-flat_map (codes_of_member c) members i p m no_cells inside (omega (arith, low, codes_long c own)))
-    ∙ ap (λ k. get_or (all_codes c members) (k + p) no_cells) before
-
--- the finer means of all members, cut by places, are those of the leaves at the places
-pub codes_are_own : (c : Collection) (members : List Member) (codes : List Block) (places : List LeafPlace)
-    → codes ≡ all_codes c members
-    → codes_seen (part_count (coded_points c)) codes places ≡ map (leaf_codes c) (leaves_seen members places)
-codes_are_own c members codes [] are = refl
-codes_are_own c members codes (p ∷ places) are =
-    let n = part_count (coded_points c) in
-    let count = p.end - p.first in
-    let here : take (count * n) (drop (p.first * n) codes) ≡ all_codes c (take count (drop p.first members))
-    = ap (λ (ms : List Block). take (count * n) (drop (p.first * n) ms)) are
-    ∙ ap (take (count * n)) (drop_pieces (codes_of_member c) n (codes_long c) p.first members)
-    ∙ take_pieces (codes_of_member c) n (codes_long c) count (drop p.first members) in
-    let rest = codes_are_own c members codes places are in
-    λ i. here i ∷ rest i
-
--- the finer means of a leaf of an index that fits are those of its members' series
-pub codes_of_leaf : (c : Collection) (layout : Layout) (ix : IndexParts) (l : ℕ) → Fits c layout ix
-    → l < length ix.leaves → codes_at ix.codes l ≡ all_codes c (leaf_at ix.leaves l).members
-codes_of_leaf c layout ix l fits real =
-    ap (λ (ms : List (List Block)). codes_at ms l) fits.own_codes
-    ∙ get_or-map (leaf_codes c) ix.leaves l no_leaf [] real
-
--- and those of each of them stand behind those of the members before it
-pub codes_of_one : (c : Collection) (members : List Member) (i : ℕ) (m : Member) → i < length members
-    → m ≡ get_or members i m
-    → take (part_count (coded_points c)) (drop (i * part_count (coded_points c)) (all_codes c members)) ≡ codes_of_member c m
-codes_of_one c members i m inside item =
-    let n = part_count (coded_points c) in
-    ap (take n) (drop_pieces (codes_of_member c) n (codes_long c) i members)
-    ∙ ap (λ (ms : List Member). take n (all_codes c ms)) (drop_at members i m inside item)
-    ∙ first_piece (codes_of_member c) n (codes_long c) m (drop (i + 1) members)
-
--- the tables of the members and places are tables beside them
-pub tables_are : (rows : Collection) (layout : Layout) (members : List Member) (places : List LeafPlace) (t : Tables)
-    → AreTablesOf rows layout members places t → AreTables members places t
-tables_are rows layout members places t are = record {
-  means_each = ap (λ (ms : List (List ℕ)). length ms) are.means ∙ length-map members (means_of rows layout);
-  few_blocks = omega (arith, are.parts, part_few (coded_points rows));
-  codes_each = ap (λ (ms : List Block). length ms) are.codes ∙ length_codes rows members
-      ∙ ap (λ n. length members * n) (sym are.parts);
-  boxes_are = are.boxes;
-}
 
 -- the slices that were handed on are the lists
 pub own_tables : (rows : Collection) (layout : Layout) (members lent : List Member) (places shown : List LeafPlace) (t : Tables)

@@ -1,21 +1,17 @@
--- Rows of members, one behind another: how long they are (`values_long`), one row more (`one_row_more`),
--- where the row of a member lies (`row_there`), and so what its means are (`part_means`, `part_codes`).
-use Rattle.std.proofs.Common.{◌≡◌, ℕ, ℤ, zero, suc, ◌+◌, ◌-◌, ◌*◌, ◌<◌, ◌≤◌, arith, sym, ap, ◌∙◌, List, [], ◌∷◌, ◌++◌, length, take, drop, get_or, All, append-nil, length-append, subst}
-use Rattle.std.specs.Prelude.{flat_map}
+-- Rows of members, one behind another: how long they are (`values_long`), where the row of a member lies (`row_there`, `own_row`), and
+-- so what its means are (`part_means`).
+use Rattle.std.proofs.Common.{◌≡◌, ℕ, ℤ, zero, suc, ◌+◌, ◌-◌, ◌*◌, ◌<◌, ◌≤◌, arith, sym, ap, ◌∙◌, List, [], ◌∷◌, ◌++◌, length, take, drop, get_or, All, append-nil, length-append}
 use Rattle.std.proofs.Math.Nat.{mul-le-mul_right}
 use Rattle.std.proofs.Math.Seq.{drop-append-add, take-append_seam}
-use Rattle.std.proofs.lemmas.Grind.{flat_map-append}
-use Rattle.std.proofs.lemmas.List.{get_or_default, take_more}
+use Rattle.std.proofs.lemmas.List.{get_or_default, length-drop, length-take-le}
 use Rattle.std.proofs.lemmas.List.Elements.{All-head, All-tail}
 use Rattle.series_core.specs.Collection.{Collection, IsCollection}
 use Rattle.isax_word.specs.declared.layout.Layout.{Layout}
 use Rattle.isax_word.specs.declared.member.Member.{Member}
-use Rattle.mean_bound.specs.Cells.{no_cells}
-use Rattle.mean_bound.specs.Finer.{part_cells, part_count}
 use Rattle.mean_bound.specs.Means.{row_means}
-use Rattle.subtree_build.specs.Means.{all_codes, all_means, all_values, coded_points}
+use Rattle.subtree_build.specs.Means.{all_means, all_values}
 use Rattle.subtree_build.specs.Members.{series_at}
-use Rattle.subtree_build.proofs.Meaning.{finer_place, means_there}
+use Rattle.subtree_build.proofs.Meaning.{means_there}
 
 -- members that are series of a collection
 abbrev pub AreSeries : Collection → List Member → Type 0
@@ -33,21 +29,6 @@ values_long c (x ∷ xs) sound are =
     let long = series_long c x.number sound (All-head (λ y. y.number < length c.series) x xs are) in
     let rest = values_long c xs sound (All-tail (λ y. y.number < length c.series) x xs are) in
     omega (arith, length-append (series_at c x.number) (all_values c xs), long, rest)
-
--- the row of the next member stands behind those before it
-pub one_row_more : (c : Collection) (members : List Member) (i : ℕ) (m : Member) (front row : List ℤ) → i < length members
-    → m ≡ get_or members i m → front ≡ all_values c (take i members) → row ≡ series_at c m.number
-    → front ++ row ≡ all_values c (take (i + 1) members)
-one_row_more c members i m front row inside item are is =
-    let f : Member → List ℤ = λ x. series_at c x.number in
-    ap (λ xs. xs ++ row) are
-    ∙ ap (λ xs. all_values c (take i members) ++ xs) (is ∙ alone f m)
-    ∙ sym (flat_map-append f (take i members) (m ∷ []))
-    ∙ ap (λ x. all_values c (take i members ++ x ∷ [])) item
-    ∙ ap (all_values c) (sym (take_more members i m inside))
-  where
-    alone : (f : Member → List ℤ) (m : Member) → f m ≡ flat_map f (m ∷ [])
-    alone f m = sym (append-nil (f m))
 
 -- the row of member i lies behind i rows
 pub row_there : (c : Collection) (members : List Member) (i : ℕ) (m : Member) → IsCollection c → AreSeries c members
@@ -73,7 +54,7 @@ row_there c (x ∷ xs) (suc i) m sound are inside item =
     ∙ row_there c xs i m sound (All-tail (λ y. y.number < length c.series) x xs are) (omega (arith, inside)) item
 
 -- a place of a list has an element
-element : {X : Type 0} (xs : List X) (i : ℕ) → i < length xs → (x : X) × (x ≡ get_or xs i x)
+pub element : {X : Type 0} (xs : List X) (i : ℕ) → i < length xs → (x : X) × (x ≡ get_or xs i x)
 element [] i inside = absurd (omega (arith, inside))
 element (x ∷ xs) i inside = (get_or (x ∷ xs) i x, get_or_default (x ∷ xs) i x (get_or (x ∷ xs) i x) inside)
 
@@ -98,7 +79,8 @@ module _ (c : Collection) (members : List Member) (values : List ℤ) (i l : ℕ
       let up_to : (i + 1) * l ≤ length members * l = mul-le-mul_right l (omega (arith, is.inside)) in
       omega (arith, all, up_to, ap (λ n. length members * n) is.long)
 
-  own_row : (m : Member) → m ≡ get_or members i m → take (i * l + l - i * l) (drop (i * l) values) ≡ series_at c m.number
+  -- and is the row of the member
+  pub own_row : (m : Member) → m ≡ get_or members i m → take (i * l + l - i * l) (drop (i * l) values) ≡ series_at c m.number
   own_row m item =
       let size : i * l + l - i * l ≡ c.points = omega (arith, is.long) in
       ap (λ n. take n (drop (i * l) values)) size
@@ -106,21 +88,18 @@ module _ (c : Collection) (members : List Member) (values : List ℤ) (i l : ℕ
       ∙ ap (λ (vs : List ℤ). take c.points (drop (i * c.points) vs)) is.are
       ∙ row_there c members i m is.sound is.series is.inside item
 
+  -- which is as long
+  pub part_long : length (take (i * l + l - i * l) (drop (i * l) values)) ≡ l
+  part_long =
+      let size : i * l + l - i * l ≡ l = omega arith in
+      length-take-le (i * l + l - i * l) (drop (i * l) values) (omega (arith, length-drop (i * l) values, part_ends)) ∙ size
+
+  -- so its means are those of the member
   pub part_means : (layout : Layout) → row_means layout.cuts (take (i * l + l - i * l) (drop (i * l) values))
       ≡ get_or (all_means c layout members) i []
   part_means layout =
       let some = element members i is.inside in
       ap (row_means layout.cuts) (own_row some.0 some.1) ∙ means_there c layout members i some.0 is.inside some.1
-
-  pub part_codes : (n p : ℕ) → n ≡ coded_points c → p < part_count n
-      → part_cells n (take (i * l + l - i * l) (drop (i * l) values)) p
-      ≡ get_or (all_codes c members) (i * part_count n + p) no_cells
-  part_codes n p same =
-      let some = element members i is.inside in
-      subst (λ k. p < part_count k → part_cells k (take (i * l + l - i * l) (drop (i * l) values)) p
-      ≡ get_or (all_codes c members) (i * part_count k + p) no_cells) (sym same)
-      (λ low. ap (λ (xs : List ℤ). part_cells (coded_points c) xs p) (own_row some.0 some.1)
-      ∙ finer_place c members i p some.0 is.inside low some.1)
 
 -- the values of a member alone are its row
 pub one_row : (c : Collection) (members : List Member) (m : Member) (row : List ℤ) → length members ≡ 1

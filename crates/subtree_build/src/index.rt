@@ -215,6 +215,8 @@ impl Index {
             members,
             tables,
         } = self;
+        // for the fact that the rows are a collection
+        let _count = rows.count();
         drop(tables);
         let tables = tables_of(
             rt,

@@ -41,7 +41,8 @@ pub(crate) fn means_of_all<H: Threads + Sync, R: Rows + Sync>(
     ensures codes { IfOk result (λ r. r.1.items ≡ all_codes (R.collection rows.now) members.now) }
 {
     let mut means = vec![in alloc; Means::zeros(); members.len()]?;
-    let mut codes = vec![in alloc; CodeBlock::zeros(); members.len() * block_count(coded) as usize]?;
+    let places = members.len() * block_count(coded) as usize;
+    let mut codes = vec![in alloc; CodeBlock::zeros(); places]?;
     let source = Source {
         rows,
         layout,
@@ -129,7 +130,9 @@ fn fill_in_turn<R: Rows>(
             let mid = members.len() / 2;
             let (low, high) = members.split_at(mid);
             let (low_means, high_means) = means.split_at_mut(mid);
-            let (low_codes, high_codes) = codes.split_at_mut(mid * block_count(source.coded) as usize);
+            let (low_codes, high_codes) = codes.split_at_mut(
+                mid * block_count(source.coded) as usize,
+            );
             fill_in_turn(source, low, low_means, low_codes);
             fill_in_turn(source, high, high_means, high_codes);
         }

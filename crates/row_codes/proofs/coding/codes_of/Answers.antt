@@ -1,21 +1,19 @@
 -- One code more.
-use Rattle.std.proofs.Common.{◌≡◌, ◌∙◌, ◌*◌, ◌<◌, ap, arith, rules, get_or, pos, subst, sym}
+use Rattle.std.proofs.Common.{◌≡◌, ◌∙◌, ◌<◌, ap, arith, rules, get_or, pos}
 use Rattle.std.specs.Prelude.{FitsSigned}
 use Rattle.std.proofs.lemmas.Int.{to_z-of_z}
 use Rattle.std.proofs.lemmas.List.{length-set}
 use Rattle.std.proofs.lemmas.List.Elements.{All-set}
 use mir.Syntax.{w16}
-use Rattle.row_codes.specs.Codes.{code_of, from_middle}
-use Rattle.row_codes.proofs.Coded.{code_more, within_reach}
+use Rattle.row_codes.specs.Codes.{code_of}
+use Rattle.row_codes.proofs.Coded.{code_more, handed_near}
 use Rattle.row_codes.proofs.coding.codes_of.Goals as goal
 
 pub code_of-requires-clause-reached : goal.code_of-requires-clause-reached
 code_of-requires-clause-reached c =
-    let x = get_or c.args.values.now c.loop-i.i (pos 0) in
-    let fits : FitsSigned w16 x = search rules in
-    let near = within_reach c.args.values.now c.loop-i.i (pos 0) c.loop-i-test.true in
-    subst (λ z. from_middle z < 8 * c.from-step.result) (sym (to_z-of_z w16 x fits))
-    (omega (arith, near, c.requires.reached, c.from-step.ensures))
+    let fits : FitsSigned w16 (get_or c.args.values.now c.loop-i.i (pos 0)) = search rules in
+    handed_near c.args.values.now c.loop-i.i c.from-step.result fits c.loop-i-test.true
+    (omega (arith, c.requires.reached, c.from-step.ensures))
 
 pub loop-i-preserved : goal.loop-i-preserved
 loop-i-preserved c =

@@ -1,20 +1,18 @@
 -- One value more.
-use Rattle.std.proofs.Common.{◌≡◌, ◌∙◌, ◌*◌, ◌<◌, ap, arith, rules, get_or, pos, subst, sym}
+use Rattle.std.proofs.Common.{◌≡◌, ◌∙◌, ap, arith, rules, get_or, pos}
 use Rattle.std.specs.Prelude.{FitsSigned, ◌*ℤ◌}
 use Rattle.std.proofs.lemmas.Int.{to_z-of_z}
 use mir.Syntax.{w16}
 use Rattle.series_core.specs.Distance.{squared_difference}
-use Rattle.row_codes.specs.Codes.{from_middle, place}
-use Rattle.row_codes.proofs.Coded.{forgotten_more, within_reach}
+use Rattle.row_codes.specs.Codes.{place}
+use Rattle.row_codes.proofs.Coded.{forgotten_more, handed_near}
 use Rattle.row_codes.proofs.coding.forgotten_of.Goals as goal
 
 pub left_squared-sum-requires-clause-reached : goal.left_squared-sum-requires-clause-reached
 left_squared-sum-requires-clause-reached c =
-    let x = get_or c.args.values.now c.loop-i.i (pos 0) in
-    let fits : FitsSigned w16 x = search rules in
-    let near = within_reach c.args.values.now c.loop-i.i (pos 0) c.loop-i-test.true in
-    subst (λ z. from_middle z < 8 * c.from-step.result) (sym (to_z-of_z w16 x fits))
-    (omega (arith, near, c.requires.reached, c.from-step.ensures))
+    let fits : FitsSigned w16 (get_or c.args.values.now c.loop-i.i (pos 0)) = search rules in
+    handed_near c.args.values.now c.loop-i.i c.from-step.result fits c.loop-i-test.true
+    (omega (arith, c.requires.reached, c.from-step.ensures))
 
 pub loop-i-preserved : goal.loop-i-preserved
 loop-i-preserved c =

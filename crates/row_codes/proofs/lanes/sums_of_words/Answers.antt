@@ -2,6 +2,7 @@
 use Rattle.std.proofs.Common.{ap, ◌∙◌, ◌+◌, ◌/◌, ◌%◌, map}
 use Rattle.std.specs.Prelude.{◌+ℤ◌}
 use Rattle.std.specs.Simd.Lanes.{chunk}
+use mir.Syntax.{w32}
 use Rattle.row_codes.specs.Lanes.{wrapped, lane_total, code_dot}
 use Rattle.row_codes.proofs.LaneSums.{handed_back, handed_fit, handed_both, handed_long}
 use Rattle.row_codes.proofs.lanes.sums_of_words.Goals as goal
@@ -46,6 +47,6 @@ returns c =
     first_three four in
     record {
       value = ap (λ l. wrapped (lane_total l)) (handed_back c.added.result c.added.ensures.fits) ∙ all;
-      lanes = handed_long c.added.result ∙ c.added.ensures.lanes;
+      lanes = handed_long w32 c.added.result ∙ c.added.ensures.lanes;
       fits = handed_fit c.added.result c.added.ensures.fits;
     }

@@ -7,7 +7,8 @@ use Rattle.std.proofs.lemmas.Option.{get_or_from_slice_get}
 use Rattle.isax_word.specs.declared.member.Member.{Member}
 use Rattle.subtree_build.specs.Means.{all_values}
 use Rattle.subtree_build.specs.Members.{series_at}
-use Rattle.subtree_build.proofs.SideBySide.{one_row_more, series_long}
+use Rattle.subtree_build.proofs.Flattened.{piece_push}
+use Rattle.subtree_build.proofs.SideBySide.{series_long}
 use Rattle.subtree_build.proofs.fetched.fetch.Goals as goal
 
 pub loop-i-preserved : goal.loop-i-preserved
@@ -34,7 +35,7 @@ loop-i-preserved g c =
     let end : (i + 1) * n ≡ start + length c.copy_from_slice.new.self
     = omega (arith, at, ap (λ (xs : List ℤ). length xs) after, long) in
     take-put_mid start _ c.loop-i.into c.copy_from_slice.new.self ((i + 1) * n) end low
-    ∙ one_row_more all members i m (take start c.loop-i.into) c.copy_from_slice.new.self c.loop-i-test.true there
+    ∙ piece_push (λ (x : Member). series_at all x.number) members i m (take start c.loop-i.into) c.copy_from_slice.new.self c.loop-i-test.true there
     (ap (λ k. take k c.loop-i.into) at ∙ c.loop-i.invariant) (after ∙ own)
 
 pub returns : goal.returns

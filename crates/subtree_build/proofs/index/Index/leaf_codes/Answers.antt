@@ -1,4 +1,4 @@
--- The finer means at the place of the leaf.
+-- The codes at the place of the leaf.
 use Rattle.std.proofs.Common.{◌≡◌, ◌∙◌, ◌-◌, ◌*◌, List, [], take, drop, ap, sym, arith}
 use Rattle.std.proofs.Math.Nat.{mul-sub}
 use Rattle.std.proofs.lemmas.List.{get_or-map}
@@ -13,7 +13,7 @@ pub returns : goal.returns
 returns c =
     let x = c.self.inside in
     let l = c.args.l in
-    let n = x.tables.parts in
+    let n = x.tables.blocks in
     let p = c.index-place.result.now in
     let part : LeafPlace → List Block = λ q. take ((q.end - q.first) * n) (drop (q.first * n) x.tables.codes.items) in
     let low = has_place x c.self.view_is l c.requires in

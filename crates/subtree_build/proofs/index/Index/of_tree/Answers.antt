@@ -14,7 +14,8 @@ use Rattle.subtree_build.specs.declared.part.Joined.{Joined}
 use Rattle.subtree_build.specs.Grown.{cut_leaves}
 use Rattle.subtree_build.specs.Places.{places_from, means_seen, codes_seen, AreAllSeen}
 use Rattle.subtree_build.proofs.Fitting.{tree_fits, real_in_tree}
-use Rattle.subtree_build.proofs.Meaning.{all_cut, means_are_own, codes_are_own, own_tables, tables_are}
+use Rattle.subtree_build.proofs.Meaning.{all_cut, means_are_own, own_tables}
+use Rattle.subtree_build.proofs.MemberCodes.{codes_are_own, tables_are}
 use Rattle.subtree_build.proofs.OfCollection.{IsReal}
 use Rattle.subtree_build.proofs.Growing.{length-cut}
 use Rattle.subtree_build.proofs.Indexing.{length-all_numbered, tree_is_index}
@@ -79,7 +80,7 @@ invariant_of-result g c =
     = c.in_ok-leaves.ensures ∙ ap (places_from 0) c.as_slice.ensures.value in
     let seen = tree_is_seen rows layout size c.segments-segments.result c.args.roots.items joined c.in_ok-leaves.leaves.items
     (means_seen c.in_ok-tables.tables.means.items c.in_ok-leaves.leaves.items)
-    (codes_seen c.in_ok-tables.tables.parts c.in_ok-tables.tables.codes.items c.in_ok-leaves.leaves.items)
+    (codes_seen c.in_ok-tables.tables.blocks c.in_ok-tables.tables.codes.items c.in_ok-leaves.leaves.items)
     c.segments-segments.ensures.value c.requires.roots c.requires.nodes c.requires.leaves places in
     let long : length c.in_ok-leaves.leaves.items ≡ length (tree_leaves rows layout size) = omega (
       arith,
@@ -95,7 +96,8 @@ invariant_of-result g c =
       places_lie joined.members.items joined.leaves.items c.in_ok-leaves.leaves.items c.requires.whole places,
       are_ranges (tree rows layout size) joined.nodes.items joined.firsts.items c.in_ok-leaves.leaves.items
           c.requires.nodes c.requires.firsts long many,
-      tables_are rows layout joined.members.items c.in_ok-leaves.leaves.items c.in_ok-tables.tables
+      tables_are rows c.count-count.ensures.sound layout joined.members.items c.in_ok-leaves.leaves.items c.in_ok-tables.tables
+          (members_real rows layout size joined c.requires.leaves c.requires.whole)
           (own_tables rows layout joined.members.items _ c.in_ok-leaves.leaves.items _ c.in_ok-tables.tables
           c.in_ok-tables.ensures c.as_slice-2.ensures.value c.as_slice-3.ensures.value),
       all_seen joined c.in_ok-leaves.leaves.items c.requires.whole places
@@ -122,9 +124,10 @@ returns-clause-fits g c =
     tree_fits rows layout size _ c.segments-segments.ensures.divides
     (tree_is_seen rows layout size c.segments-segments.result c.args.roots.items joined c.in_ok-leaves.leaves.items
     (means_seen c.in_ok-tables.tables.means.items c.in_ok-leaves.leaves.items)
-    (codes_seen c.in_ok-tables.tables.parts c.in_ok-tables.tables.codes.items c.in_ok-leaves.leaves.items) c.segments-segments.ensures.value
+    (codes_seen c.in_ok-tables.tables.blocks c.in_ok-tables.tables.codes.items c.in_ok-leaves.leaves.items) c.segments-segments.ensures.value
     c.requires.roots c.requires.nodes c.requires.leaves
     (c.in_ok-leaves.ensures ∙ ap (places_from 0) c.as_slice.ensures.value))
     (means_are_own rows layout joined.members.items c.in_ok-tables.tables.means.items c.in_ok-leaves.leaves.items own.means)
-    (ap (λ n. codes_seen n c.in_ok-tables.tables.codes.items c.in_ok-leaves.leaves.items) own.parts
-    ∙ codes_are_own rows joined.members.items c.in_ok-tables.tables.codes.items c.in_ok-leaves.leaves.items own.codes)
+    (ap (λ n. codes_seen n c.in_ok-tables.tables.codes.items c.in_ok-leaves.leaves.items) own.blocks
+    ∙ codes_are_own rows c.count-count.ensures.sound joined.members.items c.in_ok-tables.tables.codes.items
+    c.in_ok-leaves.leaves.items (members_real rows layout size joined c.requires.leaves c.requires.whole) own.codes)
