@@ -3,6 +3,6 @@ mod Nearest
 mod LeavesNear
 mod LeavesMet
 mod Ranges
-mod Stretches
+mod StretchLeaves
 mod ItemsScanned
 mod TeamLists

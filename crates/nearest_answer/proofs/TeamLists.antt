@@ -22,7 +22,7 @@ use Rattle.nearest_answer.specs.declared.telling.ApartBy.{ApartBy}
 use Rattle.nearest_answer.specs.Stretches.{IsCut, by_stretches}
 use Rattle.nearest_answer.specs.Team.{IsDone}
 use Rattle.nearest_answer.proofs.Nearest.{answer_met, none_met}
-use Rattle.nearest_answer.proofs.Stretches.{stretches_fit}
+use Rattle.nearest_answer.proofs.StretchLeaves.{stretches_fit}
 use Rattle.search_task.specs.Questions.{CanBeSearched, Searched}
 use Rattle.search_task.proofs.Grounds.{ground_answer}
 

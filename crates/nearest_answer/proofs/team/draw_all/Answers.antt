@@ -9,7 +9,7 @@ use Rattle.search_machine.specs.Ground.{last, worst}
 use Rattle.search_machine.specs.Sound.{ListSound}
 use Rattle.nearest_answer.specs.Stretches.{by_stretches}
 use Rattle.nearest_answer.proofs.Nearest.{next_scanned, none_met, worst_enough}
-use Rattle.nearest_answer.proofs.Stretches.{stretches_fit}
+use Rattle.nearest_answer.proofs.StretchLeaves.{stretches_fit}
 use Rattle.nearest_answer.proofs.TeamLists.{not_drawn}
 use Rattle.search_task.proofs.Grounds.{ground_last}
 use Rattle.nearest_answer.proofs.team.draw_all.Given as given
