@@ -1,5 +1,5 @@
 -- One row more is scanned.
-use Rattle.std.proofs.Common.{◌≡◌, ◌-◌, ◌*◌, ◌∷◌, [], ℕ, List, length, refl, subst, sym, arith}
+use Rattle.std.proofs.Common.{◌≡◌, ◌-◌, ◌*◌, ◌∷◌, [], ℕ, List, ap, length, refl, subst, sym, arith}
 use Rattle.std.specs.List.{flat_map, range_with_len}
 use Rattle.search_task.specs.Questions.{Question}
 use Rattle.search_task.specs.Scanning.{AreScanned, IsScannedOne, MayAdd}
@@ -39,7 +39,8 @@ pub returns-clause-pairs : goal.returns-clause-pairs
 returns-clause-pairs g c =
     let a = c.args.search.now.question in
     let first = c.args.number * 64 in
+    let count = ap (λ (b : Question). length b.collection.series) c.task-task.ensures.task in
     subst (λ (is : List ℕ). AreScanned a c.args.limit (flat_map (λ (m : ℕ). m ∷ []) is) c.args.list.now.pairs
     c.loop-row.list.pairs)
-    (all_items 64 (length a.collection.series) c.args.number first c.loop-row.row refl (omega arith))
+    (all_items 64 (length a.collection.series) c.args.number first c.loop-row.row refl (omega (arith, count)))
     c.loop-row.invariant.pairs
