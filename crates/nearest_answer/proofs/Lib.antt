@@ -3,3 +3,6 @@ mod Nearest
 mod LeavesNear
 mod LeavesMet
 mod Ranges
+mod StretchLeaves
+mod ItemsScanned
+mod TeamLists

@@ -1,5 +1,8 @@
--- The leaves that may have a member within a limit, of which clauses of private functions speak.
+-- The leaves that may have a member within a limit, the stretches that workers draw, and these workers, of which clauses of private
+-- functions speak.
 pub mod NearLeaves
+pub mod Stretches
+pub mod Team
 -- The definitions of the crates below that the public clause cites.
 pub use Rattle.search_task.specs.Questions
 pub use Rattle.series_core.specs.Answer

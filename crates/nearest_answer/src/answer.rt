@@ -6,10 +6,9 @@ ghost use Rattle.subtree_build.specs.Fits.{Fits as IndexFits};
 
 use crate::all_rows::answer_by_rows;
 use crate::by_leaves::nearest_by_leaves;
-use crate::first_limit::{first_limit, limit_and_guess};
 use crate::sweep::answer_by_codes;
-use crate::telling::{ApartBy, means_tell_little, what_tells};
-use crate::tuning::{CLOSER_MEMBERS, CLOSER_PART, FIRST_MEMBERS, MOST_RANKS_BY_SAMPLE};
+use crate::telling::ApartBy;
+use crate::way::first_way;
 use outside::NoMemory;
 use search_task::{Search, Task};
 use series_core::{KBest, PairList, Rows};
@@ -36,40 +35,13 @@ pub fn one_worker_answer<R: Rows>(
 fn nearest<R: Rows>(alloc: Global, search: &Search<'_, R>) -> Result<KBest, NoMemory>
     ensures { let a = search.now.question in IfOk result (λ best. best.pairs ≡ answer a.collection a.query a.k) }
 {
-    if search.k() > MOST_RANKS_BY_SAMPLE {
-        return nearest_of_many(alloc, search);
-    }
-    let first = first_limit(alloc, search, FIRST_MEMBERS)?;
-    if means_tell_little(search, first) {
-        return nearest_by_sample(alloc, search);
-    }
-    nearest_by_leaves(alloc, search, first)
-}
-
-// The list of the answer for a great k. Where nothing tells members apart even by a limit that is too close for the k-th, all rows
-// are read; else the leaves within a first limit are listed, and the closest of them tell a closer one.
-fn nearest_of_many<R: Rows>(alloc: Global, search: &Search<'_, R>) -> Result<KBest, NoMemory>
-    ensures { let a = search.now.question in IfOk result (λ best. best.pairs ≡ answer a.collection a.query a.k) }
-{
-    let (wide, guess) = limit_and_guess(alloc, search)?;
-    match what_tells(search, guess) {
-        ApartBy::Nothing => answer_by_rows(alloc, search, wide),
-        ApartBy::Means | ApartBy::Codes => nearest_by_leaves(alloc, search, wide),
-    }
-}
-
-// The list of the answer where means may tell too little. The first limit may be too wide, so a closer one decides it, less a quarter:
-// the last distance lies below that of a few members, and no list of all leaves is made to learn it.
-fn nearest_by_sample<R: Rows>(alloc: Global, search: &Search<'_, R>) -> Result<KBest, NoMemory>
-    ensures { let a = search.now.question in IfOk result (λ best. best.pairs ≡ answer a.collection a.query a.k) }
-{
-    let close = first_limit(alloc, search, CLOSER_MEMBERS)?;
-    match what_tells(search, close - close / CLOSER_PART) {
-        ApartBy::Means => nearest_by_leaves(alloc, search, close),
+    let (by, first) = first_way(alloc, search)?;
+    match by {
+        ApartBy::Means => nearest_by_leaves(alloc, search, first),
         ApartBy::Codes => {
             let empty = KBest::new(alloc, search.k())?;
-            Ok(answer_by_codes(search, close, empty))
+            Ok(answer_by_codes(search, first, empty))
         }
-        ApartBy::Nothing => answer_by_rows(alloc, search, close),
+        ApartBy::Nothing => answer_by_rows(alloc, search, first),
     }
 }

@@ -3,11 +3,11 @@
 //! anew by the closer limit.
 ghost use Rattle.std.specs.Prelude.{◌≡◌, ℕ, ◌≤◌, ◌++◌, List, [], IfOk, IsPermutation, length};
 ghost use Rattle.std.specs.List.{All};
-ghost use Rattle.list_totals.specs.Totals.{times};
+ghost use Rattle.list_totals.specs.Totals.{once_below, times};
 ghost use Rattle.series_core.specs.Answer.{answer};
 ghost use Rattle.search_machine.specs.Sound.{ListSound};
 ghost use Rattle.search_task.specs.Questions.{ground_of, last_of};
-ghost use Rattle.nearest_answer.specs.NearLeaves.{IsLeafEntry, leaves_in, within_bound};
+ghost use Rattle.nearest_answer.specs.NearLeaves.{AreNear, IsLeafEntry, leaves_in, within_bound};
 
 use crate::all_rows::answer_by_rows;
 use crate::near_leaves::{near_leaves, scan_entries, scan_entry};
@@ -41,8 +41,22 @@ pub(crate) fn nearest_by_leaves<R: Rows>(
     requires limit { last_of search.now.question ≤ first }
     ensures { let a = search.now.question in IfOk result (λ best. best.pairs ≡ answer a.collection a.query a.k) }
 {
+    let near = near_leaves(alloc, search, first)?;
+    answer_near(alloc, search, near, first)
+}
+
+/// The same by these leaves, which were looked for within the limit.
+pub(crate) fn answer_near<R: Rows>(
+    alloc: Global,
+    search: &Search<'_, R>,
+    mut near: Vec<Entry>,
+    first: u64,
+) -> Result<KBest, NoMemory>
+    requires limit { last_of search.now.question ≤ first }
+    requires near { AreNear (ground_of search.now) first (λ l. once_below l (length search.now.index.leaves)) near.items }
+    ensures { let a = search.now.question in IfOk result (λ best. best.pairs ≡ answer a.collection a.query a.k) }
+{
     let k = search.k();
-    let mut near = near_leaves(alloc, search, first)?;
     let mut list = KBest::new(alloc, k)?;
     let count = closest_count(search);
     if near.len() <= count {
@@ -67,16 +81,16 @@ pub(crate) fn nearest_by_leaves<R: Rows>(
     Ok(list)
 }
 
-// How many leaves of least bound are scanned for a closer limit.
-fn closest_count<R: Rows>(search: &Search<'_, R>) -> usize {
+/// How many leaves of least bound are scanned for a closer limit.
+pub(crate) fn closest_count<R: Rows>(search: &Search<'_, R>) -> usize {
     let leaves = u64::from(search.index().leaf_count());
     let count = u64::from(search.task().count()).max(1);
     let members = CLOSEST_MEMBERS.max(CLOSEST_MEMBERS_EACH * u64::from(search.k()));
     (members * leaves / count).max(CLOSEST_LEAVES) as usize
 }
 
-// Scans the closest leaves into an empty list, and tells the closer limit that they give.
-fn scan_closest<R: Rows>(
+/// Scans the closest leaves into an empty list, and tells the closer limit that they give.
+pub(crate) fn scan_closest<R: Rows>(
     alloc: Global,
     search: &Search<'_, R>,
     closest: &[Entry],
@@ -97,8 +111,8 @@ fn scan_closest<R: Rows>(
     Ok(distance_of_worst(list).min(first))
 }
 
-// The list of the answer, by all leaves that may have a member within the limit, in the order of their numbers.
-fn answer_in_order<R: Rows>(
+/// The list of the answer, by all leaves that may have a member within the limit, in the order of their numbers.
+pub(crate) fn answer_in_order<R: Rows>(
     alloc: Global,
     search: &Search<'_, R>,
     limit: u64,

@@ -28,8 +28,8 @@ pub(crate) fn answer_by_codes<R: Rows>(search: &Search<'_, R>, limit: u64, mut l
     list
 }
 
-// Scans members with this limit into a list: one is passed over by the codes of its row, or else measured.
-fn sweep<R: Rows>(
+/// Scans members with this limit into a list: one is passed over by the codes of its row, or else measured.
+pub(crate) fn sweep<R: Rows>(
     task: &Task<'_, R>,
     members: &[Member],
     codes: &[CodeBlock],

@@ -11,7 +11,8 @@ use search_task::Search;
 use series_core::Rows;
 
 /// What tells the members apart that are farther than a limit.
-pub(crate) enum ApartBy {
+#[derive(Clone, Copy, Debug, PartialEq, Eq)]
+pub enum ApartBy {
     /// Their means tell it of half of them at least, and codes of most others.
     Means,
     /// Their means tell it of fewer than half of them, but codes of most.

@@ -52,3 +52,13 @@ pub(crate) const SHARE_TO_SWEEP: u64 = 8;
 
 /// How many values rows have, at least, for a sweep: shorter ones are read as fast as their codes.
 pub(crate) const LEAST_VALUES_TO_SWEEP: usize = 96;
+
+/// How many members the leaves within a limit have, at least, to be shared by all workers: four threads start in some 70 microseconds,
+/// and as long takes one worker for some 10000 members.
+pub(crate) const LEAST_MEMBERS_TO_SHARE: u64 = 32768;
+
+/// How many values all rows have, at least, to be shared where codes are swept or all rows are read.
+pub(crate) const LEAST_VALUES_TO_SHARE: u64 = 2_000_000;
+
+/// How many rows a worker draws at a time where all rows are read.
+pub(crate) const ROWS_OF_STRETCH: u32 = 64;

@@ -11,6 +11,8 @@ mod discords;
 #[cfg(test)]
 mod radius;
 #[cfg(test)]
+mod team;
+#[cfg(test)]
 mod threads;
 #[cfg(test)]
 mod workers;

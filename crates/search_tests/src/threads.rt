@@ -1,7 +1,7 @@
 //! Searches by several workers: worked rows, rows that are watched, gates, workers that are held, limits that they share, and random
 //! small collections.
 mod forms;
-mod gates;
+pub(crate) mod gates;
 mod held;
 mod plain;
 mod points;

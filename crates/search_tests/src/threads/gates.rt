@@ -12,14 +12,14 @@ const LOOKS: u32 = 1_000_000_000;
 
 /// A gate of two workers that counts the turns of each, and holds each at its first turn until the other has come.
 #[derive(Drop)]
-struct Meeting {
+pub(crate) struct Meeting {
     turns: [AtomicU64; 2],
     gaps: AtomicU64,
     ran_out: AtomicU64,
 }
 
 impl Meeting {
-    fn of_two() -> Meeting {
+    pub(crate) fn of_two() -> Meeting {
         Meeting {
             turns: [AtomicU64::new(0), AtomicU64::new(0)],
             gaps: AtomicU64::new(0),
@@ -32,6 +32,16 @@ impl Meeting {
             Some(turns) => turns.load(Ordering::SeqCst),
             None => 0,
         }
+    }
+
+    /// How many workers looked for the other in vain.
+    pub(crate) fn in_vain(&self) -> u64 {
+        self.ran_out.load(Ordering::SeqCst)
+    }
+
+    /// How many turns had another number than their place.
+    pub(crate) fn miscounted(&self) -> u64 {
+        self.gaps.load(Ordering::SeqCst)
     }
 }
 
@@ -73,13 +83,9 @@ fn two_workers_come_side_by_side_and_count_their_turns(rt: HostRuntime) -> Resul
         let gate = Meeting::of_two();
         let outcome = searched(&rt, alloc, &task, &index, &gate, form)?;
         assert_eq!(rt; outcome.pairs.items.len(), 3);
+        assert_eq!(rt; gate.in_vain(), 0, "each worker waited for the other");
         assert_eq!(rt;
-            gate.ran_out.load(Ordering::SeqCst),
-            0,
-            "each worker waited for the other"
-        );
-        assert_eq!(rt;
-            gate.gaps.load(Ordering::SeqCst),
+            gate.miscounted(),
             0,
             "no turn was left out or counted twice"
         );

@@ -1,14 +1,14 @@
 -- The closest leaves, the next one and the others are those that are near, so the list is the answer.
 use Rattle.nearest_answer.proofs.LeavesMet.{AreParts, all_answered, near_parts, parts_answered}
-use Rattle.nearest_answer.proofs.by_leaves.nearest_by_leaves.Given as given
-use Rattle.nearest_answer.proofs.by_leaves.nearest_by_leaves.Goals as goal
-use Rattle.nearest_answer.proofs.by_leaves.nearest_by_leaves.Goals.{After-select_nth_unstable_by_key-closest}
+use Rattle.nearest_answer.proofs.by_leaves.answer_near.Given as given
+use Rattle.nearest_answer.proofs.by_leaves.answer_near.Goals as goal
+use Rattle.nearest_answer.proofs.by_leaves.answer_near.Goals.{After-select_nth_unstable_by_key-closest}
 
 pub returns-then-len-count : goal.returns-then-len-count
 returns-then-len-count g c =
     all_answered c.args.search.now.question c.args.search.now.index c.args.first c.k-k.ensures.searched c.requires.limit
-    c.in_ok-near.near.items c.deref.result.now c.in_ok-list.list _ c.scan_within.new.list.pairs c.deref.ensures.value
-    c.in_ok-near.ensures c.in_ok-list.ensures c.in_ok-scan_within.ensures.list.1 c.in_ok-scan_within.ensures.met
+    c.args.near.items c.deref.result.now c.in_ok-list.list _ c.scan_within.new.list.pairs c.deref.ensures.value
+    c.requires.near c.in_ok-list.ensures c.in_ok-scan_within.ensures.list.1 c.in_ok-scan_within.ensures.met
 
 -- what is near lies in three parts
 parts : (g : given.Over) (c : After-select_nth_unstable_by_key-closest g)
@@ -16,8 +16,8 @@ parts : (g : given.Over) (c : After-select_nth_unstable_by_key-closest g)
     c.select_nth_unstable_by_key-closest.result.2.now c.select_nth_unstable_by_key-closest.result.1.now
 parts g c =
     let p = c.select_nth_unstable_by_key-closest in
-    near_parts c.args.search.now.question c.args.search.now.index c.args.first c.deref_mut.result.now c.in_ok-near.near.items p.result.0.now
-    p.result.2.now p.result.1.now c.deref_mut.ensures.value p.ensures.permutation c.in_ok-near.ensures
+    near_parts c.args.search.now.question c.args.search.now.index c.args.first c.deref_mut.result.now c.args.near.items p.result.0.now
+    p.result.2.now p.result.1.now c.deref_mut.ensures.value p.ensures.permutation c.requires.near
 
 pub scan_closest-requires-clause-leaves : goal.scan_closest-requires-clause-leaves
 scan_closest-requires-clause-leaves g c =

@@ -1,0 +1,34 @@
+//! A gate where two workers meet: both are at work at once, and the turns of each are counted without a gap.
+use crate::threads::gates::Meeting;
+use breakpoints::Table;
+use nearest_answer::{ApartBy, Task, answer_by_stretches};
+use outside::NoGate;
+use plain_search::Source;
+use series_core::Flat;
+use std::test::*;
+use subtree_build::{Settings, build};
+
+#[test]
+fn two_workers_draw_side_by_side(rt: HostRuntime) -> Result<(), Fail> {
+    let alloc = rt.alloc();
+    let rows = Flat::from_values(16, Source::new(3, 500).values(alloc, 3200)?);
+    let settings = Settings::new(16, 16, Table::Bent, 2);
+    let index = build(&rt, alloc, &rows, &settings, 1, &NoGate)?;
+    let task = Task::new(&rows, &[0; 16], 5, &settings.layout);
+    for by in [ApartBy::Means, ApartBy::Codes, ApartBy::Nothing] {
+        let gate = Meeting::of_two();
+        let found = answer_by_stretches(&rt, alloc, &task, &index, by, 2, &gate)?;
+        assert_eq!(rt; found.items.len(), 5, "{by:?}");
+        assert_eq!(rt;
+            gate.in_vain(),
+            0,
+            "each worker waited for the other, {by:?}"
+        );
+        assert_eq!(rt;
+            gate.miscounted(),
+            0,
+            "no turn was left out or counted twice, {by:?}"
+        );
+    }
+    Ok(())
+}

@@ -1,0 +1,148 @@
+//! Teams of 1 to 64 workers over small collections in each way, and over one that is great enough to be shared: as a plain sort.
+use breakpoints::Table;
+use nearest_answer::{ApartBy, Task, answer_by_stretches, answer_by_team};
+use outside::{NoGate, NoMemory};
+use plain_search::{Source, are_same, plain_nearest};
+use series_core::{Flat, Rows};
+use std::alloc::Global;
+use std::test::*;
+use std::thread::Threads;
+use subtree_build::{Settings, build};
+
+const LENGTH: u32 = 32;
+
+/// What the series of a collection are like.
+#[derive(Clone, Copy, Debug)]
+enum Kind {
+    Walks,
+    Equal,
+    Clusters,
+    Noise,
+}
+
+/// The value at a place of a series, drawn from -500 to 500, behind the value before it.
+fn next_value(kind: Kind, series: u32, drawn: i16, last: i16) -> i16 {
+    match kind {
+        Kind::Walks => last.saturating_add(drawn),
+        Kind::Equal => 7,
+        Kind::Clusters if series % 2 == 0 => drawn,
+        Kind::Clusters => drawn.saturating_add(20000),
+        Kind::Noise => drawn.saturating_mul(60),
+    }
+}
+
+/// The values of `count` series.
+fn values_of(alloc: Global, kind: Kind, count: u32) -> Result<Vec<i16>, NoMemory> {
+    let mut source = Source::new(u64::from(count), 500);
+    let mut values = Vec::new(alloc);
+    for series in 0..count.min(100000) {
+        let mut last = 0;
+        for drawn in source.values(alloc, LENGTH)? {
+            last = next_value(kind, series, drawn, last);
+            values.push(last)?;
+        }
+    }
+    Ok(values)
+}
+
+/// Who searches.
+#[derive(Clone, Copy, Debug)]
+struct Search {
+    k: u32,
+    leaf: u32,
+    by: Option<ApartBy>,
+    workers: u32,
+}
+
+/// Whether the answer to a query is what a plain sort finds, for each of these searches.
+fn agree<T: Threads + Sync>(
+    rt: &T,
+    alloc: Global,
+    values: Vec<i16>,
+    search: Search,
+) -> Result<bool, NoMemory> {
+    let Search {
+        k,
+        leaf,
+        by,
+        workers,
+    } = search;
+    if values.len() % LENGTH as usize != 0 || values.len() > 16777216 {
+        return Err(NoMemory);
+    }
+    if k < 1 || k > 1024 || workers < 1 || workers > 64 {
+        return Err(NoMemory);
+    }
+    let rows = Flat::from_values(LENGTH, values);
+    let settings = Settings::new(LENGTH, 16, Table::Bent, leaf);
+    let index = build(rt, alloc, &rows, &settings, 1, &NoGate)?;
+    let query = [100i16; LENGTH as usize];
+    let task = Task::new(&rows, &query, k, &settings.layout);
+    let found = match by {
+        Some(by) => answer_by_stretches(rt, alloc, &task, &index, by, workers, &NoGate)?,
+        None => answer_by_team(rt, alloc, &task, &index, workers, &NoGate)?,
+    };
+    Ok(are_same(&found.items, &plain_nearest(alloc, &rows, &query, k)?))
+}
+
+const KINDS: [Kind; 4] = [Kind::Walks, Kind::Equal, Kind::Clusters, Kind::Noise];
+
+const WORKERS: [u32; 5] = [1, 2, 3, 8, 64];
+
+// How many series there are, and how many are asked for.
+const SIZES: [(u32, u32); 8] = [
+    (0, 1),
+    (1, 1),
+    (2, 3),
+    (7, 2),
+    (7, 1000),
+    (1000, 1),
+    (1000, 100),
+    (1000, 1024),
+];
+
+#[test]
+fn each_way_finds_what_a_plain_sort_finds(rt: HostRuntime) -> Result<(), Fail> {
+    let alloc = rt.alloc();
+    for kind in KINDS {
+        for (count, k) in SIZES {
+            for workers in WORKERS {
+                for by in [ApartBy::Means, ApartBy::Codes, ApartBy::Nothing] {
+                    let search = Search {
+                        k,
+                        leaf: 5,
+                        by: Some(by),
+                        workers,
+                    };
+                    assert!(rt;
+                        agree(&rt, alloc, values_of(alloc, kind, count)?, search)?,
+                        "{count} series, {kind:?}, {search:?}"
+                    );
+                }
+            }
+        }
+    }
+    Ok(())
+}
+
+#[test]
+fn what_is_great_enough_is_shared(rt: HostRuntime) -> Result<(), Fail> {
+    let alloc = rt.alloc();
+    for kind in KINDS {
+        for (count, k) in [(1000, 10), (70000, 1), (70000, 200)] {
+            for workers in [1, 2, 4] {
+                let search = Search {
+                    k,
+                    leaf: 100,
+                    by: None,
+                    workers,
+                };
+                assert!(rt;
+                    agree(&rt, alloc, values_of(alloc, kind, count)?, search)?,
+                    "{count} series, {kind:?}, {search:?}"
+                );
+            }
+        }
+    }
+    Ok(())
+}
