@@ -5,7 +5,7 @@ set -eu
 top="$(cd "$(dirname "${BASH_SOURCE[0]}")/.." && pwd)"
 work="$(mktemp -d)"
 trap 'rm -rf "$work"' EXIT
-gcc -O3 -march=native -o "$work/baseline" "$here/baseline.c"
+[ ! -e "$here/baseline.c" ] || gcc -O3 -march=native -o "$work/baseline" "$here/baseline.c"
 
 # The crates of the repository among the given ones and below them, each once.
 crates_below() {

@@ -21,8 +21,8 @@ kind() {
     # a line is 'name: microseconds (checksum)'
     awk -F'[:(]' '{ time = $2 + 0; if (!($1 in least) || time < least[$1]) least[$1] = time; checks[$1] = $3 }
         END { for (line in least) { print line ": " least[line] " (" checks[line];
-            if (line ~ /search$/) own = least[line]; else if (line !~ /(build|outcome)$/ && (!best || least[line] < best)) best = least[line] }
-            printf "    the best scan takes %.2f times as long\n", best / own }' "$work/times" | sort -r
+            if (line ~ /search$/) own = least[line]; else if (line ~ /shared by 4$/) four = least[line]; else if (line !~ /(build|outcome|shared by 64)$/ && (!best || least[line] < best)) best = least[line] }
+            printf "    the best scan takes %.2f times as long\n    one worker takes %.2f times as long as four\n", best / own, own / four }' "$work/times" | sort -r
 }
 
 # A kind over two recordings that Debian has: recorded heart|music KIND ROWS.
@@ -35,6 +35,8 @@ recorded() {
 for wanted in "$@"; do
     case "$wanted" in
         walks) kind walks 500000 256 20 10 ;;
+        walks100) kind walks 500000 256 20 100 ;;
+        walks1000) kind walks 500000 256 20 1000 ;;
         long) kind walks 100000 1024 20 10 ;;
         members) kind members 500000 256 100 1 ;;
         resonances) kind resonances 100000 256 20 10 ;;

@@ -25,6 +25,3 @@ pub use limits::{
 pub use options::Options;
 pub use parse::parse_words;
 pub use text::Text;
-
-#[cfg(test)]
-mod tests;

@@ -17,20 +17,10 @@ use Rattle.series_core.proofs.Parts.{has_take}
 use Rattle.series_core.proofs.Plain.{has_ascending}
 use Rattle.discord_query.specs.Discords.{all_farness, top}
 use Rattle.discord_query.specs.Done.{IsDone}
-use Rattle.discord_query.specs.declared.searcher.Searcher.{Searcher}
+use Rattle.list_team.specs.Searchers.{merged}
+use Rattle.list_team.specs.declared.searcher.Searcher.{Searcher}
 use Rattle.discord_query.proofs.Farness.{all_strict, own_piece, top_is}
 use Rattle.discord_query.proofs.Joining.{joined_strict, joined_only, joined_has, whole_top}
-
--- the pairs and those of the workers' lists, merged one list after another into the k smallest
-abbrev pub merged : ℕ → List Pair → List Searcher → List Pair
-merged k held [] = held
-merged k held (w ∷ ws) = merged k (smallest k (w.list.pairs ++ held)) ws
-
--- one worker more
-pub merged_more : (k : ℕ) (held : List Pair) (ws : List Searcher) (w : Searcher)
-    → merged k held (ws ++ w ∷ []) ≡ smallest k (w.list.pairs ++ merged k held ws)
-merged_more k held [] w = refl
-merged_more k held (v ∷ ws) w = merged_more k (smallest k (v.list.pairs ++ held)) ws w
 
 -- what stands in a list of numbers is counted, and what is counted stands in it
 counted : (x : ℕ) (xs : List ℕ) → In x xs → 0 < times x xs

@@ -16,22 +16,13 @@ use Rattle.discord_query.specs.Done.{IsPart, Holds}
 use Rattle.discord_query.proofs.Farness.{all_near, all_strict, own_piece, piece_in_all, top_below}
 use Rattle.discord_query.proofs.Joining.{joined_strict, joined_only, joined_has}
 
--- the distance at a place of a list
-distance_there : (n : ℕ) (ps : List Pair) (p : Pair) → slice_get ps n ≡ Some p → distance_at n ps ≡ p.distance
-distance_there n [] p e = absurd (none-some p e)
-distance_there zero (q ∷ qs) p e = ap (λ (r : Pair). r.distance) (same_Some q p e)
-distance_there (suc n) (q ∷ qs) p e = distance_there n qs p e
-
 module _ (c : Collection) (k : ℕ) where
   -- the k-th pair of a part is no farther down than that of all
-  pub floor_below : (list : Best) (p : Pair) → IsPart c k list → slice_get list.pairs (list.k - 1) ≡ Some p
-      → least_farness c k ≤ p.distance
-  floor_below list p part there =
+  pub floor_below : (list : Best) → IsPart c k list → least_farness c k ≤ distance_at (list.k - 1) list.pairs
+  floor_below list part =
       let low = distance_part (k - 1) list.pairs (ascending (all_farness c)) part.strict (all_strict c)
       (all_near c) (λ q has. in_order q (part.among q has)) in
-      let same : distance_at (k - 1) list.pairs ≡ p.distance
-      = distance_there (k - 1) list.pairs p
-      (ap (λ (n : ℕ). slice_get list.pairs (n - 1)) (sym part.room) ∙ there) in
+      let same = ap (λ (n : ℕ). distance_at (n - 1) list.pairs) part.room in
       omega (arith, low, same)
     where
       in_order : (q : Pair) → In q (all_farness c) → In q (ascending (all_farness c))

@@ -1,26 +1,13 @@
--- A worker as it begins and as it ends, and the part of all pairs that its list holds.
-use Rattle.std.specs.Prelude.{◌≡◌, ◌⊎◌, ℕ, List, [], true, take}
+-- A worker as it ends, and the part of all pairs that its list holds.
+use Rattle.std.specs.Prelude.{◌≡◌, ◌⊎◌, ℕ, List, true, take}
 use Rattle.list_totals.specs.Standing.{In}
-use Rattle.claim_word.specs.Passes.{Claim, Pass, fresh_pass}
-use Rattle.best_word.specs.Passes.{Best as Limit, Pass as LimitPass, fresh_pass as fresh_word}
+use Rattle.claim_word.specs.Passes.{Pass}
 use Rattle.series_core.specs.Best.{Best}
 use Rattle.series_core.specs.Collection.{Collection}
 use Rattle.series_core.specs.Order.{Among, Ascending}
 use Rattle.series_core.specs.Pairs.{ascending}
 use Rattle.series_core.specs.declared.pair.Pair.{Pair}
 use Rattle.discord_query.specs.Discords.{all_farness}
-use Rattle.discord_query.specs.declared.searcher.Searcher.{Searcher}
-
--- a pass over this limit, with this floor
-pub record IsTold (limit : Limit) (floor : ℕ) (pass : LimitPass) : Type 0 where
-  pub best : pass.best ≡ limit
-  pub floor_is : pass.floor ≡ floor
-
--- a worker that has drawn nothing and keeps nothing
-pub record IsFresh (claims : Claim) (limit : Limit) (floor k : ℕ) (w : Searcher) : Type 0 where
-  pub pass : w.pass ≡ fresh_pass claims
-  pub word : w.word ≡ fresh_word limit floor
-  pub list : w.list ≡ record { k = k; pairs = [] }
 
 -- a list for k pairs that holds some of those of all series, ascending
 pub record IsPart (c : Collection) (k : ℕ) (list : Best) : Type 0 where

@@ -2,18 +2,19 @@
 ghost use Rattle.std.specs.Prelude.{◌≡◌, ◌≤◌, IfOk};
 ghost use Rattle.std.specs.List.{flat_map};
 ghost use Rattle.subtree_build.specs.Fits.{Fits};
-ghost use Rattle.discord_query.specs.Discords.{discords, discords_of};
+ghost use Rattle.discord_query.specs.Discords.{discords, discords_of, top};
 ghost use Rattle.discord_query.specs.Searches.{IsReady, AreSeries};
 
 use crate::discords::{Discord, DiscordList};
 use crate::homes::homes_of;
 use crate::search::Search;
-use crate::team::{dismiss, draw_together, hire};
+use crate::team::draw_together;
 use best_word::BestWord;
 use claim_word::Claims;
 use isax_word::Layout;
+use list_team::{dismiss, hire};
 use outside::{Gate, NoMemory};
-use series_core::{NONE, Pair, Rows};
+use series_core::{KBest, NONE, Pair, Rows};
 use std::alloc::Global;
 use std::thread::Threads;
 use subtree_build::Index;
@@ -45,12 +46,29 @@ pub fn discord<T: Threads + Sync, R: Rows + Sync, G: Gate + Sync>(
         homes: homes.as_slice(),
         k,
     };
-    let (best, words) = BestWord::begin(alloc, &search, NONE, workers)?;
-    let (claims, passes) = Claims::begin(alloc, u64::from(rows.count()), workers)?;
-    let mut team = hire(alloc, &search, &claims, &best, passes, words)?;
-    draw_together(rt, alloc, &search, &claims, &best, gate, &mut team);
-    let farthest = dismiss(alloc, &search, claims, team)?;
+    let farthest = by_team(rt, alloc, &search, workers, gate)?;
     named(alloc, &search, farthest.pairs())
+}
+
+/// The k farthest of all series, each with `NONE` less the distance of its nearest other, by workers who draw side by side.
+fn by_team<T: Threads + Sync, R: Rows + Sync, G: Gate + Sync>(
+    rt: &T,
+    alloc: Global,
+    search: &Search<'_, R>,
+    workers: u32,
+    gate: &G,
+) -> Result<KBest, NoMemory>
+    requires ready { IsReady R.collection search.now }
+    requires workers { (1 ≤ workers) × (workers ≤ 64) }
+    ensures { IfOk result (λ all. all.pairs ≡ top (R.collection search.now.rows.now) search.now.k) }
+{
+    let (best, words) = BestWord::begin(alloc, search, NONE, workers)?;
+    let count = u64::from(search.rows.count());
+    let (claims, passes) = Claims::begin(alloc, count, workers)?;
+    let mut team = hire(alloc, &claims, &best, search.k, passes, words)?;
+    draw_together(rt, alloc, search, &claims, &best, gate, &mut team);
+    let list = dismiss(alloc, search.k, claims, team)?;
+    Ok(list)
 }
 
 /// Each of these series with its nearest other.

@@ -7,7 +7,6 @@ mod farthest;
 mod homes;
 mod recent;
 mod search;
-mod searcher;
 mod team;
 
 pub use discords::{Discord, DiscordList};

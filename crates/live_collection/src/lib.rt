@@ -19,6 +19,3 @@ pub use calls::{Append, Call, Reply};
 pub use live::{AppendError, LiveCollection, LiveReply, Reader, Writer};
 pub use object::{LiveObject, MAX_BATCHES};
 pub use part::{Part, PartList};
-
-#[cfg(test)]
-mod tests;

@@ -3,7 +3,6 @@
 //! leaves that were put. Between the parts all workers have returned, so that no leaf is put while others are taken.
 #![tactic(auto)]
 
-mod apart;
 mod concluding;
 mod drain_hand;
 mod drain_part;

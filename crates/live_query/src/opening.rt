@@ -7,12 +7,12 @@ ghost use Rattle.search_task.specs.Questions.{search_over};
 ghost use Rattle.live_query.specs.RootClaims.{Drawn};
 ghost use Rattle.live_query.specs.Parts.{Opens};
 
-use crate::apart::Apart;
 use crate::plan::Plan;
 use crate::portions::share_limits;
 use crate::root_claims::{Drawing, RootClaims};
 use crate::searcher::{Holding, Searcher};
 use best_word::{BestWord, WordPass};
+use list_team::Apart;
 use outside::NoMemory;
 use query_core::{Start, Worker, hire, limit_of};
 use series_core::Rows;

@@ -6,9 +6,9 @@ ghost use Rattle.query_core.specs.Turning.{Turns};
 ghost use Rattle.query_core.specs.Working.{IsOf};
 ghost use Rattle.live_query.specs.Searchers.{with_hand};
 
-use crate::apart::Apart;
 use crate::root_claims::Drawing;
 use best_word::WordPass;
+use list_team::Apart;
 use outside::Gate;
 use query_core::{Shared, Turn, Worker};
 use series_core::Rows;

@@ -2,6 +2,7 @@
 use Rattle.std.specs.Prelude.{◌≡◌, ℕ, ◌+◌, ◌≤◌, List, [], ◌∷◌, ◌++◌, length}
 use mathlib.Core.List.{IsPrefix}
 use Rattle.series_core.specs.Answer.{answer}
+use Rattle.series_core.specs.declared.best.TheConstants.{MAX_BEST}
 use Rattle.series_core.specs.declared.rows.TheConstants.{MAX_COUNT}
 use Rattle.live_collection.specs.declared.batch.Batch.{Batch}
 use Rattle.live_collection.specs.Histories.{series_of}
@@ -24,5 +25,5 @@ IsAskedText n i seen (q ∷ qs) text later = (next : List Batch) × (rest : List
 pub record CanAsk (n : ℕ) (f : QueryFile) : Type 0 where
   pub points : f.queries.points ≡ n
   pub least : 1 ≤ f.k
-  pub most : f.k ≤ 1024
+  pub most : f.k ≤ MAX_BEST
   pub few : length f.queries.series ≤ MAX_COUNT

@@ -4,6 +4,8 @@
 ghost use Rattle.std.specs.Prelude.{◌≡◌, ◌+◌, ◌<◌, ◌≤◌, ◌^◌, All, IfOk, IfErr, List, length};
 ghost use Rattle.std.specs.List.{flat_map};
 ghost use Rattle.std.specs.Thread.{IsSync};
+ghost use Rattle.command_words.specs.declared.limits.TheConstants.{MOST_LEAF};
+ghost use Rattle.series_core.specs.declared.rows.TheConstants.{MAX_LENGTH};
 ghost use Rattle.live_collection.specs.Sides.{IsReaderOf, IsWriterOf, points_of};
 ghost use Rattle.live_collection.specs.Steps.{Appends};
 ghost use Rattle.live_run.specs.Loads.{FitsLength};
@@ -44,7 +46,7 @@ pub struct Dialogue {
 impl Dialogue {
     /// A dialogue over a new collection of series of `points` values.
     fn begin(alloc: Global, points: u32) -> Result<Dialogue, NoMemory>
-        requires { (1 ≤ points) × (points ≤ 65536) }
+        requires { (1 ≤ points) × (points ≤ MAX_LENGTH) }
         ensures { IfOk result (IsNew points) }
     {
         let (live, writer, mut room) = LiveCollection::begin(alloc, settings_of(points), 1)?;
@@ -146,7 +148,7 @@ pub fn length_of(dialogue: &Option<Dialogue>) -> Option<u32>
 
 /// The dialogue that has begun, or a new one over series of `points` values.
 pub fn begun(alloc: Global, dialogue: Option<Dialogue>, points: u32) -> Result<Dialogue, NoMemory>
-    requires limits { (1 ≤ points) × (points ≤ 65536) }
+    requires limits { (1 ≤ points) × (points ≤ MAX_LENGTH) }
     ensures { (cs : List _) → Stands cs dialogue → FitsLength (length_of dialogue) points
         → IfOk result (λ s. HasTaken cs s × (s.points ≡ points)) }
 {
@@ -158,9 +160,9 @@ pub fn begun(alloc: Global, dialogue: Option<Dialogue>, points: u32) -> Result<D
 
 // The settings of a collection of series of `points` values.
 fn settings_of(points: u32) -> Settings
-    requires { (1 ≤ points) × (points ≤ 65536) }
+    requires { (1 ≤ points) × (points ≤ MAX_LENGTH) }
     ensures points { result.layout.cuts.row_length ≡ points }
-    ensures leaf_size { (1 ≤ result.leaf_size) × (result.leaf_size ≤ 65535) }
+    ensures leaf_size { (1 ≤ result.leaf_size) × (result.leaf_size ≤ MOST_LEAF) }
 {
     Settings {
         layout: Layout {

@@ -15,6 +15,3 @@ mod text;
 
 pub use run::live_run;
 pub use status::LiveStatus;
-
-#[cfg(test)]
-mod tests;

@@ -2,13 +2,12 @@
 #![tactic(auto)]
 
 mod error;
+mod laws;
 mod line;
 mod reader;
 mod script;
 
 pub use error::ScriptError;
+pub use laws::one_script_law;
 pub use reader::read_script;
 pub use script::{Asking, AskingList, Group, NamedFile, Script};
-
-#[cfg(test)]
-mod tests;

@@ -14,6 +14,3 @@ pub use laws::{
 pub use mean_box::MeanBox;
 pub use means::Means;
 pub use view::MeanView;
-
-#[cfg(test)]
-mod tests;

@@ -1,24 +1,18 @@
--- Items that are scanned one after another: their series are then scanned (`none_yet`, `item_scanned`, `row_scanned`, `all_items`), also
--- where all of them are too far (`far_leaves`).
-use Rattle.std.proofs.Common.{◌≡◌, ℕ, zero, suc, ◌+◌, ◌-◌, ◌*◌, ◌<◌, ◌≤◌, List, [], ◌∷◌, ◌++◌, length, min, ap, sym, subst, ◌∙◌, append-nil, append_assoc, arith}
+-- Items that are scanned one after another: their series are then scanned (`none_yet`, `item_scanned`, `row_scanned`, `all_items`).
+use Rattle.std.proofs.Common.{◌≡◌, ℕ, ◌+◌, ◌-◌, ◌*◌, ◌≤◌, List, [], ◌∷◌, ◌++◌, min, ap, sym, subst, ◌∙◌, append-nil, append_assoc, arith}
 use Rattle.std.specs.List.{flat_map, range_with_len}
 use Rattle.std.proofs.lemmas.List.Concat.{flat_map-append}
-use Rattle.isax_word.specs.declared.member.Member.{Member}
 use Rattle.series_core.specs.Best.{Best, IsBest}
 use Rattle.series_core.specs.declared.pair.Pair.{Pair}
-use Rattle.series_core.specs.Pairs.{smallest}
 use Rattle.series_core.proofs.Sorting.{ascending_smallest}
-use Rattle.subtree_build.specs.Index.{IndexParts, leaf_at}
 use Rattle.search_machine.specs.Ground.{Ground, ShortList, near, scan, scan_one}
 use Rattle.search_machine.proofs.ScanSteps.{scan_begins, scan_next}
 use Rattle.nearest_answer.specs.Stretches.{items_in}
 use Rattle.nearest_answer.proofs.Nearest.{scan_size}
 use Rattle.nearest_answer.proofs.Ranges.{range_next}
-use Rattle.search_task.specs.LeafBounds.{IsBelowLeaves}
-use Rattle.search_task.specs.Questions.{CanBeSearched, Question, leaf_series, search_over}
+use Rattle.search_task.specs.Questions.{Question, search_over}
 use Rattle.search_task.specs.Scanning.{AreScanned, IsScannedOne, MayAdd}
-use Rattle.search_task.proofs.Homes.{leaf_is_members}
-use Rattle.search_task.proofs.Meeting.{IsScanning, beyond_members, far_scanned, one_scanned}
+use Rattle.search_task.proofs.Meeting.{IsScanning, one_scanned}
 
 module _ (g : Ground) (v : ℕ) where
   -- what a scan leaves is in order and no more than k
@@ -81,20 +75,6 @@ module _ (a : Question) (v : ℕ) where
   row_scanned from i most next first before after low was list step =
       subst (λ (xs : List ℕ). IsScanning a v xs first after next) (sym (items_more (λ (n : ℕ). n ∷ []) from i low))
       (one_scanned i was list step)
-
-  -- leaves in a row that are all too far are as good as scanned
-  pub far_leaves : (ix : IndexParts) (bound most : ℕ) (best : Best) → CanBeSearched a ix → MayAdd a v best most → most < bound
-      → (n from : ℕ) → from + n ≤ length ix.leaves → IsBelowLeaves (search_over a ix 1 1) from (from + n) bound
-      → AreScanned a v (flat_map (leaf_series ix) (range_with_len from n)) best.pairs best.pairs
-  far_leaves ix bound most best searched may above zero from inside low = none_yet best may.is_best may.wanted
-  far_leaves ix bound most best searched may above (suc n) from inside low =
-      then_scanned (leaf_series ix from) (flat_map (leaf_series ix) (range_with_len (from + 1) n)) best.pairs best.pairs
-      best.pairs
-      (far_scanned a v most best (leaf_at ix.leaves from).members searched.question
-      (leaf_is_members a ix from searched (omega arith))
-      (beyond_members a ix from bound most (low from (omega arith) (omega arith) (omega arith)) above) may)
-      (far_leaves ix bound most best searched may above n (from + 1) (omega arith)
-      (λ l after before real. low l (omega arith) (omega arith) real))
 
 -- the numbers from the first of a stretch up to its end are its items
 pub all_items : (size count n first i : ℕ) → first ≡ n * size → i ≡ first + min size (count - first)

@@ -11,7 +11,7 @@ use Rattle.search_machine.proofs.Counts.{counts_or_not, equal_counts, times_cons
 use Rattle.nearest_answer.specs.declared.telling.ApartBy.{ApartBy}
 use Rattle.nearest_answer.specs.declared.telling.ApartBy.TheVariants.{Means, Codes, Nothing}
 use Rattle.nearest_answer.specs.Stretches.{IsCut, by_stretches, item_count, series_of, stretch_size}
-use Rattle.search_task.specs.Questions.{CanBeSearched, Searched, ground_of}
+use Rattle.search_task.specs.Questions.{CanBeSearched, Searched}
 use Rattle.search_task.proofs.BelowRoots.{times_range}
 use Rattle.search_task.proofs.Grounds.{ground_fits}
 

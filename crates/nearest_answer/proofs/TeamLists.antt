@@ -1,23 +1,24 @@
 -- The lists of all workers, joined one after another, are the answer where each stretch was drawn once (`all_answer`).
 use Rattle.std.proofs.Common.{◌≡◌, ℕ, ◌+◌, ◌<◌, ◌≤◌, List, [], ◌∷◌, ◌++◌, All, length, map, true, refl, sym, subst, inl, inr, ◌∙◌, ⊎_elim, arith}
 use Rattle.std.proofs.lemmas.Bool.{cases_lt}
-use Rattle.std.proofs.lemmas.List.{length-take}
 use Rattle.std.proofs.lemmas.List.Elements.{All-head, All-tail, All-map}
 use Rattle.list_totals.specs.Standing.{In}
-use Rattle.list_totals.specs.Totals.{total, times, once_below}
+use Rattle.list_totals.specs.Totals.{total, times}
 use Rattle.list_totals.proofs.Standing.{in_append}
 use Rattle.list_totals.proofs.Totals.{once_below_most, once_below_yes, times_append}
 use Rattle.claim_word.specs.Passes.{Pass, EachDrawnOnce}
 use Rattle.claim_word.proofs.Draws.{all_drawn}
 use Rattle.series_core.specs.Answer.{answer}
 use Rattle.series_core.specs.Order.{Ascending}
-use Rattle.series_core.specs.Pairs.{ascending, smallest}
+use Rattle.series_core.specs.Pairs.{smallest}
 use Rattle.series_core.specs.declared.pair.Pair.{Pair}
 use Rattle.search_machine.specs.Ground.{Fits, Ground, last}
 use Rattle.search_machine.specs.Sound.{ListSound}
 use Rattle.search_machine.proofs.Counts.{others_count}
-use Rattle.search_machine.proofs.Pools.{Apart, Best, Pool, ascending_joined, ascending_still, best_of, has_either}
-use Rattle.nearest_answer.specs.declared.searcher.Searcher.{Searcher}
+use Rattle.search_machine.proofs.Pools.{Apart, Best, ascending_joined, ascending_still, best_of, has_either}
+use Rattle.list_team.specs.Searchers.{merged}
+use Rattle.list_team.specs.declared.searcher.Searcher.{Searcher}
+use Rattle.list_team.proofs.Merging.{merged_few}
 use Rattle.nearest_answer.specs.declared.telling.ApartBy.{ApartBy}
 use Rattle.nearest_answer.specs.Stretches.{IsCut, by_stretches}
 use Rattle.nearest_answer.specs.Team.{IsDone}
@@ -34,23 +35,6 @@ not_drawn n (x ∷ xs) all =
     let other = others_count n x (λ (e : n ≡ x). omega (arith, e, low)) in
     let rest = not_drawn n xs (All-tail (λ (y : ℕ). y < n) x xs all) in
     omega (arith, other, rest)
-
--- the pairs and those of the workers' lists, merged one list after another into the k smallest
-abbrev pub merged : ℕ → List Pair → List Searcher → List Pair
-merged k held [] = held
-merged k held (w ∷ ws) = merged k (smallest k (w.list.pairs ++ held)) ws
-
--- one worker more
-pub merged_more : (k : ℕ) (held : List Pair) (ws : List Searcher) (w : Searcher)
-    → merged k held (ws ++ w ∷ []) ≡ smallest k (w.list.pairs ++ merged k held ws)
-merged_more k held [] w = refl
-merged_more k held (v ∷ ws) w = merged_more k (smallest k (v.list.pairs ++ held)) ws w
-
--- they are no more than k
-merged_few : (k : ℕ) (held : List Pair) (ws : List Searcher) → length held ≤ k → length (merged k held ws) ≤ k
-merged_few k held [] few = few
-merged_few k held (w ∷ ws) few =
-    merged_few k (smallest k (w.list.pairs ++ held)) ws (omega (arith, length-take k (ascending (w.list.pairs ++ held))))
 
 -- how often a number was drawn by these workers
 abbrev drawn : ℕ → List Searcher → ℕ

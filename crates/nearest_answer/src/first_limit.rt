@@ -3,13 +3,14 @@ ghost use Rattle.std.specs.Prelude.{◌≡◌, ◌-◌, ◌≤◌, IfOk};
 ghost use Rattle.series_core.specs.Order.{distance_at};
 ghost use Rattle.search_task.specs.Questions.{last_of};
 
+use crate::first_leaf::first_leaf;
 use crate::tuning::{FIRST_MEMBERS, GUESSED_PLACE, MOST_RANKS_OF_NEXT_LEAVES};
 use outside::NoMemory;
 use search_task::{Search, distance_of_worst};
 use series_core::{KBest, NONE, Rows};
 use std::alloc::Global;
 
-/// A limit that is not below the last distance: that of the k-th pair of the start leaf's members, and where these are fewer
+/// A limit that is not below the last distance: that of the k-th pair of the first leaf's members, and where these are fewer
 /// than k or than `least`, of those of the next leaves too; `NONE` where k is above 256.
 pub(crate) fn first_limit<R: Rows>(
     alloc: Global,
@@ -41,7 +42,7 @@ pub(crate) fn limit_and_guess<R: Rows>(
     Ok((distance_of_worst(&list), guess))
 }
 
-// The list of the start leaf's members and, where these are fewer than `least`, of those of the next leaves; and up to k = 256 of as
+// The list of the first leaf's members and, where these are fewer than `least`, of those of the next leaves; and up to k = 256 of as
 // many leaves as give k pairs.
 fn first_members<R: Rows>(
     alloc: Global,
@@ -53,7 +54,7 @@ fn first_members<R: Rows>(
 {
     let k = search.k();
     let mut list = KBest::new(alloc, k)?;
-    let Some(first) = search.start_leaf() else {
+    let Some(first) = first_leaf(search) else {
         return Ok(list);
     };
     let mut members = 0usize;

@@ -6,9 +6,9 @@
 mod all_rows;
 mod answer;
 mod by_leaves;
+mod first_leaf;
 mod first_limit;
 mod near_leaves;
-mod searcher;
 mod stretches;
 mod sweep;
 mod team;

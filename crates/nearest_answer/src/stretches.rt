@@ -1,4 +1,4 @@
-//! Stretches: what a worker draws at a time. Where means or codes tell members apart it is a group of leaves, and else it is some
+//! Stretches: what a worker draws at a time. Where means or codes tell members apart it is some leaves in a row, and else it is some
 //! rows in a row. Each series is in one stretch alone.
 ghost use Rattle.std.specs.Prelude.{◌≡◌, ◌*◌, ◌<◌, length};
 ghost use Rattle.nearest_answer.specs.declared.telling.ApartBy.TheVariants.{Means, Codes, Nothing};
@@ -8,17 +8,16 @@ ghost use Rattle.search_task.specs.Scanning.{AreScanned};
 
 use crate::sweep::sweep;
 use crate::telling::ApartBy;
-use crate::tuning::ROWS_OF_STRETCH;
+use crate::tuning::{LEAVES_OF_STRETCH, ROWS_OF_STRETCH};
 use search_task::{Search, most_to_add};
 use series_core::{KBest, Rows};
-use subtree_build::GROUP;
 
 /// How many stretches there are.
 pub(crate) fn stretch_count<R: Rows>(search: &Search<'_, R>, by: ApartBy) -> u32
     ensures { IsCut search.now by result }
 {
     match by {
-        ApartBy::Means | ApartBy::Codes => search.leaf_count().div_ceil(GROUP),
+        ApartBy::Means | ApartBy::Codes => search.leaf_count().div_ceil(LEAVES_OF_STRETCH),
         ApartBy::Nothing => search.task().count().div_ceil(ROWS_OF_STRETCH),
     }
 }
@@ -37,42 +36,41 @@ pub(crate) fn scan_stretch<R: Rows>(
     ensures pairs { AreScanned search.now.question limit (stretch search.now by number) list.old.pairs list.new.pairs }
 {
     match by {
-        ApartBy::Means => scan_group(search, number, limit, list),
-        ApartBy::Codes => sweep_group(search, number, limit, list),
+        ApartBy::Means => scan_leaves(search, number, limit, list),
+        ApartBy::Codes => sweep_leaves(search, number, limit, list),
         ApartBy::Nothing => scan_rows(search, number, limit, list),
     }
 }
 
-// Scans the leaves of a group: none of them where the box of the group is too far, and of the others none whose own box is.
-fn scan_group<R: Rows>(search: &Search<'_, R>, group: u32, limit: u64, list: &mut KBest)
-    requires group { group * 16 < length search.now.index.leaves }
+// Scans some leaves in a row, but for those whose box is too far.
+fn scan_leaves<R: Rows>(search: &Search<'_, R>, number: u32, limit: u64, list: &mut KBest)
+    requires number { number * 256 < length search.now.index.leaves }
     requires k { list.old.k ≡ search.now.question.k }
     ensures k { list.new.k ≡ search.now.question.k }
-    ensures pairs { AreScanned search.now.question limit (stretch search.now Means group) list.old.pairs list.new.pairs }
+    ensures pairs { AreScanned search.now.question limit (stretch search.now Means number) list.old.pairs list.new.pairs }
 {
+    // for the fact that the list is one: in order, and no longer than its limit
+    let _held = list.pairs();
     let leaves = search.leaf_count();
-    if search.group_bound(group) > most_to_add(limit, list) {
-        return;
-    }
-    let first = group * GROUP;
-    let end = first + GROUP.min(leaves - first);
+    let first = number * LEAVES_OF_STRETCH;
+    let end = first + LEAVES_OF_STRETCH.min(leaves - first);
     for leaf in first..end {
         search.scan_boxed(leaf, limit, list);
     }
 }
 
-// Scans the leaves of a group by the codes of their members' rows alone.
-fn sweep_group<R: Rows>(search: &Search<'_, R>, group: u32, limit: u64, list: &mut KBest)
-    requires group { group * 16 < length search.now.index.leaves }
+// Scans some leaves in a row by the codes of their members' rows alone.
+fn sweep_leaves<R: Rows>(search: &Search<'_, R>, number: u32, limit: u64, list: &mut KBest)
+    requires number { number * 256 < length search.now.index.leaves }
     requires k { list.old.k ≡ search.now.question.k }
     ensures k { list.new.k ≡ search.now.question.k }
-    ensures pairs { AreScanned search.now.question limit (stretch search.now Codes group) list.old.pairs list.new.pairs }
+    ensures pairs { AreScanned search.now.question limit (stretch search.now Codes number) list.old.pairs list.new.pairs }
 {
     // for the fact that the list is one: in order, and no longer than its limit
     let _held = list.pairs();
     let leaves = search.leaf_count();
-    let first = group * GROUP;
-    let end = first + GROUP.min(leaves - first);
+    let first = number * LEAVES_OF_STRETCH;
+    let end = first + LEAVES_OF_STRETCH.min(leaves - first);
     for leaf in first..end {
         sweep_leaf(search, leaf, limit, list);
     }

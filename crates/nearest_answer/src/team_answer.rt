@@ -14,12 +14,13 @@ use crate::first_limit::first_limit;
 use crate::near_leaves::near_leaves;
 use crate::stretches::stretch_count;
 use crate::sweep::answer_by_codes;
-use crate::team::{dismiss, draw_together, hire};
+use crate::team::draw_together;
 use crate::telling::{ApartBy, what_tells};
 use crate::tuning::{FIRST_MEMBERS, LEAST_MEMBERS_TO_SHARE, LEAST_VALUES_TO_SHARE};
 use crate::way::first_way;
 use best_word::BestWord;
 use claim_word::Claims;
+use list_team::{dismiss, hire};
 use outside::{Gate, NoMemory};
 use search_task::{Search, Task};
 use series_core::{Entry, KBest, PairList, Rows};
@@ -197,7 +198,9 @@ fn side_by_side<T: Threads + Sync, R: Rows + Sync, G: Gate + Sync>(
     let workers = crew.workers.min(count.max(1));
     let (best, words) = BestWord::begin(crew.alloc, search.task(), limit, workers)?;
     let (claims, passes) = Claims::begin(crew.alloc, u64::from(count), workers)?;
-    let mut team = hire(crew.alloc, search, &claims, &best, passes, words)?;
+    let k = search.k();
+    let mut team = hire(crew.alloc, &claims, &best, k, passes, words)?;
     draw_together(crew.rt, search, by, &claims, &best, crew.gate, &mut team);
-    dismiss(crew.alloc, search, by, claims, team)
+    let list = dismiss(crew.alloc, k, claims, team)?;
+    Ok(list)
 }

@@ -3,9 +3,7 @@
 ghost use Rattle.std.specs.Prelude.{◌<◌, length};
 ghost use Rattle.search_task.specs.Questions.{leaf_series};
 
-use crate::tuning::{
-    LEAST_VALUES_TO_SWEEP, SAMPLE_LEAVES, SAMPLE_MEMBERS, SHARE_BY_LEAVES, SHARE_OF, SHARE_TO_SWEEP,
-};
+use crate::tuning::{SAMPLE_LEAVES, SAMPLE_MEMBERS, SHARE_BY_LEAVES, SHARE_OF, SHARE_TO_SWEEP};
 use row_codes::CodeLimit;
 use search_task::Search;
 use series_core::Rows;
@@ -41,13 +39,11 @@ pub(crate) fn what_tells<R: Rows>(search: &Search<'_, R>, limit: u64) -> ApartBy
     if sample.left.saturating_mul(SHARE_OF) > sample.members.saturating_mul(share) {
         return ApartBy::Nothing;
     }
-    if !little {
-        return ApartBy::Means;
+    if little {
+        ApartBy::Codes
+    } else {
+        ApartBy::Means
     }
-    if search.task().row_length() < LEAST_VALUES_TO_SWEEP {
-        return ApartBy::Nothing;
-    }
-    ApartBy::Codes
 }
 
 /// Whether means leave more than half of the members near, by one member of each leaf of the sample.

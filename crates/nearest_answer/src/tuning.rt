@@ -11,11 +11,14 @@ pub(crate) const GUESSED_PLACE: usize = 9;
 /// long for 1000 of 500,000 walks.
 pub(crate) const MOST_RANKS_BY_SAMPLE: u32 = 64;
 
-/// Up to which k the leaves next to the start leaf are scanned until they hold k members. For a greater k all leaves are listed anyway.
+/// Up to which k the leaves next to the first leaf are scanned until they hold k members. For a greater k all leaves are listed anyway.
 pub(crate) const MOST_RANKS_OF_NEXT_LEAVES: u32 = 256;
 
 /// How many members are scanned for a closer limit where means tell little by the first one.
-pub(crate) const CLOSER_MEMBERS: usize = 512;
+pub(crate) const CLOSER_MEMBERS: usize = 256;
+
+/// How many of them there are to be for each of the k: of fewer, the k-th is too far to tell anything by.
+pub(crate) const CLOSER_MEMBERS_EACH: usize = 8;
 
 /// Which part of that limit is taken off for the guess what tells members apart, since the last distance lies below it: a quarter.
 pub(crate) const CLOSER_PART: u64 = 4;
@@ -50,15 +53,16 @@ pub(crate) const SHARE_BY_LEAVES: u64 = 3;
 /// times that of a row in order.
 pub(crate) const SHARE_TO_SWEEP: u64 = 8;
 
-/// How many values rows have, at least, for a sweep: shorter ones are read as fast as their codes.
-pub(crate) const LEAST_VALUES_TO_SWEEP: usize = 96;
-
-/// How many members the leaves within a limit have, at least, to be shared by all workers: four threads start in some 70 microseconds,
-/// and as long takes one worker for some 10000 members.
-pub(crate) const LEAST_MEMBERS_TO_SHARE: u64 = 32768;
+/// How many members the leaves within a limit have, at least, to be shared by all workers: four threads start in some 70 microseconds, and
+/// one worker takes twice as long at least for so many members.
+pub(crate) const LEAST_MEMBERS_TO_SHARE: u64 = 8192;
 
 /// How many values all rows have, at least, to be shared where codes are swept or all rows are read.
 pub(crate) const LEAST_VALUES_TO_SHARE: u64 = 2_000_000;
+
+/// How many leaves a worker draws at a time. Of noise leaves have two members each, and sixteen of them are swept in a microsecond, as are
+/// sixteen that are all too far: workers that draw so often wait for each other's draws.
+pub(crate) const LEAVES_OF_STRETCH: u32 = 256;
 
 /// How many rows a worker draws at a time where all rows are read.
 pub(crate) const ROWS_OF_STRETCH: u32 = 64;

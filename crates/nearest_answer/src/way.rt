@@ -4,7 +4,9 @@ ghost use Rattle.search_task.specs.Questions.{last_of};
 
 use crate::first_limit::{first_limit, limit_and_guess};
 use crate::telling::{ApartBy, means_tell_little, what_tells};
-use crate::tuning::{CLOSER_MEMBERS, CLOSER_PART, FIRST_MEMBERS, MOST_RANKS_BY_SAMPLE};
+use crate::tuning::{
+    CLOSER_MEMBERS, CLOSER_MEMBERS_EACH, CLOSER_PART, FIRST_MEMBERS, MOST_RANKS_BY_SAMPLE,
+};
 use outside::NoMemory;
 use search_task::Search;
 use series_core::Rows;
@@ -41,10 +43,16 @@ fn way_for_many<R: Rows>(alloc: Global, search: &Search<'_, R>) -> Result<(Apart
 }
 
 // The way where means may tell too little. The first limit may be too wide, so a closer one decides it, less a quarter: the last
-// distance lies below that of a few members, and no list of all leaves is made to learn it.
+// distance lies below that of a few members, and no list of all leaves is made to learn it. Where nothing tells most of them apart by this
+// limit, but means tell half, the leaves of least bound give a closer one before all rows are read.
 fn way_by_sample<R: Rows>(alloc: Global, search: &Search<'_, R>) -> Result<(ApartBy, u64), NoMemory>
     ensures limit { IfOk result (λ r. last_of search.now.question ≤ r.1) }
 {
-    let close = first_limit(alloc, search, CLOSER_MEMBERS)?;
-    Ok((what_tells(search, close - close / CLOSER_PART), close))
+    let members = CLOSER_MEMBERS.max(CLOSER_MEMBERS_EACH * search.k() as usize);
+    let close = first_limit(alloc, search, members)?;
+    let guess = close - close / CLOSER_PART;
+    match what_tells(search, guess) {
+        ApartBy::Nothing if !means_tell_little(search, guess) => Ok((ApartBy::Means, close)),
+        by => Ok((by, close)),
+    }
 }

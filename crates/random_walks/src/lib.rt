@@ -4,6 +4,3 @@
 mod drawing;
 
 pub use drawing::{generator, walks};
-
-#[cfg(test)]
-mod tests;

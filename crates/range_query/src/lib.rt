@@ -6,4 +6,4 @@ mod range;
 mod team;
 mod walk;
 
-pub use range::within;
+pub use range::{within, within_alone};

@@ -1,17 +1,18 @@
-//! Workers that draw groups of root children until none is left, each with what it found.
+//! Workers that draw groups of root children until none is left, each with what it found: side by side, or one alone.
 ghost use Rattle.std.specs.Prelude.{◌≡◌, ◌<◌, ◌≤◌, ◌++◌, All, IfOk, OnOk, IfSome, length, vec_len};
 ghost use Rattle.claim_word.specs.Passes.{fresh_pass};
 ghost use Rattle.range_query.specs.Searches.{IsReady, asked_of};
 ghost use Rattle.range_query.specs.Done.{IsDone};
 ghost use Rattle.range_query.specs.Near.{group_count, near_group};
+ghost use Rattle.series_core.specs.Answer.{within};
 
 use crate::walk::Search;
 use claim_word::Claims;
-use outside::{Gate, NoMemory};
+use outside::{Gate, NoGate, NoMemory};
 use series_core::{Pair, Rows};
 use std::alloc::Global;
 use std::thread::Threads;
-use worker_team::{TeamWorker, for_each_mut};
+use worker_team::{TeamWorker, dismiss, for_each_mut, hire, joined};
 
 /// Finds the pairs within the radius below the root children of a group.
 fn search_group<R: Rows>(
@@ -104,4 +105,81 @@ pub(crate) fn draw_together<T: Threads + Sync, R: Rows + Sync, G: Gate + Sync>(
         team.as_mut_slice(),
         &|_, worker| work(alloc, search, claims, gate, worker),
     );
+}
+
+/// Lets a worker alone draw, in this thread.
+pub(crate) fn draw_alone<R: Rows>(
+    alloc: Global,
+    search: &Search<'_, R>,
+    claims: &Claims,
+    team: &mut Vec<TeamWorker<Vec<Pair>>>,
+)
+    requires ready { IsReady R.collection search.now }
+    requires size { (1 ≤ search.now.size) × (search.now.size ≤ 64) }
+    requires count { claims.now.count ≡ group_count search.now.size (length search.now.index.now.roots) }
+    requires one { vec_len team.old ≡ 1 }
+    requires fresh { All (λ w. w.pass ≡ fresh_pass claims.now) team.old.items }
+    ensures len { vec_len team.new ≡ vec_len team.old }
+    ensures own { All (λ w. w.pass.claims ≡ claims.now) team.new.items }
+    ensures done { let asked = asked_of R.collection search.now in
+        let done = IsDone asked search.now.index.now search.now.size in
+        All (λ w. IfSome w.made (λ found. done w.pass found.items)) team.new.items }
+{
+    work(alloc, search, claims, &NoGate, &mut team[0]);
+}
+
+/// The counter over the groups of root children, and a team whose workers are to draw them.
+pub(crate) fn begin<R: Rows>(
+    alloc: Global,
+    search: &Search<'_, R>,
+    workers: u32,
+) -> Result<(Claims, Vec<TeamWorker<Vec<Pair>>>), NoMemory>
+    requires workers { (1 ≤ workers) × (workers ≤ 64) }
+    requires size { 1 ≤ search.now.size }
+    ensures count { let groups = group_count search.now.size (length search.now.index.now.roots) in
+        IfOk result (λ r. r.0.count ≡ groups) }
+    ensures callers { IfOk result (λ r. r.0.callers ≡ workers) }
+    ensures len { IfOk result (λ r. vec_len r.1 ≡ workers) }
+    ensures fresh { IfOk result (λ r. All (λ w. w.pass ≡ fresh_pass r.0) r.1.items) }
+{
+    let groups = groups(search.index.root_count(), search.size);
+    let (claims, passes) = Claims::begin(alloc, groups, workers)?;
+    let team = hire(alloc, &claims, passes, &[0; 64])?;
+    Ok((claims, team))
+}
+
+/// The number of groups of at most `size` into which `roots` root children fall.
+fn groups(roots: u32, size: u32) -> u64
+    requires size { 1 ≤ size }
+    ensures value { result ≡ group_count size roots }
+    ensures few { result ≤ roots }
+{
+    (u64::from(roots) + u64::from(size - 1)) / u64::from(size)
+}
+
+/// Ends the drawing: what all workers found, in order, is all that is near.
+pub(crate) fn end<R: Rows>(
+    alloc: Global,
+    search: &Search<'_, R>,
+    claims: Claims,
+    team: Vec<TeamWorker<Vec<Pair>>>,
+) -> Result<Vec<Pair>, NoMemory>
+    requires ready { IsReady R.collection search.now }
+    requires size { 1 ≤ search.now.size }
+    requires count { claims.count ≡ group_count search.now.size (length search.now.index.now.roots) }
+    requires all { vec_len team ≡ claims.callers }
+    requires some { 0 < vec_len team }
+    requires own { All (λ w. w.pass.claims ≡ claims) team.items }
+    requires done { let asked = asked_of R.collection search.now in
+        let done = IsDone asked search.now.index.now search.now.size in
+        All (λ w. IfSome w.made (λ found. done w.pass found.items)) team.items }
+    ensures { let asked = asked_of R.collection search.now in
+        IfOk result (λ pairs. pairs.items ≡ within asked.collection asked.query asked.radius) }
+{
+    let _ = search;
+    let (passes, made) = dismiss(alloc, team)?;
+    claims.close(passes);
+    let mut found = joined(alloc, made)?;
+    found.sort_unstable();
+    Ok(found)
 }

@@ -1,16 +1,19 @@
 //! The walk over one root child: it is cut where its bound is above the radius, and so is each leaf below it, by the box of its
 //! means; the members of the leaves that remain are tested by the bounds of their means and then by their distances.
-ghost use Rattle.std.specs.Prelude.{◌≡◌, ◌<◌, ◌++◌, [], OnOk, length, true};
+ghost use Rattle.std.specs.Prelude.{◌≡◌, ◌<◌, ◌≤◌, ◌++◌, [], OnOk, length, true};
 ghost use Rattle.std.specs.Option.{option_to_list};
+ghost use Rattle.lower_bound.specs.Bound.{view_of};
+ghost use Rattle.mean_bound.specs.MeanBound.{mean_view_of};
+ghost use Rattle.subtree_build.specs.Fits.{Fits};
 ghost use Rattle.subtree_build.specs.Means.{means_of};
 ghost use Rattle.range_query.specs.Searches.{IsReady, asked_of};
-ghost use Rattle.range_query.specs.Near.{near_series, near_leaf, near_root};
+ghost use Rattle.range_query.specs.Near.{IsAsked, ask, near_series, near_leaf, near_root};
 
 use isax_word::Member;
 use lower_bound::QueryView;
 use mean_bound::{MeanView, Means};
 use outside::NoMemory;
-use series_core::{Pair, Rows};
+use series_core::{Pair, Rows, values_fit};
 use simd_distance::distance_within;
 use subtree_build::Index;
 
@@ -37,7 +40,61 @@ fn keep(found: &mut Vec<Pair>, pair: Option<Pair>) -> Result<(), NoMemory>
     }
 }
 
+/// How many root children a worker takes at a time: an eighth of its share, but no more than 64.
+fn group_size(roots: u32, workers: u32) -> u32
+    requires { (1 ≤ workers) × (workers ≤ 64) }
+    ensures { (1 ≤ result) × (result ≤ 64) }
+{
+    (roots / (8 * workers)).clamp(1, 64)
+}
+
+/// The law that an index that fits under the layout of a query's view is all that a search rests on.
+fn search_law<R: Rows>(rows: &R, index: &Index, view: &QueryView, query: &[i16], radius: u64)
+    requires fits { Fits (R.collection rows.now) view.now.layout index.now }
+    requires length { (R.collection rows.now).points ≡ view.now.layout.cuts.row_length }
+    requires query { length query.now ≡ view.now.layout.cuts.row_length }
+    requires view { view.now ≡ view_of view.now.layout query.now }
+    ensures { IsAsked (ask (R.collection rows.now) query.now radius) index.now view.now }
+{
+    let _count = rows.count();
+    let _roots = index.root_count();
+    let _segments = view.segments();
+    values_fit(query);
+}
+
 impl<'a, R: Rows> Search<'a, R> {
+    /// The search for all pairs within a radius of a query that is seen so, by so many workers.
+    pub fn new(
+        rows: &'a R,
+        index: &'a Index,
+        view: &'a QueryView,
+        means: &'a MeanView,
+        query: &'a [i16],
+        radius: u64,
+        workers: u32,
+    ) -> Search<'a, R>
+        requires fits { Fits (R.collection rows.now) view.now.layout index.now }
+        requires length { (R.collection rows.now).points ≡ view.now.layout.cuts.row_length }
+        requires query { length query.now ≡ view.now.layout.cuts.row_length }
+        requires view { view.now ≡ view_of view.now.layout query.now }
+        requires means { means.now ≡ mean_view_of view.now.layout.cuts query.now }
+        requires workers { (1 ≤ workers) × (workers ≤ 64) }
+        ensures ready { IsReady R.collection result }
+        ensures asked { asked_of R.collection result ≡ ask (R.collection rows.now) query.now radius }
+        ensures size { (1 ≤ result.size) × (result.size ≤ 64) }
+    {
+        search_law(rows, index, view, query, radius);
+        Search {
+            rows,
+            index,
+            view,
+            means,
+            query,
+            radius,
+            size: group_size(index.root_count(), workers),
+        }
+    }
+
     /// The pair of a member with these means, where it is within the radius.
     fn near(&self, member: &Member, means: &Means) -> Option<Pair>
         requires ready { IsReady R.collection self.now }

@@ -1,6 +1,6 @@
 -- Codes of whole rows: a row is cut into blocks of 256 values, and each block has a step of its own. What the codes forget of the row is
 -- told by one length that grows from block to block.
-use Rattle.std.specs.Prelude.{ℕ, ℤ, zero, suc, ◌+◌, ◌-◌, ◌/◌, List, [], ◌∷◌, ◌++◌, cond, drop, length, map, nat_lt, replicate, take}
+use Rattle.std.specs.Prelude.{ℕ, ℤ, zero, suc, ◌+◌, ◌-◌, ◌/◌, List, [], ◌∷◌, ◌++◌, drop, length, map, replicate, take}
 use Rattle.series_core.specs.Distance.{squared_distance}
 use Rattle.row_codes.specs.Roots.{root_up}
 use Rattle.row_codes.specs.Codes.{code_of, doubled, packed, pictured, places_squared, step_of}
@@ -13,9 +13,9 @@ pub record Block : Type 0 where
   pub squares : ℕ
   pub rest : ℕ
 
--- how many blocks a row of length n has: none where it has fewer than 16 values, else one for each 256 of them and one for what is left
+-- how many blocks a row of length n has: one for each 256 values and one for what is left
 abbrev pub block_count : ℕ → ℕ
-block_count n = cond (nat_lt n 16) 0 ((n + 255) / 256)
+block_count n = (n + 255) / 256
 
 -- the codes of the values of a block
 abbrev pub value_codes : List ℤ → List ℕ

@@ -1,4 +1,4 @@
-//! What is kept of a row: blocks of 256 values each, in 4 bits a value. A row of fewer than 16 values has none.
+//! What is kept of a row: blocks of 256 values each, in 4 bits a value. Each value has a code, and the last block may have fewer.
 ghost use Rattle.std.specs.Prelude.{◌≡◌, ◌+◌, ◌*◌, ◌≤◌, [], length, replicate};
 ghost use Rattle.row_codes.specs.Rows.{block_count, block_of, forgotten, row_codes};
 
@@ -69,14 +69,13 @@ impl CodeBlock {
     }
 }
 
-/// How many blocks are kept of a row of `n` values: none where there are fewer than 16, else one for each 256 of them and one for what is
-/// left.
+/// How many blocks are kept of a row of `n` values: one for each 256 of them and one for what is left.
 pub fn block_count(n: u32) -> u32
     requires { n ≤ 65536 }
     ensures value { result ≡ block_count n }
     ensures few { result ≤ 256 }
 {
-    if n < 16 { 0 } else { (n + 255) / 256 }
+    (n + 255) / 256
 }
 
 /// Puts the codes of a row of at most 65536 values in their places, of which there are as many as the row has blocks (`block_count`). Several

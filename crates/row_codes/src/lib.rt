@@ -18,6 +18,3 @@ pub use four::four_within;
 pub use laws::{code_bound_is_below_distance, codes_have_squares};
 pub use limit::CodeLimit;
 pub use view::CodeView;
-
-#[cfg(test)]
-mod tests;

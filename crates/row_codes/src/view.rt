@@ -53,7 +53,7 @@ impl<'a> CodeView<'a> {
     }
 
     /// Whether the lower bound of a row by its codes is at most a limit of the squared distance. The codes are those of a row as long as the
-    /// query: a row that is not within is farther than the limit. A row of fewer than 16 values has no codes, and is always within.
+    /// query: a row that is not within is farther than the limit. A row of no values has no codes, and is always within.
     pub fn is_within(&self, codes: &[CodeBlock], limit: &CodeLimit) -> bool
         requires { AreCodesFor (length self.now) codes.now }
         ensures { result ≡ leb (code_bound self.now codes.now) limit.now }

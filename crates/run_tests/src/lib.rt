@@ -3,26 +3,4 @@
 #![tactic(auto)]
 
 #[cfg(test)]
-mod certifying;
-#[cfg(test)]
-mod commands;
-#[cfg(test)]
-mod converting;
-#[cfg(test)]
-mod failing;
-#[cfg(test)]
-mod fixture;
-#[cfg(test)]
-mod indexes;
-#[cfg(test)]
-mod refusing;
-#[cfg(test)]
-mod runs;
-#[cfg(test)]
-mod trials;
-#[cfg(test)]
-mod verifying;
-#[cfg(test)]
-mod windows;
-#[cfg(test)]
-mod words;
+mod tests;

@@ -39,13 +39,8 @@ read_from files old new = record {
 
 -- what writing did between two states of a sink of this kind
 abbrev pub wrote_to : {S : Type 0} → SinkOf S → S → S → Writing
-wrote_to sink old new = record {
-  before = sink.written old;
-  now = sink.written new;
-  faults = sink.faults old;
-  later = sink.faults new;
-  sure = sink.sure old;
-}
+wrote_to sink old new =
+    record { before = sink.written old; now = sink.written new; faults = sink.faults old; later = sink.faults new; sure = sink.sure old }
 
 -- a part of a reading that goes on to its end
 pub record EndsReading (whole part : Reading) : Type 0 where

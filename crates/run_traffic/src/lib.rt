@@ -2,10 +2,8 @@
 //! Nothing here knows what a program is for, or by which status it ends.
 #![tactic(auto)]
 
-mod line_text;
 mod lines;
 
-pub use line_text::{LINE_ROOM, LineText};
 pub use lines::{push_line, push_number};
 
 #[cfg(test)]

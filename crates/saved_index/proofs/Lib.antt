@@ -21,3 +21,4 @@ pub mod OfSaved
 pub mod NoFault
 pub mod TextTold
 pub mod LoadsBack
+pub mod Tested

@@ -1,8 +1,9 @@
 -- What was loaded of bytes that are the text of an index over series of a collection's length and count: the parts make an index
 -- (`makes`), whose members are series with their own words (`series`, `words_long`), and which has the bytes as its text (`text`) and
--- fits (`fits`), or else they have that against it (`unfit`).
-use Rattle.std.proofs.Common.{◌≡◌, ℕ, ◌<◌, ◌≤◌, List, length, map, None, Some, sym, ap, ◌∙◌, subst, arith, Fits as FitsIn, w8, All}
+-- fits (`fits`), and can be saved again (`saves`), or else they have that against it (`unfit`).
+use Rattle.std.proofs.Common.{◌≡◌, ℕ, ◌<◌, ◌≤◌, List, length, map, get_or, None, Some, sym, ap, ◌∙◌, subst, arith, Fits as FitsIn, w8, All}
 use Rattle.std.specs.Prelude.{flat_map, option_map, slice_index}
+use Rattle.std.proofs.lemmas.List.{length-map}
 use Rattle.series_core.specs.Collection.{Collection}
 use Rattle.series_file.proofs.Numbers.{AreBytes}
 use Rattle.segment_sums.specs.Division.{IsDivision}
@@ -21,11 +22,11 @@ use Rattle.saved_index.specs.declared.error.IndexFault.TheVariants.{Unfit}
 use Rattle.saved_index.specs.declared.reading.Spelled.{Spelled}
 use Rattle.saved_index.specs.Fields.{header_of}
 use Rattle.saved_index.specs.Faults.{first_unfit, index_fault, layout_for, saved_leaves}
-use Rattle.saved_index.specs.IndexText.{IndexText, header_for}
+use Rattle.saved_index.specs.IndexText.{CanSave, HasSaved, IndexText, header_for}
 use Rattle.saved_index.specs.Loading.{IsIndexFor, IsSavedFor, IsTextFor}
 use Rattle.saved_index.specs.Membership.{first_unfit_of, members_in_lists, words_of}
-use Rattle.saved_index.specs.Saved.{Header, IsHeader, IsTextOf}
-use Rattle.saved_index.proofs.Below.{AreBelow, all_below}
+use Rattle.saved_index.specs.Saved.{AreNumbers, Header, IsHeader, IsTextOf}
+use Rattle.saved_index.proofs.Below.{AreBelow, all_below, all_numbers}
 use Rattle.saved_index.proofs.Fitted.{fits_by_weight}
 use Rattle.saved_index.proofs.LeavesTold.{leaves_told, worded_leaf}
 use Rattle.saved_index.proofs.MakesIndex.{read_makes_index}
@@ -34,7 +35,7 @@ use Rattle.saved_index.proofs.Refusals.{short_fault, unfit_fault}
 use Rattle.saved_index.proofs.SoundWhole.{saved_sound}
 use Rattle.saved_index.proofs.TextTold.{text_told}
 use Rattle.saved_index.proofs.Weights.{unfit_by_weight}
-use Rattle.saved_index.proofs.Wording.{are_series, have_segments, have_words, lists_back}
+use Rattle.saved_index.proofs.Wording.{are_series, each_leaf, have_segments, have_words, lists_back}
 
 -- what is saved is over series of the collection's length and count
 module _ (c : Collection) (bytes : List ℕ) (r : Spelled) (each : (i : ℕ) → FitsIn w8 (slice_index bytes i))
@@ -92,6 +93,22 @@ module _ (c : Collection) (bytes : List ℕ) (r : Spelled) (each : (i : ℕ) →
     -- its members are series
     pub series : All (λ (x : TreeLeaf). All (λ m. m.number < length c.series) x.members) ix.leaves
     series = are_series c settings.layout r.found.lists.items ix.leaves parts.members series_below
+
+    -- each of its leaves can be saved
+    saved_leaves_are : All (HasSaved (length c.series)) ix.leaves
+    saved_leaves_are k d inside =
+        let s = read.read.saved in
+        let Lists : List (List ℕ) → Type 0 = λ ls. All (AreNumbers s.header.count) ls in
+        let numbers = subst Lists (sym numbers_are)
+        (all_numbers s.header.segments s.header.count s.roots s.nodes is_text.sound.nodes) in
+        let own = each_leaf (AreNumbers s.header.count) (λ (x : TreeLeaf). numbers_of x.members) ix.leaves numbers k d inside in
+        let long : length (numbers_of (get_or ix.leaves k d).members) ≡ length (get_or ix.leaves k d).members
+        = length-map (get_or ix.leaves k d).members (λ m. m.number) in
+        record {
+          some = omega (arith, own.some, long);
+          ascend = own.ascend;
+          below = series k d inside;
+        }
 
     own : All (MembersAreSeries c settings.layout) ix.leaves
     own = have_words c settings.layout r.found.lists.items ix.leaves parts.members series_below
@@ -162,6 +179,18 @@ module _ (c : Collection) (bytes : List ℕ) (r : Spelled) (each : (i : ℕ) →
         some_leaf_size = omega (arith, size_is, limits.some_leaf_size);
         leaf_size_limit = omega (arith, size_is, limits.leaf_size_limit);
       }
+
+      -- it can be saved again
+      pub saves : CanSave settings (length c.series) jx
+      saves =
+          let P : List TreeLeaf → Type 0 = λ ls. All (HasSaved (length c.series)) ls in
+          record {
+            segments = means.segments ∙ parts.segments;
+            count_limit = omega (arith, is_text.sound.header.count_limit, many);
+            some_leaf_size = omega (arith, size_is, limits.some_leaf_size);
+            leaf_size_limit = omega (arith, size_is, limits.leaf_size_limit);
+            leaves = subst P (sym means.leaves) saved_leaves_are;
+          }
 
       header_is : header_for settings (length c.series) ≡ read.read.saved.header
       header_is i = record {

@@ -1,5 +1,5 @@
 -- Members that are made of numbers: they have these numbers (`lists_back`), they are series (`are_series`) with their own words
--- (`have_words`), of the layout's number of segments (`have_segments`).
+-- (`have_words`), of the layout's number of segments (`have_segments`); and what holds of each leaf (`each_leaf`).
 use Rattle.std.proofs.Common.{◌≡◌, ℕ, ◌<◌, List, [], ◌∷◌, length, map, get_or, refl, sym, ap, ◌∙◌, subst, arith, All}
 use Rattle.std.proofs.Math.ListN.{get_or-map}
 use Rattle.std.proofs.lemmas.List.{length-map, get_or-map as word_there}
@@ -15,12 +15,16 @@ use Rattle.subtree_build.proofs.Bounds.{length-full_word}
 use Rattle.saved_index.specs.Membership.{members_in_lists, with_word, words_of}
 use Rattle.saved_index.proofs.Below.{AreBelow}
 
+-- what holds of what each leaf has holds leaf by leaf
+pub each_leaf : {Y : Type 0} (P : Y → Type 0) (f : TreeLeaf → Y) (leaves : List TreeLeaf) → All P (map f leaves)
+    → All (λ (x : TreeLeaf). P (f x)) leaves
+each_leaf P f leaves all k d inside =
+    subst P (get_or-map f leaves k d) (all k (f d) (omega (arith, inside, length-map leaves f)))
+
 -- what holds of the members of each list holds of those of each leaf
 leaves_have : (P : List Member → Type 0) (leaves : List TreeLeaf) → All P (map (λ x. x.members) leaves)
     → All (λ (x : TreeLeaf). P x.members) leaves
-leaves_have P leaves all k d inside =
-    let members : TreeLeaf → List Member = λ x. x.members in
-    subst P (get_or-map members leaves k d) (all k d.members (omega (arith, inside, length-map leaves members)))
+leaves_have P leaves all = each_leaf P (λ (x : TreeLeaf). x.members) leaves all
 
 numbers_back : (words : List (List ℕ)) (numbers : List ℕ) → numbers_of (map (with_word words) numbers) ≡ numbers
 numbers_back words [] = refl

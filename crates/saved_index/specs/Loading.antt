@@ -5,14 +5,17 @@ use Rattle.outside.specs.Count.{Rose}
 use Rattle.outside.specs.Files.{Held, Blames, TakesAtMost}
 use Rattle.segment_sums.specs.Division.{IsDivision}
 use Rattle.series_core.specs.Collection.{Collection}
+use Rattle.subtree_build.specs.Assembly.{IsOfParts}
 use Rattle.subtree_build.specs.Fits.{Fits}
 use Rattle.subtree_build.specs.Index.{IsIndex}
 use Rattle.saved_index.specs.declared.error.IndexFault.{IndexFault}
 use Rattle.saved_index.specs.declared.error.IndexFault.TheVariants.{TooLong, ReadFault, NoMemory}
 use Rattle.saved_index.specs.declared.loading.LoadedIndex.{LoadedIndex}
 use Rattle.saved_index.specs.declared.reading.Spelled.{Spelled}
-use Rattle.saved_index.specs.Faults.{index_fault}
+use Rattle.saved_index.specs.Faults.{index_fault, layout_for}
+use Rattle.saved_index.specs.Fields.{header_of}
 use Rattle.saved_index.specs.IndexText.{IndexText}
+use Rattle.saved_index.specs.Membership.{first_unfit_of, members_in_lists, words_of}
 use Rattle.saved_index.specs.Parsed.{IsSavedRead}
 
 -- An index by which a collection may be searched: it fits the collection under the layout of its settings, which is for series of the
@@ -35,6 +38,17 @@ pub record IsSavedFor (c : Collection) (bytes : List ℕ) (r : Spelled) : Type 0
   pub read : IsSavedRead bytes r
   pub points : r.fields.length ≡ c.points
   pub count : r.fields.count ≡ length c.series
+
+-- What was read of bytes was put together, and no series of the collection is found that does not fit: only means and codes are wanted.
+pub record IsTested (c : Collection) (bytes : List ℕ) (loaded : LoadedIndex) : Type 0 where
+  pub spelled : Spelled
+  pub saved : IsSavedFor c bytes spelled
+  pub layout : loaded.settings.layout ≡ layout_for (header_of spelled.fields)
+  pub leaf_size : loaded.settings.leaf_size ≡ spelled.fields.leaf_size
+  pub is_index : IsIndex loaded.index
+  pub parts : IsOfParts loaded.settings.layout.cuts.segments spelled.found.roots.items spelled.found.nodes.items
+      (members_in_lists (words_of c loaded.settings.layout) spelled.found.lists.items) loaded.index
+  pub none_unfit : None ≡ first_unfit_of loaded.index.leaves (length c.series)
 
 -- The refusal is what bytes have against a collection, or want of memory.
 abbrev pub Refuses : Collection → List ℕ → IndexFault → Type 0

@@ -18,15 +18,6 @@ pub use error::IndexFault;
 pub use laws::{
     loads_back_law, no_fault_law, one_text_law, reading_law, text_tells_index_law, tree_law,
 };
-pub use loading::{LoadedIndex, load};
+pub use loading::{LoadedIndex, load, load_alone};
 pub use savable::can_save;
 pub use saving::save;
-
-#[cfg(test)]
-mod load_tests;
-#[cfg(test)]
-mod plain_fault;
-#[cfg(test)]
-mod plain_reader;
-#[cfg(test)]
-mod tests;

@@ -1,7 +1,8 @@
 //! Loading a saved index over a collection: nothing of its bytes is believed. What was read is tested against the rows, series by series,
 //! before it is handed out, and the first refusal in the order of `IndexFault` is given.
 ghost use Rattle.std.specs.Prelude.{◌≡◌, ◌≤◌, IfOk, IfErr, length};
-ghost use Rattle.saved_index.specs.Loading.{Explains, IsIndexFor, IsSavedFor, IsTextFor, Leaves, Loads, LoadsWhole, Refuses};
+ghost use Rattle.saved_index.specs.IndexText.{CanSave};
+ghost use Rattle.saved_index.specs.Loading.{Explains, IsIndexFor, IsSavedFor, IsTested, IsTextFor, Leaves, Loads, LoadsWhole, Refuses};
 
 use crate::error::IndexFault;
 use crate::fitting::first_unfit;
@@ -51,6 +52,27 @@ pub fn load<H: Threads + Sync, F: Files, R: Rows + Sync>(
     load_bytes(rt, alloc, bytes.as_slice(), rows, workers)
 }
 
+/// Loads these bytes as a saved index over these rows, by one worker in the caller's thread: it wants no leave to start threads. It
+/// refuses as `load` does, with the first of `TooLong`, `NotIndex`, `Length`, `Count` and `Unfit` that the bytes have against the rows, and
+/// only with that or with `NoMemory`.
+pub fn load_alone<R: Rows>(alloc: Global, bytes: &[u8], rows: &R) -> Result<LoadedIndex, IndexFault>
+    ensures fits { IfOk result (IsIndexFor (R.collection rows.now)) }
+    ensures text { IfOk result (λ loaded. IsTextFor (R.collection rows.now) loaded bytes.now) }
+    ensures saves { let count = length (R.collection rows.now).series in
+        IfOk result (λ loaded. CanSave loaded.settings count loaded.index) }
+    ensures refused { IfErr result (Refuses (R.collection rows.now) bytes.now) }
+{
+    if bytes.len() as u64 > MAX_BYTES {
+        return Err(IndexFault::TooLong);
+    }
+    let LoadedIndex { settings, index } = match tested(alloc, bytes, rows) {
+        Ok(loaded) => loaded,
+        Err(e) => return Err(e),
+    };
+    let index = index.with_means_alone(alloc, rows, &settings.layout)?;
+    Ok(LoadedIndex { settings, index })
+}
+
 /// Loads these bytes as a saved index over these rows.
 pub(crate) fn load_bytes<H: Threads + Sync, R: Rows + Sync>(
     rt: &H,
@@ -65,6 +87,20 @@ pub(crate) fn load_bytes<H: Threads + Sync, R: Rows + Sync>(
     ensures text { IfOk result (λ loaded. IsTextFor (R.collection rows.now) loaded bytes.now) }
     ensures refused { IfErr result (Refuses (R.collection rows.now) bytes.now) }
 {
+    let LoadedIndex { settings, index } = match tested(alloc, bytes, rows) {
+        Ok(loaded) => loaded,
+        Err(e) => return Err(e),
+    };
+    let index = index.with_means(rt, alloc, rows, &settings.layout, workers)?;
+    Ok(LoadedIndex { settings, index })
+}
+
+/// What the bytes are the text of, put together and tested against the rows. It has no means yet.
+fn tested<R: Rows>(alloc: Global, bytes: &[u8], rows: &R) -> Result<LoadedIndex, IndexFault>
+    requires { length bytes.now ≤ 1073741824 }
+    ensures tested { IfOk result (IsTested (R.collection rows.now) bytes.now) }
+    ensures refused { IfErr result (Refuses (R.collection rows.now) bytes.now) }
+{
     let read = match read_for(alloc, bytes, rows) {
         Ok(read) => read,
         Err(e) => return Err(e),
@@ -76,7 +112,6 @@ pub(crate) fn load_bytes<H: Threads + Sync, R: Rows + Sync>(
     if let Some(number) = first_unfit(alloc, &index, rows.count())? {
         return Err(IndexFault::Unfit(number));
     }
-    let index = index.with_means(rt, alloc, rows, &settings.layout, workers)?;
     Ok(LoadedIndex { settings, index })
 }
 

@@ -12,6 +12,7 @@ pub mod OneFault
 pub mod Exactly
 pub mod Concluding
 pub mod Both
+pub mod Stops
 pub mod Stopped
 pub mod Served
 pub mod Searching

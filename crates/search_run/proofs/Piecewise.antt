@@ -12,8 +12,8 @@ use Rattle.search_run.specs.Texts.{IsTextOf}
 use Rattle.search_run.specs.Traffic.{wrote_to}
 use Rattle.search_run.proofs.Pieces.{text_all, text_next}
 use Rattle.search_run.proofs.Writing.{Going, Going-next, Going-prefix, Going-short, Going-stopped}
-use Rattle.search_run.specs.declared.stop.Stop.{Stop}
-use Rattle.search_run.specs.declared.stop.Stop.TheVariants.{WriteFault, NoMemory}
+use Rattle.search_run.specs.declared.status.Status.{Status}
+use Rattle.search_run.specs.declared.status.Status.TheVariants.{WriteFault, Memory}
 
 -- the pieces of the first i queries were written, and nothing else
 abbrev pub HasWritten : {S : Type 0} → SinkOf S → (ℕ → List ℤ → List ℕ → Type 0) → ℕ → List (List ℤ) → S → S → Type 0
@@ -33,8 +33,8 @@ goes_on P i qs piece below new so_far wrote counted spent = (
 
 -- memory ran out behind these pieces
 pub left_stops : {S : Type 0} (sink : SinkOf S) (first now : S)
-    (P : ℕ → List ℤ → List ℕ → Type 0) (i : ℕ) (qs : List (List ℤ)) (given : Result (Unit {0}) Stop)
-    → IsErrAnd given (λ s. s ≡ NoMemory) → HasWritten sink P i qs first now
+    (P : ℕ → List ℤ → List ℕ → Type 0) (i : ℕ) (qs : List (List ℤ)) (given : Result (Unit {0}) Status)
+    → IsErrAnd given (λ s. s ≡ Memory) → HasWritten sink P i qs first now
     → IfErr given (Stops P qs (wrote_to sink first now))
 left_stops sink first now P i qs given is so_far =
     let told = err_from_is_err_and given is in
@@ -42,7 +42,7 @@ left_stops sink first now P i qs given is so_far =
 
 -- the next piece was not written whole, since the sink failed, which was not sure to take it
 pub failed_stops : {S : Type 0} (sink : SinkOf S) (first now next : S)
-    (P : ℕ → List ℤ → List ℕ → Type 0) (i : ℕ) (qs : List (List ℤ)) (piece : List ℕ) (given : Result (Unit {0}) Stop)
+    (P : ℕ → List ℤ → List ℕ → Type 0) (i : ℕ) (qs : List (List ℤ)) (piece : List ℕ) (given : Result (Unit {0}) Status)
     → IsErrAnd given (λ s. s ≡ WriteFault) → i < length qs → P i (get_or qs i []) piece
     → HasWritten sink P i qs first now → AppendsPrefix (sink.written now) piece (sink.written next)
     → Rose (sink.faults now) (sink.faults next) → (length piece ≤ sink.sure now → ⊥)

@@ -20,16 +20,14 @@ use Rattle.search_run.specs.Layouts.{settings_of}
 use Rattle.search_run.specs.Loads.{form_of}
 use Rattle.search_run.specs.Pairs.{Fit, files_plan}
 use Rattle.search_run.specs.Plans.{Refuses, Writes}
-use Rattle.search_run.specs.Status.{status_of}
 use Rattle.search_run.specs.Stops.{Stops}
 use Rattle.search_run.specs.Texts.{Call, IsMade, IsTextOf}
 use Rattle.search_run.specs.Traffic.{Reading, Writing}
 use Rattle.search_run.proofs.Both.{files_refused}
 use Rattle.search_run.proofs.Concluding.{concludes_map, refusal_concludes}
 use Rattle.search_run.proofs.Pieces.{text_finish, text_map}
+use Rattle.search_run.proofs.Stops.{by_stop}
 use Rattle.search_run.specs.declared.commands.search.Ground.{Ground}
-use Rattle.search_run.specs.declared.stop.Stop.{Stop}
-use Rattle.search_run.specs.declared.stop.Stop.TheVariants.{WriteFault, NoMemory}
 use Rattle.search_run.specs.declared.status.Status.{Status}
 use Rattle.search_run.specs.declared.status.Status.TheVariants.{Done}
 
@@ -53,19 +51,17 @@ search_refused Gives reading writing series queries o status refused nothing = r
 -- a search of these files, whose pieces were not written to the end, ends so
 pub search_stopped : (Gives : Call Ground) (reading : Reading) (writing : Writing) (series queries : List ℕ)
     (o : Options) (base : Ground) → IsGround o base → (y : Loaded) → Fit reading.held series queries o base.series y
-    → (stop : Stop) → Stops (IsMade Gives base) y.rows.series writing stop
-    → EndsMaking Gives reading writing series queries o (status_of stop)
-search_stopped Gives reading writing series queries o base over y fit = by_stop
+    → (stop : Status) → Stops (IsMade Gives base) y.rows.series writing stop
+    → EndsMaking Gives reading writing series queries o stop
+search_stopped Gives reading writing series queries o base over y fit =
+    by_stop (IsMade Gives base) y.rows.series writing (EndsMaking Gives reading writing series queries o)
+    (λ x. record { ends = (x.1, begins x.0 x.1 x.2, x.3, x.4, x.5) })
+    (λ x. record { ends = inr (x.1, begins x.0 x.1 x.2, x.3) })
   where
     begins : (n : ℕ) (text : List ℕ) → IsTextOf (IsMade Gives base) (take n y.rows.series) text
         → Writes reading.held (begun_plan Gives series queries o) text
     begins n text is =
         (base.series, fit.hold.first, (y, fit.hold.second, (fit.lengths, (fit.segments, (n, (base, over, refl, is))))))
-
-    by_stop : (stop : Stop) → Stops (IsMade Gives base) y.rows.series writing stop
-        → EndsMaking Gives reading writing series queries o (status_of stop)
-    by_stop WriteFault x = record { ends = (x.1, begins x.0 x.1 x.2, x.3, x.4, x.5) }
-    by_stop NoMemory x = record { ends = inr (x.1, begins x.0 x.1 x.2, x.3) }
 
 -- a search of these files, whose pieces were all written, is done
 pub search_done : (Gives : Call Ground) (reading : Reading) (writing : Writing) (series queries : List ℕ)

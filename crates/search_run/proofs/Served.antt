@@ -11,7 +11,6 @@ use Rattle.search_run.specs.Commands.{nearest_by, nearest_plan, pieces_by, plan_
 use Rattle.search_run.specs.Ends.{Follows, ended}
 use Rattle.search_run.specs.Plans.{Plan, Refuses, Writes}
 use Rattle.search_run.specs.Serves.{Serves}
-use Rattle.search_run.specs.Status.{status_of}
 use Rattle.search_run.specs.Stops.{Stops}
 use Rattle.search_run.specs.Texts.{IsTextOf}
 use Rattle.search_run.specs.Traffic.{Reading, Writing, read_from, wrote_to}
@@ -19,7 +18,6 @@ use Rattle.search_run.proofs.Stopped.{refused_ends, stop_reads_nothing, stopped_
 use Rattle.search_run.specs.declared.status.Status.{Status}
 use Rattle.search_run.specs.declared.status.Status.TheVariants.{Done, Memory, ReadFault}
 use Rattle.search_run.specs.declared.status.Which.{Which}
-use Rattle.search_run.specs.declared.stop.Stop.{Stop}
 
 -- this status as the error of a call
 abbrev pub err_of : (X : Type 0) → Status → Result X Status
@@ -74,13 +72,13 @@ memory_serves files sink plan old new out given is kept = record {
 pub stopped_serves : {F S : Type 0} (files : FilesOf F) (sink : SinkOf S) (plan : Plan) (old new : F) (before now : S)
     (P : ℕ → List ℤ → List ℕ → Type 0) → ((i : ℕ) (q : List ℤ) → (piece : List ℕ) × P i q piece)
     → (qs : List (List ℤ)) → ((text : List ℕ) → IsTextOf P qs text → Writes (files.held old) plan text)
-    → (stop : Stop) (given : Result (Unit {0}) Status) → IsErrAnd given (λ s. s ≡ status_of stop)
+    → (stop : Status) (given : Result (Unit {0}) Status) → IsErrAnd given (λ s. s ≡ stop)
     → Stops P qs (wrote_to sink before now) stop → files.held new ≡ files.held old
     → Serves files sink plan old new before now given
 stopped_serves files sink plan old new before now P each qs right stop given is stopped kept = record {
   answers = stopped_ends P each qs (read_from files old new) plan (wrote_to sink before now) right stop given is stopped;
   kept = kept;
-  reliable = λ sound w. stop_reads_nothing given stop w is;
+  reliable = λ sound w. stop_reads_nothing P qs (wrote_to sink before now) given stop w stopped is;
 }
 
 -- work that gave no status

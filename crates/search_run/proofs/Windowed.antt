@@ -21,9 +21,8 @@ use Rattle.search_run.specs.Windows.{AppendsChoices, HasFew, IsChoice, long_plan
 use Rattle.window_rows.proofs.Enough.{nearest_enough}
 use Rattle.search_run.proofs.Both.{loads_refused}
 use Rattle.search_run.proofs.Pieces.{text_map}
+use Rattle.search_run.proofs.Stops.{by_stop}
 use Rattle.search_run.specs.declared.answers.Telling.TheVariants.{Apart}
-use Rattle.search_run.specs.declared.stop.Stop.{Stop}
-use Rattle.search_run.specs.declared.stop.Stop.TheVariants.{WriteFault, NoMemory}
 use Rattle.search_run.specs.declared.status.Status.{Status}
 
 -- values alone, one a series, are no more than a collection may have series
@@ -48,15 +47,16 @@ long_refused reading series queries o then_ status =
 -- pieces of one kind that were not all written are of another
 stops_map : (P Q : ℕ → List ℤ → List ℕ → Type 0)
     → ((i : ℕ) (q : List ℤ) (piece : List ℕ) → P i q piece → Q i q piece)
-    → (qs : List (List ℤ)) (writing : Writing) (stop : Stop) → Stops P qs writing stop → Stops Q qs writing stop
-stops_map P Q each qs writing WriteFault x =
-    (x.0, x.1, text_map P Q each 0 (take x.0 qs) x.1 x.2, x.3, x.4, x.5)
-stops_map P Q each qs writing NoMemory x = (x.0, x.1, text_map P Q each 0 (take x.0 qs) x.1 x.2, x.3)
+    → (qs : List (List ℤ)) (writing : Writing) (stop : Status) → Stops P qs writing stop → Stops Q qs writing stop
+stops_map P Q each qs writing =
+    by_stop P qs writing (Stops Q qs writing)
+    (λ x. (x.0, x.1, text_map P Q each 0 (take x.0 qs) x.1 x.2, x.3, x.4, x.5))
+    (λ x. (x.0, x.1, text_map P Q each 0 (take x.0 qs) x.1 x.2, x.3))
 
 -- pieces of one kind that were all written are of another
 done_map : (P Q : ℕ → List ℤ → List ℕ → Type 0)
     → ((i : ℕ) (q : List ℤ) (piece : List ℕ) → P i q piece → Q i q piece)
-    → (qs : List (List ℤ)) (before now : Option (List ℕ)) (ended : Result (Unit {0}) Stop)
+    → (qs : List (List ℤ)) (before now : Option (List ℕ)) (ended : Result (Unit {0}) Status)
     → OnOk ended ((text : List ℕ) × IsTextOf P qs text × (now ≡ append_known before text))
     → OnOk ended ((text : List ℕ) × IsTextOf Q qs text × (now ≡ append_known before text))
 done_map P Q each qs before now (Ok u) x = (x.0, text_map P Q each 0 qs x.0 x.1, x.2)
@@ -65,7 +65,7 @@ done_map P Q each qs before now (Err e) x = tt
 -- and pieces of one kind that were not
 stopped_map : (P Q : ℕ → List ℤ → List ℕ → Type 0)
     → ((i : ℕ) (q : List ℤ) (piece : List ℕ) → P i q piece → Q i q piece)
-    → (qs : List (List ℤ)) (writing : Writing) (ended : Result (Unit {0}) Stop)
+    → (qs : List (List ℤ)) (writing : Writing) (ended : Result (Unit {0}) Status)
     → IfErr ended (Stops P qs writing) → IfErr ended (Stops Q qs writing)
 stopped_map P Q each qs writing (Ok u) x = tt
 stopped_map P Q each qs writing (Err stop) x = stops_map P Q each qs writing stop x
@@ -78,14 +78,14 @@ told_chosen o some c i query piece is =
 
 -- so a text of such pieces is one of chosen windows
 pub chosen_done : (o : Options) → 0 < o.apart → (c : Collection) (qs : List (List ℤ)) (before now : Option (List ℕ))
-    (ended : Result (Unit {0}) Stop) → OnOk ended (AppendsTold (Apart o.apart o.k) c (windows_needed o) qs before now)
+    (ended : Result (Unit {0}) Status) → OnOk ended (AppendsTold (Apart o.apart o.k) c (windows_needed o) qs before now)
     → OnOk ended (AppendsChoices o c qs before now)
 chosen_done o some c =
     done_map (IsTold (Apart o.apart o.k) c (windows_needed o)) (IsChoice o c) (told_chosen o some c)
 
 -- and where they were not all written, a beginning of one
 pub chosen_stopped : (o : Options) → 0 < o.apart → (c : Collection) (qs : List (List ℤ)) (writing : Writing)
-    (ended : Result (Unit {0}) Stop) → IfErr ended (Stops (IsTold (Apart o.apart o.k) c (windows_needed o)) qs writing)
+    (ended : Result (Unit {0}) Status) → IfErr ended (Stops (IsTold (Apart o.apart o.k) c (windows_needed o)) qs writing)
     → IfErr ended (Stops (IsChoice o c) qs writing)
 chosen_stopped o some c =
     stopped_map (IsTold (Apart o.apart o.k) c (windows_needed o)) (IsChoice o c) (told_chosen o some c)

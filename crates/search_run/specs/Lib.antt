@@ -1,6 +1,5 @@
 -- How a run ends, what it writes, and what it tells.
 pub mod Status
-pub mod Told
 pub mod Texts
 pub mod Trials
 pub mod Loads

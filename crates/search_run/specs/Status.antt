@@ -12,8 +12,6 @@ use Rattle.search_run.specs.declared.status.Which.TheVariants.{Series, Queries, 
 use Rattle.search_run.specs.declared.status.CertFault.{CertFault}
 use Rattle.search_run.specs.declared.status.CertFault.TheVariants.{Line, TooLong, Rejected}
 use Rattle.search_run.specs.declared.status.Status.{Status}
-use Rattle.search_run.specs.declared.stop.Stop.{Stop}
-use Rattle.search_run.specs.declared.stop.Stop.TheVariants as stop
 use Rattle.search_run.specs.declared.status.Status.TheVariants.{Done, Usage, Missing, ReadFault, Format, Mismatch, Settings, WriteFault, Memory, Invalid, Index}
 
 -- the number that the program exits with
@@ -29,11 +27,6 @@ code_of WriteFault = 8
 code_of Memory = 9
 code_of (Invalid fault) = 10
 code_of (Index fault) = 11
-
--- the status of a text that was not written to its end
-abbrev pub status_of : Stop → Status
-status_of stop.WriteFault = WriteFault
-status_of stop.NoMemory = Memory
 
 -- what a file is called in a line
 abbrev pub file_word : Which → List ℕ

@@ -7,13 +7,9 @@ ghost use Rattle.search_run.specs.Traffic.{wrote_to};
 
 use crate::batch::{Batch, Found};
 use crate::crew::Crew;
-use crate::finding::Asking;
 use crate::output::text::query_text;
-use crate::stop::Stop;
-use crate::tree::Tree;
-use crate::tuning::TEAM_VALUES;
-use outside::{NoMemory, Sink, write_whole};
-use query_core::Outcome;
+use crate::status::Status;
+use outside::{Gate, NoMemory, Sink, write_whole};
 use series_core::{LabelList, PairList, Rows};
 use std::alloc::Global;
 use std::thread::Threads;
@@ -28,7 +24,7 @@ pub enum Telling<'a> {
     Apart(u32, u32),
 }
 
-ghost use Rattle.search_run.specs.Batches.{AppendsTold, AreRight, CanBeTold, IsBatch, IsTeam, IsTold, answer_to, told};
+ghost use Rattle.search_run.specs.Batches.{AppendsTold, AreRight, CanBeTold, IsBatch, IsTold, answer_to, told};
 
 impl Telling<'_> {
     /// The text of query i, to which these pairs are nearest.
@@ -63,13 +59,10 @@ impl<R: Rows> Batch<'_, R> {
         requires below { i < length self.now.queries.now.series }
     {
         let left = self.queries.count() - i;
-        let values = u64::from(self.rows.count()) * u64::from(self.rows.length());
         if self.asking.workers == 1 {
             Way::Alone
-        } else if left < self.asking.workers && values >= TEAM_VALUES {
+        } else if left < self.asking.workers {
             Way::Team
-        } else if left == 1 {
-            Way::Alone
         } else {
             Way::SideBySide
         }
@@ -78,19 +71,13 @@ impl<R: Rows> Batch<'_, R> {
 
 impl<R: Rows + Sync> Batch<'_, R> {
     /// The answer to query i: from what was found ahead, or by a search now, which may find further answers ahead.
-    pub fn answer<
-        T: Threads + Sync,
-        G,
-        P: Fn(&R, &Tree, &[i16], Asking) -> Result<Outcome, NoMemory>,
-    >(
+    pub fn answer<T: Threads + Sync, G: Gate + Sync>(
         &self,
         crew: &Crew<'_, T, G>,
-        team: &P,
         i: u32,
         ahead: &mut Vec<Found>,
     ) -> Result<PairList, NoMemory>
         requires batch { IsBatch R.collection self.now }
-        requires team { IsTeam R.collection (P.pre team.now) (P.post team.now) }
         requires below { i < length self.now.queries.now.series }
         requires ahead { AreRight R.collection self.now ahead.old.items }
         ensures right { IfOk result (λ pairs. pairs ≡ answer_to R.collection self.now i) }
@@ -101,9 +88,9 @@ impl<R: Rows + Sync> Batch<'_, R> {
         }
         match self.way(i) {
             Way::Alone => self.alone(crew.alloc, i),
-            Way::Team => self.by_team(team, i),
+            Way::Team => self.by_team(crew, i),
             Way::SideBySide => {
-                *ahead = self.side_by_side(crew.rt, crew.alloc, i)?;
+                *ahead = self.side_by_side(crew, i)?;
                 match self.take(ahead, i) {
                     Some(pairs) => Ok(pairs),
                     None => Err(NoMemory),
@@ -114,21 +101,13 @@ impl<R: Rows + Sync> Batch<'_, R> {
 }
 
 /// Writes for each query the lines of the series nearest to it.
-pub fn write_answers<
-    T: Threads + Sync,
-    R: Rows + Sync,
-    G,
-    S: Sink,
-    P: Fn(&R, &Tree, &[i16], Asking) -> Result<Outcome, NoMemory>,
->(
+pub fn write_answers<T: Threads + Sync, R: Rows + Sync, G: Gate + Sync, S: Sink>(
     crew: &Crew<'_, T, G>,
-    team: &P,
     batch: &Batch<'_, R>,
     telling: &Telling<'_>,
     out: &mut S,
-) -> Result<(), Stop>
+) -> Result<(), Status>
     requires batch { IsBatch R.collection batch.now }
-    requires team { IsTeam R.collection (P.pre team.now) (P.post team.now) }
     requires telling { CanBeTold telling.now }
     ensures ok { OnOk result (AppendsTold telling.now (R.collection batch.now.rows.now) batch.now.asking.k
         batch.now.queries.now.series (S.written out.old) (S.written out.new)) }
@@ -138,7 +117,7 @@ pub fn write_answers<
 {
     let mut ahead = Vec::new(crew.alloc);
     for i in 0..batch.queries.count() {
-        let pairs = batch.answer(crew, team, i, &mut ahead)?;
+        let pairs = batch.answer(crew, i, &mut ahead)?;
         let text = telling.text(crew.alloc, i, &pairs)?;
         write_whole(out, &text)?;
     }

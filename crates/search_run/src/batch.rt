@@ -2,15 +2,16 @@
 //! Its one rule: what is found ahead stands beside the number of its query, and is the answer to that query.
 
 ghost use Rattle.std.specs.Prelude.{◌≡◌, ◌<◌, IfOk, IfSome, length};
-ghost use Rattle.search_run.specs.Batches.{AreRight, IsBatch, IsTeam, answer_to};
+ghost use Rattle.search_run.specs.Batches.{AreRight, IsBatch, answer_to};
 
-use crate::finding::{Asking, nearest};
+use crate::crew::Crew;
+use crate::finding::{Asking, nearest, nearest_shared};
 use crate::row::row_of;
 use crate::tree::Tree;
-use outside::NoMemory;
-use query_core::Outcome;
+use outside::{Gate, NoMemory};
 use series_core::{Flat, PairList, Rows};
 use std::alloc::Global;
+use std::thread::Threads;
 
 /// Queries, what they are asked of, and how.
 #[derive(Drop)]
@@ -54,23 +55,22 @@ impl<R: Rows> Batch<'_, R> {
         ensures { IfOk result (λ pairs. pairs ≡ answer_to R.collection self.now i) }
     {
         let query = row_of(self.queries, i);
-        let Asking { k, queues, .. } = self.asking;
-        nearest(alloc, self.rows, self.tree, query, k, queues)
+        nearest(alloc, self.rows, self.tree, query, self.asking.k)
     }
+}
 
+impl<R: Rows + Sync> Batch<'_, R> {
     /// The answer to query i, by all workers.
-    pub fn by_team<P: Fn(&R, &Tree, &[i16], Asking) -> Result<Outcome, NoMemory>>(
+    pub fn by_team<T: Threads + Sync, G: Gate + Sync>(
         &self,
-        team: &P,
+        crew: &Crew<'_, T, G>,
         i: u32,
     ) -> Result<PairList, NoMemory>
         requires batch { IsBatch R.collection self.now }
-        requires team { IsTeam R.collection (P.pre team.now) (P.post team.now) }
         requires below { i < length self.now.queries.now.series }
         ensures { IfOk result (λ pairs. pairs ≡ answer_to R.collection self.now i) }
     {
         let query = row_of(self.queries, i);
-        let outcome = team(self.rows, self.tree, query, self.asking)?;
-        Ok(outcome.pairs)
+        nearest_shared(crew, self.rows, self.tree, query, self.asking)
     }
 }

@@ -16,7 +16,6 @@ mod row;
 mod running;
 mod serving;
 mod status;
-mod stop;
 mod tree;
 mod tuning;
 

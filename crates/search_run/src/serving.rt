@@ -25,14 +25,11 @@ use query_core::Outcome;
 use series_core::Flat;
 use std::sync::Wait;
 use std::thread::Threads;
-use window_rows::Windows;
 
-// Whether a command is answered without locks: it asks for the sealed search, or does not search so.
+// Whether a command is answered without locks: it asks for no certificate, or for the search that is sealed.
 fn is_free(command: &Command) -> bool {
     match command {
-        Command::Nearest { options, .. }
-        | Command::Trial { options, .. }
-        | Command::Windows { options, .. } => options.sealed,
+        Command::Nearest { options, .. } => options.sealed || !options.certificate,
         _ => true,
     }
 }
@@ -57,14 +54,7 @@ pub fn answer_waiting<T: Threads + Wait + Sync, F: Files, S: Sink, G: Gate + Syn
         requires { IsSync T.row × IsSync G.row × CanAsk rows.now tree.now query.now asking }
         ensures { HasRightOutcome rows.now tree.now query.now asking result }
     { locked(crew, rows, tree, query, asking) };
-    let windows = |rows: &Windows<'_>, tree: &Tree, query: &[i16], asking: Asking| -> Result<
-        Outcome,
-        NoMemory,
-    >
-        requires { IsSync T.row × IsSync G.row × CanAsk rows.now tree.now query.now asking }
-        ensures { HasRightOutcome rows.now tree.now query.now asking result }
-    { locked(crew, rows, tree, query, asking) };
-    answer(crew, &rows, &windows, command, files, out)
+    answer(crew, &rows, command, files, out)
 }
 
 /// Answers one command, and never waits: each team searches over sealed runs.
@@ -84,14 +74,7 @@ pub fn answer_free<T: Threads + Sync, F: Files, S: Sink, G: Gate + Sync>(
         requires { IsSync T.row × IsSync G.row × CanAsk rows.now tree.now query.now asking }
         ensures { HasRightOutcome rows.now tree.now query.now asking result }
     { sealed(crew, rows, tree, query, asking) };
-    let windows = |rows: &Windows<'_>, tree: &Tree, query: &[i16], asking: Asking| -> Result<
-        Outcome,
-        NoMemory,
-    >
-        requires { IsSync T.row × IsSync G.row × CanAsk rows.now tree.now query.now asking }
-        ensures { HasRightOutcome rows.now tree.now query.now asking result }
-    { sealed(crew, rows, tree, query, asking) };
-    answer(crew, &rows, &windows, command, files, out)
+    answer(crew, &rows, command, files, out)
 }
 
 // Answers one command, whose teams search by these calls.
@@ -101,18 +84,15 @@ fn answer<
     S: Sink,
     G: Gate + Sync,
     L: Fn(&Flat, &Tree, &[i16], Asking) -> Result<Outcome, NoMemory>,
-    W: Fn(&Windows<'_>, &Tree, &[i16], Asking) -> Result<Outcome, NoMemory>,
 >(
     crew: &Crew<'_, T, G>,
     rows: &L,
-    windows: &W,
     command: &Command,
     files: &mut F,
     out: &mut S,
 ) -> Result<(), Status>
     requires limits { KeepsLimits command.now }
     requires rows { IsTeam (λ rows. rows) (L.pre rows.now) (L.post rows.now) }
-    requires windows { IsTeam (λ rows. rows) (W.pre windows.now) (W.post windows.now) }
     ensures { Serves F.Files S.Sink (plan_of command.now) files.old files.new out.old out.new result }
 {
     match command {
@@ -160,7 +140,7 @@ fn answer<
             length,
             queries,
             options,
-        } => answer_trial(crew, rows, *seed, *count, *length, *queries, options, out),
+        } => answer_trial(crew, *seed, *count, *length, *queries, options, out),
         Command::Convert { series, options } => Converted.answer(crew, series, options, files, out),
         Command::Save { series, options } => Saved.answer(crew, series, options, files, out),
         Command::Windows {
@@ -174,7 +154,7 @@ fn answer<
                 queries,
                 options,
             };
-            answer_windows(crew, windows, &search, *step, files, out)
+            answer_windows(crew, &search, *step, files, out)
         }
         Command::Discord { series, options } => Discords.answer(crew, series, options, files, out),
     }

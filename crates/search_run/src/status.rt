@@ -1,6 +1,5 @@
 //! How a run ends: one status, with the values that show its cause.
 
-use crate::stop::Stop;
 use certificate::Reject;
 use outside::{Failed, NoMemory};
 use saved_index::IndexFault;
@@ -101,19 +100,5 @@ impl From<NoMemory> for Status {
 
     fn from(_: NoMemory) -> Status {
         Status::Memory
-    }
-}
-
-impl From<Stop> for Status {
-    ghost use Rattle.std.specs.Prelude.{◌≡◌};
-    ghost use Rattle.search_run.specs.Status.{status_of};
-
-    ghost from_gives = { λ stop e. e ≡ status_of stop };
-
-    fn from(stop: Stop) -> Status {
-        match stop {
-            Stop::WriteFault => Status::WriteFault,
-            Stop::NoMemory => Status::Memory,
-        }
     }
 }

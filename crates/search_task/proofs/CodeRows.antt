@@ -1,12 +1,12 @@
 -- The codes of members in one row, as of a leaf (`leaf_coded`): those of each stand behind those of the members before it (`codes_within`, `codes_at_one`), and they are
 -- codes for the query (`codes_fit`), whose bound is at most the distance (`codes_are_below`). An index has them in one row for all its
 -- members (`all_coded`), and so meets each series once (`each_met`).
-use Rattle.std.proofs.Common.{◌≡◌, ◌∙◌, ◌+◌, ◌*◌, ◌<◌, ◌≤◌, ◌++◌, Bool, true, false, cond, ℕ, ℤ, List, length, map, take, drop, get_or, [], ◌∷◌, refl, ap, sym, subst, arith}
-use Rattle.std.specs.Prelude.{flat_map, ltb}
+use Rattle.std.proofs.Common.{◌≡◌, ◌∙◌, ◌+◌, ◌*◌, ◌<◌, ◌≤◌, ◌++◌, ℕ, zero, suc, ℤ, List, length, map, take, drop, get_or, [], ◌∷◌, refl, ap, sym, subst, arith}
+use Rattle.std.specs.Prelude.{flat_map}
 use Rattle.std.specs.List.{All}
 use Rattle.std.proofs.Math.Nat.{mul-le-mul_right}
 use Rattle.std.proofs.lemmas.Grind.{flat_map-append}
-use Rattle.std.proofs.lemmas.List.{length-take-le, map-append, take_all}
+use Rattle.std.proofs.lemmas.List.{length-take-le, map-append}
 use Rattle.std.proofs.lemmas.List.Elements.{All-from_get_or, All-get_or}
 use Rattle.list_totals.specs.Totals.{once_below, times, total}
 use Rattle.list_totals.proofs.Totals.{times_append}
@@ -17,14 +17,13 @@ use Rattle.row_codes.specs.Rows.{Block, block_count, row_codes}
 use Rattle.row_codes.proofs.Below.{bound_below, have_squares}
 use Rattle.series_core.specs.Collection.{Collection}
 use Rattle.series_core.specs.Distance.{squared_distance}
-use Rattle.series_core.specs.declared.rows.TheConstants.{MAX_VALUES}
 use Rattle.subtree_build.specs.declared.leaf.TreeLeaf.{TreeLeaf}
 use Rattle.subtree_build.specs.Fits.{Fits as IndexFits, times_in}
 use Rattle.subtree_build.specs.Index.{IndexParts, leaf_at, no_leaf}
 use Rattle.subtree_build.specs.Means.{all_codes, coded_points, codes_at, codes_of_member, leaf_codes}
 use Rattle.subtree_build.specs.Members.{numbers_of, series_at}
 use Rattle.subtree_build.proofs.LeafWords.{all_pieces}
-use Rattle.subtree_build.proofs.MemberCodes.{codes_of_leaf, codes_of_one, length_codes}
+use Rattle.subtree_build.proofs.MemberCodes.{coded_few, codes_of_leaf, codes_of_one, length_codes}
 use Rattle.subtree_build.proofs.OfCollection.{IsReal}
 use Rattle.search_task.specs.Questions.{CanBeSearched, IsMemberOf, IsQuestion, Question, coded_query}
 use Rattle.search_task.specs.Scanning.{AreCoded}
@@ -68,45 +67,39 @@ module _ (a : Question) (members : List Member) (codes : List Block) (n i : ℕ)
       ∙ ap (λ k. take k (drop (i * k) (all_codes a.collection members))) blocks
       ∙ codes_of_one a.collection question.collection members i m (are_real a members coded.members) inside item
 
--- of a row that is coded as far as it is long, or by one value, as many values are coded as of a query of its length
-coded_alike : (none : Bool) (n : ℕ) (x q : List ℤ) → length x ≡ n → length q ≡ n → 0 < n
-    → length (take (cond none 1 n) q) ≡ length (take (cond none 1 n) x)
-coded_alike true n x q long same some =
-    length-take-le 1 q (omega (arith, same, some)) ∙ sym (length-take-le 1 x (omega (arith, long, some)))
-coded_alike false n x q long same some =
-    length-take-le n q (omega (arith, same)) ∙ sym (length-take-le n x (omega (arith, long)))
-
--- the bound by codes, of which there may be none
-below_or_none : (none : Bool) (n : ℕ) (x q : List ℤ) → length x ≡ n → length q ≡ n
-    → code_bound (take (cond none 1 n) q) (row_codes (take (cond none 1 n) x)) ≤ squared_distance x q
-below_or_none true n [] q long same = omega arith
-below_or_none true n (v ∷ x) q long same = omega arith
-below_or_none false n x q long same =
-    subst (λ y. code_bound (take n q) (row_codes y) ≤ squared_distance x q) (sym (take_all n x (omega (arith, long))))
-    (subst (λ r. code_bound r (row_codes x) ≤ squared_distance x q) (sym (take_all n q (omega (arith, same))))
-    (bound_below x q (long ∙ sym same)))
+-- the first values of two rows are no farther apart than all of them
+front_below : (n : ℕ) (x q : List ℤ) → squared_distance (take n x) (take n q) ≤ squared_distance x q
+front_below zero x q = omega arith
+front_below (suc n) [] q = omega arith
+front_below (suc n) (v ∷ x) [] = omega arith
+front_below (suc n) (v ∷ x) (w ∷ q) = omega (arith, front_below n x q)
 
 module _ (a : Question) (m : Member) (is : IsQuestion a) (real : m.number < length a.collection.series) where
   -- a member's series is as long as all are
   series_long : length (series_at a.collection m.number) ≡ a.collection.points
   series_long = (is.collection.each m.number [] real).points
 
+  -- as many values of it are coded as are seen of the query
+  coded_alike : length (take (coded_points a.collection) (series_at a.collection m.number)) ≡ length (coded_query a.collection a.query)
+  coded_alike =
+      let n = coded_points a.collection in
+      let few = coded_few a.collection in
+      length-take-le n (series_at a.collection m.number) (omega (arith, few, series_long))
+      ∙ sym (length-take-le n a.query (omega (arith, few, is.query, is.points)))
+
   -- the codes of a member are codes for the query
   pub codes_fit : AreCodesFor (length (coded_query a.collection a.query)) (codes_of_member a.collection m)
   codes_fit =
       let c = a.collection in
-      subst (λ n. AreCodesFor n (codes_of_member c m))
-      (sym (coded_alike (ltb MAX_VALUES (length c.series * c.points)) c.points (series_at c m.number) a.query series_long
-      (is.query ∙ sym is.points) is.collection.some_point))
-      (have_squares (take (coded_points c) (series_at c m.number)))
+      subst (λ n. AreCodesFor n (codes_of_member c m)) coded_alike (have_squares (take (coded_points c) (series_at c m.number)))
 
   -- and their bound is at most the distance
   pub codes_are_below : code_bound (coded_query a.collection a.query) (codes_of_member a.collection m)
       ≤ squared_distance (series_at a.collection m.number) a.query
   codes_are_below =
       let c = a.collection in
-      below_or_none (ltb MAX_VALUES (length c.series * c.points)) c.points (series_at c m.number) a.query series_long
-      (is.query ∙ sym is.points)
+      let row = series_at c m.number in
+      omega (arith, bound_below (take (coded_points c) row) (coded_query c a.query) coded_alike, front_below (coded_points c) row a.query)
 
 -- the members of all leaves are members of the question's collection
 all_are_members : (a : Question) (ix : IndexParts) → CanBeSearched a ix

@@ -16,10 +16,3 @@ pub use error::{FileError, Form, Loaded};
 pub use laws::{collection_law, no_fault_law, one_collection_law};
 pub use read::read_series;
 pub use write::{write_numbered, write_series};
-
-#[cfg(test)]
-mod plain_reader;
-#[cfg(test)]
-mod table_tests;
-#[cfg(test)]
-mod tests;

@@ -39,3 +39,4 @@ pub mod Numbering
 pub mod Assembled
 pub mod MemberCodes
 pub mod LeafSteps
+pub mod BareTrees

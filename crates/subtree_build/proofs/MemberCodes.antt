@@ -1,7 +1,7 @@
--- The codes of members in one row: all values of a series are coded or none (`coded_whole`), each member has as many blocks (`length_codes`),
+-- The codes of members in one row: no more values are coded than a series has (`coded_few`), each member has as many blocks (`length_codes`),
 -- cut by the places of leaves the codes are those of the leaves (`codes_are_own`), and those of a leaf of an index that fits are those of its
 -- members (`codes_of_leaf`), one by one (`codes_of_one`); so tables of members are tables (`tables_are`).
-use Rattle.std.proofs.Common.{◌≡◌, ℕ, ◌+◌, ◌-◌, ◌*◌, ◌/◌, ◌<◌, ◌≤◌, nat_lt, Bool, true, false, cond, ℤ, List, [], ◌∷◌, ◌++◌, length, take, drop, map, get_or, refl, sym, ap, ◌∙◌, subst, arith, All}
+use Rattle.std.proofs.Common.{◌≡◌, ℕ, ◌+◌, ◌-◌, ◌*◌, ◌/◌, ◌<◌, ◌≤◌, Bool, true, false, cond, ℤ, List, [], ◌∷◌, ◌++◌, length, take, drop, map, get_or, refl, sym, ap, ◌∙◌, subst, arith, All}
 use Rattle.std.specs.Prelude.{ltb}
 use Rattle.std.proofs.lemmas.List.{get_or-map, length-map, length-take-le}
 use Rattle.std.proofs.lemmas.List.Elements.{All-drop, All-get_or}
@@ -16,32 +16,20 @@ use Rattle.subtree_build.specs.declared.leaf.TreeLeaf.{TreeLeaf}
 use Rattle.subtree_build.specs.declared.tables.Tables.{Tables}
 use Rattle.subtree_build.specs.Fits.{Fits}
 use Rattle.subtree_build.specs.Index.{IndexParts, leaf_at, no_leaf}
-use Rattle.subtree_build.specs.Means.{all_codes, coded_points, codes_at, codes_of_member, leaf_codes, means_of}
+use Rattle.subtree_build.specs.Means.{all_codes, coded_points, coded_values, codes_at, codes_of_member, leaf_codes, means_of}
 use Rattle.subtree_build.specs.Members.{series_at}
 use Rattle.subtree_build.specs.Places.{leaves_seen, codes_seen, AreTables, AreTablesOf}
 use Rattle.subtree_build.proofs.Flattened.{length_pieces, drop_pieces, take_pieces, first_piece, drop_at, piece_push}
 use Rattle.subtree_build.proofs.OfCollection.{IsReal}
 use Rattle.subtree_build.proofs.SideBySide.{IsPart, element, own_row, part_long, series_long}
 
--- one value makes no block
-whole : (none : Bool) (n : ℕ) → 0 < block_count (cond none 1 n) → cond none 1 n ≡ n
-whole true n there = absurd (omega (arith, there))
-whole false n there = refl
-
--- where there are codes, all values of a series are coded
-pub coded_whole : (c : Collection) (n : ℕ) → n ≡ coded_points c → 0 < block_count n → n ≡ c.points
-coded_whole c n is there =
-    is ∙ whole (ltb MAX_VALUES (length c.series * c.points)) c.points (subst (λ m. 0 < block_count m) is there)
-
 -- no more values are coded than a series has
-coded_few : (none : Bool) (n : ℕ) → 0 < n → cond none 1 n ≤ n
-coded_few true n some = omega (arith, some)
-coded_few false n some = omega arith
-
--- a row has at most 256 blocks
-few_blocks_of : (none : Bool) (n : ℕ) → n ≤ 65536 → cond none 0 ((n + 255) / 256) ≤ 256
-few_blocks_of true n few = omega arith
-few_blocks_of false n few = omega (arith, few)
+pub coded_few : (c : Collection) → coded_points c ≤ c.points
+coded_few c = few (ltb MAX_VALUES (length c.series * c.points)) c.points
+  where
+    few : (none : Bool) (n : ℕ) → cond none 0 (coded_values n) ≤ n
+    few true n = omega arith
+    few false n = omega arith
 
 module _ (c : Collection) (sound : IsCollection c) where
   abbrev n : ℕ
@@ -50,7 +38,7 @@ module _ (c : Collection) (sound : IsCollection c) where
   -- a member has as many blocks as a row of which so many values are coded
   codes_long : (m : Member) → IsReal c m → length (codes_of_member c m) ≡ n
   codes_long m real =
-      let few = coded_few (ltb MAX_VALUES (length c.series * c.points)) c.points sound.some_point in
+      let few = coded_few c in
       let long = series_long c m.number sound real in
       (have_squares (take (coded_points c) (series_at c m.number))).count
       ∙ ap block_count (length-take-le (coded_points c) (series_at c m.number) (omega (arith, few, long)))
@@ -90,22 +78,23 @@ module _ (c : Collection) (sound : IsCollection c) where
   pub tables_are : (layout : Layout) (members : List Member) (places : List LeafPlace) (t : Tables) → All (IsReal c) members
       → AreTablesOf c layout members places t → AreTables members places t
   tables_are layout members places t real are =
-      let most = coded_few (ltb MAX_VALUES (length c.series * c.points)) c.points sound.some_point in
-      let few : coded_points c ≤ 65536 = omega (arith, most, sound.length_limit) in
+      let few : coded_points c ≤ 65536 = omega (arith, coded_few c, sound.length_limit) in
       record {
         means_each = ap (λ (ms : List (List ℕ)). length ms) are.means ∙ length-map members (means_of c layout);
-        few_blocks = subst (λ k. k ≤ 256) (sym are.blocks) (few_blocks_of (nat_lt (coded_points c) 16) (coded_points c) few);
+        few_blocks = subst (λ k. k ≤ 256) (sym are.blocks) (few_blocks (coded_points c) few);
         codes_each = ap (λ (cs : List Block). length cs) are.codes ∙ length_codes members real
             ∙ ap (λ k. length members * k) (sym are.blocks);
         boxes_are = are.boxes;
       }
+    where
+      few_blocks : (n : ℕ) → n ≤ 65536 → block_count n ≤ 256
+      few_blocks n few = omega (arith, few)
 
 -- of a row that is a part of the values of all, so many values are coded as it has at least
 pub coded_row : (c : Collection) (members : List Member) (values : List ℤ) (i l n : ℕ) → IsPart c members values i l
     → n ≡ coded_points c → (n ≤ l) × (length (take n (take (i * l + l - i * l) (drop (i * l) values))) ≡ n)
 coded_row c members values i l n is coded =
-    let most = coded_few (ltb MAX_VALUES (length c.series * c.points)) c.points is.sound.some_point in
-    let few : n ≤ l = omega (arith, coded, most, is.long) in
+    let few : n ≤ l = omega (arith, coded, coded_few c, is.long) in
     let long = part_long c members values i l is in
     (few, length-take-le n (take (i * l + l - i * l) (drop (i * l) values)) (omega (arith, few, long)))
 

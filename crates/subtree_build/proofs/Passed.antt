@@ -1,9 +1,9 @@
 -- The passes of a team that was dismissed are of the claims that it drew from (`passes_own`), and there are some (`some_passes`).
-use Rattle.std.proofs.Common.{◌≡◌, ℕ, ◌<◌, ◌≤◌, List, length, map, ap, sym, subst, arith, All}
-use Rattle.std.specs.Prelude.{replicate, vec_len}
+use Rattle.std.proofs.Common.{◌≡◌, ◌<◌, List, length, map, ap, sym, subst, arith, All}
+use Rattle.std.specs.Prelude.{vec_len}
 use Rattle.std.specs.declared.alloc.Global.{Global}
 use Rattle.std.specs.declared.vec.Vec.{Vec}
-use Rattle.std.proofs.lemmas.List.{length-map, length-replicate}
+use Rattle.std.proofs.lemmas.List.{length-map}
 use Rattle.std.proofs.lemmas.List.Elements.{All-map}
 use Rattle.claim_word.specs.Passes.{Pass}
 use Rattle.worker_team.specs.declared.worker.TeamWorker.{TeamWorker}
@@ -15,20 +15,8 @@ module _ {M : Type 0} (team : List (TeamWorker M)) (passes : List Pass) (are : p
       let Q : List Pass → Type 0 = λ ps. All P ps in
       subst Q (sym are) (All-map P (λ w. w.pass) team each)
 
--- a team that was hired with some passes has some when it is dismissed
-pub some_passes : {M : Type 0} (team hired : Vec (TeamWorker M) Global) (given : Vec Pass Global) (passes : List Pass) (n : ℕ)
-    (fresh : Pass) → 1 ≤ n → given.items ≡ replicate n fresh → vec_len hired ≡ vec_len given → vec_len team ≡ vec_len hired
+-- a team with workers has passes when it is dismissed
+pub some_passes : {M : Type 0} (team : Vec (TeamWorker M) Global) (passes : List Pass) → 0 < vec_len team
     → passes ≡ map (λ w. w.pass) team.items → 0 < length passes
-some_passes team hired given passes n fresh some are as_given as_hired of_team =
-    omega (
-      arith,
-      some,
-      as_given,
-      as_hired,
-      team.ok.0,
-      given.ok.0,
-      ap length are,
-      length-replicate n fresh,
-      ap length of_team,
-      length-map team.items (λ w. w.pass),
-    )
+some_passes team passes some of_team =
+    omega (arith, some, team.ok.0, ap length of_team, length-map team.items (λ w. w.pass))

@@ -16,6 +16,7 @@ pub mod Summaries
 pub mod Splicing
 pub mod Building
 pub mod Assembly
+pub mod BareTree
 pub use Rattle.breakpoints.specs.Breakpoint
 pub use Rattle.segment_sums.specs.Division as CutDivision
 pub use Rattle.segment_sums.specs.Sum

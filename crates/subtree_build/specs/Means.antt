@@ -1,5 +1,5 @@
 -- The means of members and the codes of their rows, member by member and leaf by leaf.
-use Rattle.std.specs.Prelude.{ℕ, ℤ, ◌≡◌, ◌*◌, ◌^◌, ◌<◌, ◌≤◌, All, List, [], cond, length, ltb, map, slice_index_or, take}
+use Rattle.std.specs.Prelude.{ℕ, ℤ, ◌≡◌, ◌+◌, ◌*◌, ◌/◌, ◌^◌, ◌<◌, ◌≤◌, All, List, [], cond, length, ltb, map, min, slice_index_or, take}
 use Rattle.std.specs.List.{flat_map}
 use Rattle.series_core.specs.Collection.{Collection}
 use Rattle.series_core.specs.declared.rows.TheConstants.{MAX_VALUES}
@@ -26,12 +26,16 @@ leaf_means c layout x = all_means c layout x.members
 abbrev pub means_at : List (List (List ℕ)) → ℕ → List (List ℕ)
 means_at means l = slice_index_or means l []
 
--- how many values of a series are coded: all. A collection of more values than a file may hold is of windows that overlap, and of them one
--- value is, which makes no code
-abbrev pub coded_points : Collection → ℕ
-coded_points c = cond (ltb MAX_VALUES (length c.series * c.points)) 1 c.points
+-- how many values of a series of n are coded, the first ones: those of each whole block of 256, and those behind the last of these where
+-- they fill seven eighths of one block more
+abbrev pub coded_values : ℕ → ℕ
+coded_values n = min n (256 * ((n + 32) / 256))
 
--- the codes of a member's series
+-- the same of a series of a collection: none where that has more values than a file may hold, since it is of windows that overlap
+abbrev pub coded_points : Collection → ℕ
+coded_points c = cond (ltb MAX_VALUES (length c.series * c.points)) 0 (coded_values c.points)
+
+-- the codes of a member's series: of those of its values that are coded
 abbrev pub codes_of_member : Collection → Member → List Block
 codes_of_member c m = row_codes (take (coded_points c) (series_at c m.number))
 

@@ -1,4 +1,4 @@
-//! The second phase: workers draw root children and build whole subtrees side by side.
+//! The second phase: workers draw root children and build whole subtrees side by side, or one alone in this thread.
 ghost use Rattle.std.specs.Prelude.{◌≡◌, ◌<◌, ◌≤◌, All, IfOk, IfSome, length, map, vec_len, IsPermutation};
 ghost use Rattle.std.specs.List.{range_with_len};
 ghost use Rattle.std.specs.List.Sorted.{IsNonDecreasingBy};
@@ -9,7 +9,7 @@ use crate::part::Part;
 use crate::settings::Settings;
 use crate::splicing::RootLists;
 use claim_word::Claims;
-use outside::{Gate, NoMemory};
+use outside::{Gate, NoGate, NoMemory};
 use std::alloc::Global;
 use std::thread;
 use std::thread::Threads;
@@ -69,6 +69,26 @@ fn run<H: Threads + Sync, G: Gate + Sync>(
     );
 }
 
+/// A worker alone builds in this thread, and keeps what it made.
+fn run_alone(
+    alloc: Global,
+    settings: &Settings,
+    found: &RootLists,
+    claims: &Claims,
+    team: &mut Vec<TeamWorker<Vec<Part>>>,
+)
+    requires count { claims.now.count ≡ length found.now.roots.items }
+    requires found { CanBuild settings.now found.now }
+    requires one { vec_len team.old ≡ 1 }
+    requires fresh { All (λ w. w.pass ≡ fresh_pass claims.now) team.old.items }
+    ensures len { vec_len team.new ≡ vec_len team.old }
+    ensures own { All (λ w. w.pass.claims ≡ claims.now) team.new.items }
+    ensures done { All (λ w. IfSome w.made (λ parts. HasBuilt settings.now found.now w.pass parts.items)) team.new.items }
+{
+    let worker = &mut team[0];
+    worker.made = built(alloc, settings, found, claims, &NoGate, worker).ok();
+}
+
 /// The parts in the order of their places.
 fn in_order(mut parts: Vec<Part>) -> Vec<Part>
     ensures moved { IsPermutation parts.items result.items }
@@ -76,6 +96,49 @@ fn in_order(mut parts: Vec<Part>) -> Vec<Part>
 {
     parts.sort_unstable_by_key(|part| part.place);
     parts
+}
+
+/// The counter over the root children, and a team whose workers are to draw them, one for each of `turns`.
+fn begin(
+    alloc: Global,
+    found: &RootLists,
+    turns: &[u64],
+) -> Result<(Claims, Vec<TeamWorker<Vec<Part>>>), NoMemory>
+    requires few { length found.now.roots.items ≤ 65536 }
+    requires workers { (1 ≤ length turns.now) × (length turns.now ≤ 64) }
+    ensures count { IfOk result (λ r. r.0.count ≡ length found.now.roots.items) }
+    ensures callers { IfOk result (λ r. r.0.callers ≡ length turns.now) }
+    ensures len { IfOk result (λ r. vec_len r.1 ≡ length turns.now) }
+    ensures fresh { IfOk result (λ r. All (λ w. w.pass ≡ fresh_pass r.0) r.1.items) }
+{
+    let (claims, passes) = Claims::begin(alloc, found.roots.len() as u64, turns.len() as u32)?;
+    let team = hire(alloc, &claims, passes, turns)?;
+    Ok((claims, team))
+}
+
+/// Ends the drawing: one part for each root child, in order.
+fn end(
+    alloc: Global,
+    settings: &Settings,
+    found: &RootLists,
+    claims: Claims,
+    team: Vec<TeamWorker<Vec<Part>>>,
+) -> Result<Vec<Part>, NoMemory>
+    requires count { claims.count ≡ length found.now.roots.items }
+    requires all { vec_len team ≡ claims.callers }
+    requires some { 0 < vec_len team }
+    requires own { All (λ w. w.pass.claims ≡ claims) team.items }
+    requires done { All (λ w. IfSome w.made (λ parts. HasBuilt settings.now found.now w.pass parts.items)) team.items }
+    ensures places { IfOk result (λ parts. map (λ p. p.place) parts.items
+        ≡ range_with_len 0 (length found.now.roots.items)) }
+    ensures built { IfOk result (λ parts. All (IsPartAt settings.now found.now) parts.items) }
+{
+    let _ = settings;
+    let _ = found;
+    let (passes, made) = dismiss(alloc, team)?;
+    claims.close(passes);
+    let parts = joined(alloc, made)?;
+    Ok(in_order(parts))
 }
 
 /// Workers build all root children: one part for each, in order.
@@ -94,11 +157,24 @@ pub(crate) fn build_parts<H: Threads + Sync, G: Gate + Sync>(
         ≡ range_with_len 0 (length found.now.roots.items)) }
     ensures built { IfOk result (λ parts. All (IsPartAt settings.now found.now) parts.items) }
 {
-    let (claims, passes) = Claims::begin(alloc, found.roots.len() as u64, turns.len() as u32)?;
-    let mut team = hire(alloc, &claims, passes, turns)?;
+    let (claims, mut team) = begin(alloc, found, turns)?;
     run(rt, alloc, settings, found, &claims, gate, &mut team);
-    let (passes, made) = dismiss(alloc, team)?;
-    claims.close(passes);
-    let parts = joined(alloc, made)?;
-    Ok(in_order(parts))
+    end(alloc, settings, found, claims, team)
+}
+
+/// The same by a worker alone, in this thread.
+pub(crate) fn build_parts_alone(
+    alloc: Global,
+    settings: &Settings,
+    found: &RootLists,
+) -> Result<Vec<Part>, NoMemory>
+    requires found { CanBuild settings.now found.now }
+    requires few { length found.now.roots.items ≤ 65536 }
+    ensures places { IfOk result (λ parts. map (λ p. p.place) parts.items
+        ≡ range_with_len 0 (length found.now.roots.items)) }
+    ensures built { IfOk result (λ parts. All (IsPartAt settings.now found.now) parts.items) }
+{
+    let (claims, mut team) = begin(alloc, found, &[0])?;
+    run_alone(alloc, settings, found, &claims, &mut team);
+    end(alloc, settings, found, claims, team)
 }

@@ -1,27 +1,25 @@
 //! The index: root children by root number, the nodes and the range of leaves below each, the leaves in order, and in that
 //! order the members of all leaves in one row, and beside it their means, their codes, and the boxes of the leaves' means.
-ghost use Rattle.std.specs.Prelude.{◌≡◌, ◌*◌, ◌<◌, ◌≤◌, ◌^◌, All, IfOk, OnOk, IsErrOf, length, map, take, drop, Some, slice_get, slice_index};
+ghost use Rattle.std.specs.Prelude.{◌≡◌, [], ◌*◌, ◌<◌, ◌≤◌, ◌^◌, All, IfOk, OnOk, IsErrOf, length, map, take, drop, Some, slice_get, slice_index};
 ghost use Rattle.std.specs.List.{flat_map};
 ghost use Rattle.mean_bound.specs.Boxes.{box_of, box_of_boxes};
 ghost use Rattle.subtree_build.specs.Assembly.{HasMeansOf, IsOfParts, MakeIndex};
-ghost use Rattle.subtree_build.specs.Division.{roots_of, tree, tree_leaves};
+ghost use Rattle.subtree_build.specs.BareTree.{HasSeries, IsBare, IsBareTreeOf, bare_parts};
 ghost use Rattle.subtree_build.specs.Fits.{Fits, IsTreeOf};
-ghost use Rattle.subtree_build.specs.Grown.{cut_leaves, members_in};
 ghost use Rattle.subtree_build.specs.Index.{IsIndex, leaf_at, root_word_at};
 ghost use Rattle.subtree_build.specs.Means.{codes_at, means_at};
-ghost use Rattle.subtree_build.specs.Outline.{outline};
-ghost use Rattle.subtree_build.specs.Places.{tree_firsts, IsRange};
+ghost use Rattle.subtree_build.specs.Places.{AreTablesOf, IsRange};
 ghost use Rattle.subtree_build.specs.Start.{node_at};
-ghost use Rattle.subtree_build.specs.Tree.{all_numbered};
 ghost use Rattle.subtree_build.specs.declared.assembly.Assembly.TheVariants.{Parts};
 
 use crate::assembly::{Assembly, make_index};
+use crate::bare_tree::BareTree;
 use crate::leaf::{LeafPlace, MemberList};
 use crate::leaf_row::{Gathered, LeafWords, gather_leaves, words_below};
 use crate::node::Node;
-use crate::part::{Joined, placed};
+use crate::part::placed;
 use crate::settings::Settings;
-use crate::tables::{Tables, blank_tables, tables_of};
+use crate::tables::{Tables, blank_tables, tables_alone, tables_of};
 use isax_word::{Layout, Member, Word};
 use mean_bound::{MeanBox, Means};
 use outside::NoMemory;
@@ -77,49 +75,25 @@ impl Model for Index {
 }
 
 impl Index {
-    /// The index of these root numbers and of the nodes, leaves and members of all parts, which are those of the tree of
-    /// the rows.
-    pub(crate) fn of_tree<H: Threads + Sync, R: Rows + Sync>(
-        rt: &H,
-        alloc: Global,
-        rows: &R,
-        settings: &Settings,
-        workers: u32,
-        roots: Vec<u32>,
-        joined: Joined,
-    ) -> Result<Index, NoMemory>
-        requires length { settings.now.layout.cuts.row_length ≡ (R.collection rows.now).points }
-        requires some { 1 ≤ workers }
-        requires roots { roots.items ≡ roots_of (R.collection rows.now) settings.now.layout }
-        requires nodes { let trees = tree (R.collection rows.now) settings.now.layout settings.now.leaf_size in
-            map outline joined.nodes.items ≡ all_numbered 0 trees }
-        requires firsts { let trees = tree (R.collection rows.now) settings.now.layout settings.now.leaf_size in
-            joined.firsts.items ≡ tree_firsts 0 trees }
-        requires leaves { let leaves = tree_leaves (R.collection rows.now) settings.now.layout settings.now.leaf_size in
-            cut_leaves joined.leaves.items joined.members.items ≡ leaves }
-        requires whole { members_in joined.leaves.items ≡ length joined.members.items }
-        ensures tree { IfOk result (IsTreeOf (R.collection rows.now) settings.now.layout settings.now.leaf_size) }
-        ensures fits { IfOk result (Fits (R.collection rows.now) settings.now.layout) }
+    /// The index of a bare tree with the tables of its members, which are series of the rows.
+    fn of_bare<R: Rows>(rows: &R, layout: &Layout, bare: BareTree, tables: Tables) -> Index
+        requires bare { IsBare bare }
+        requires series { HasSeries (R.collection rows.now) bare }
+        requires tables { AreTablesOf (R.collection rows.now) layout.now bare.members.items bare.leaves.items tables }
+        ensures { HasMeansOf (R.collection rows.now) layout.now (bare_parts bare) result }
     {
+        let _ = layout;
+        // for the fact that the rows are a collection
         let _count = rows.count();
-        let Joined {
+        let BareTree {
+            segments,
+            roots,
             nodes,
             firsts,
             leaves,
             members,
-        } = joined;
-        let segments = settings.layout.cuts.segments();
-        let leaves = placed(alloc, leaves.as_slice())?;
-        let tables = tables_of(
-            rt,
-            alloc,
-            rows,
-            &settings.layout,
-            members.as_slice(),
-            leaves.as_slice(),
-            workers,
-        )?;
-        Ok(Index {
+        } = bare;
+        Index {
             segments,
             roots,
             nodes,
@@ -127,7 +101,52 @@ impl Index {
             leaves,
             members,
             tables,
-        })
+        }
+    }
+
+    /// The index of a bare tree, which is that of the rows, with the tables of its members.
+    pub(crate) fn of_tree<R: Rows>(
+        rows: &R,
+        settings: &Settings,
+        bare: BareTree,
+        tables: Tables,
+    ) -> Index
+        requires tree { IsBareTreeOf (R.collection rows.now) settings.now bare }
+        requires bare { IsBare bare }
+        requires series { HasSeries (R.collection rows.now) bare }
+        requires tables { let places = bare.leaves.items in
+            AreTablesOf (R.collection rows.now) settings.now.layout bare.members.items places tables }
+        ensures tree { IsTreeOf (R.collection rows.now) settings.now.layout settings.now.leaf_size result }
+        ensures fits { Fits (R.collection rows.now) settings.now.layout result }
+    {
+        // for the fact that the cuts divide a series
+        let _segments = settings.layout.cuts.segments();
+        Index::of_bare(rows, &settings.layout, bare, tables)
+    }
+
+    /// The tree of this index, without its tables.
+    fn into_bare(self) -> BareTree
+        ensures bare { IsBare result }
+        ensures same { bare_parts result ≡ record self { means = []; codes = [] } }
+    {
+        let Index {
+            segments,
+            roots,
+            nodes,
+            firsts,
+            leaves,
+            members,
+            tables,
+        } = self;
+        drop(tables);
+        BareTree {
+            segments,
+            roots,
+            nodes,
+            firsts,
+            leaves,
+            members,
+        }
     }
 
     /// The index of these parts, whose leaves are words by their nodes. Parts where they make no index, and only there. The
@@ -205,36 +224,35 @@ impl Index {
         requires some { 1 ≤ workers }
         ensures { IfOk result (HasMeansOf (R.collection rows.now) layout.now self) }
     {
-        let Index {
-            segments,
-            roots,
-            nodes,
-            firsts,
-            leaves,
-            members,
-            tables,
-        } = self;
-        // for the fact that the rows are a collection
-        let _count = rows.count();
-        drop(tables);
+        let bare = self.into_bare();
+        let members = bare.members.as_slice();
         let tables = tables_of(
             rt,
             alloc,
             rows,
             layout,
-            members.as_slice(),
-            leaves.as_slice(),
+            members,
+            bare.leaves.as_slice(),
             workers,
         )?;
-        Ok(Index {
-            segments,
-            roots,
-            nodes,
-            firsts,
-            leaves,
-            members,
-            tables,
-        })
+        Ok(Index::of_bare(rows, layout, bare, tables))
+    }
+
+    /// The same by one worker, in the caller's thread: it wants no leave to start threads.
+    pub fn with_means_alone<R: Rows>(
+        self,
+        alloc: Global,
+        rows: &R,
+        layout: &Layout,
+    ) -> Result<Index, NoMemory>
+        requires length { layout.now.cuts.row_length ≡ (R.collection rows.now).points }
+        requires series { All (λ x. All (λ m. m.number < length (R.collection rows.now).series) x.members) self.leaves }
+        ensures { IfOk result (HasMeansOf (R.collection rows.now) layout.now self) }
+    {
+        let bare = self.into_bare();
+        let members = bare.members.as_slice();
+        let tables = tables_alone(alloc, rows, layout, members, bare.leaves.as_slice())?;
+        Ok(Index::of_bare(rows, layout, bare, tables))
     }
 
     /// How many leaves there are.

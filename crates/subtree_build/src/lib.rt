@@ -2,6 +2,7 @@
 #![tactic(auto)]
 
 mod assembly;
+mod bare_tree;
 mod boxes;
 mod building;
 mod fetched;
@@ -29,5 +30,5 @@ pub use laws::{leaf_bound_is_below_distances, leaf_bound_is_no_less};
 pub use leaf::{MemberList, TreeLeaf};
 pub use means::coded_length;
 pub use node::Node;
-pub use phases::build;
+pub use phases::{build, build_alone};
 pub use settings::Settings;

@@ -1,7 +1,8 @@
 //! The means of members and the codes of their rows, in the order of the members. Workers make them side by side, each for a
 //! stretch of members, and a row is fetched once for both: rows lie in another order, and building waits for them most.
-ghost use Rattle.std.specs.Prelude.{◌≡◌, ◌^◌, ◌<◌, ◌≤◌, All, IfOk, length};
+ghost use Rattle.std.specs.Prelude.{◌≡◌, ◌*◌, ◌^◌, ◌<◌, ◌≤◌, All, IfOk, length, vec_len};
 ghost use Rattle.std.specs.Thread.{IsSync};
+ghost use Rattle.row_codes.specs.Rows.{block_count};
 ghost use Rattle.subtree_build.specs.Means.{AreFilled, HavePlaces, all_codes, all_means, all_values, coded_points};
 
 use crate::fetched::{FETCHED, fetch};
@@ -19,6 +20,23 @@ struct Source<'a, R> {
     rows: &'a R,
     layout: &'a Layout,
     coded: u32,
+}
+
+/// Room for the means and the codes of members, of whose rows so many values are coded.
+fn room_for(
+    alloc: Global,
+    members: &[Member],
+    coded: u32,
+) -> Result<(Vec<Means>, Vec<CodeBlock>), NoMemory>
+    requires short { coded ≤ 65536 }
+    requires few { length members.now < 2 ^ 32 }
+    ensures means { IfOk result (λ r. vec_len r.0 ≡ length members.now) }
+    ensures codes { IfOk result (λ r. vec_len r.1 ≡ length members.now * block_count coded) }
+{
+    let means = vec![in alloc; Means::zeros(); members.len()]?;
+    let places = members.len() * block_count(coded) as usize;
+    let codes = vec![in alloc; CodeBlock::zeros(); places]?;
+    Ok((means, codes))
 }
 
 /// The means of members, each of which is a series of the rows, and the codes of their rows, of which so many values are coded.
@@ -39,9 +57,7 @@ pub(crate) fn means_of_all<H: Threads + Sync, R: Rows + Sync>(
     ensures means { IfOk result (λ r. r.0.items ≡ all_means (R.collection rows.now) layout.now members.now) }
     ensures codes { IfOk result (λ r. r.1.items ≡ all_codes (R.collection rows.now) members.now) }
 {
-    let mut means = vec![in alloc; Means::zeros(); members.len()]?;
-    let places = members.len() * block_count(coded) as usize;
-    let mut codes = vec![in alloc; CodeBlock::zeros(); places]?;
+    let (mut means, mut codes) = room_for(alloc, members, coded)?;
     let source = Source {
         rows,
         layout,
@@ -55,6 +71,32 @@ pub(crate) fn means_of_all<H: Threads + Sync, R: Rows + Sync>(
         means.as_mut_slice(),
         codes.as_mut_slice(),
     );
+    Ok((means, codes))
+}
+
+/// The same by a worker alone, in this thread.
+pub(crate) fn means_alone<R: Rows>(
+    alloc: Global,
+    rows: &R,
+    layout: &Layout,
+    coded: u32,
+    members: &[Member],
+) -> Result<(Vec<Means>, Vec<CodeBlock>), NoMemory>
+    requires length { layout.now.cuts.row_length ≡ (R.collection rows.now).points }
+    requires coded { coded ≡ coded_points (R.collection rows.now) }
+    requires short { coded ≤ 65536 }
+    requires series { All (λ m. m.number < length (R.collection rows.now).series) members.now }
+    requires few { length members.now < 2 ^ 32 }
+    ensures means { IfOk result (λ r. r.0.items ≡ all_means (R.collection rows.now) layout.now members.now) }
+    ensures codes { IfOk result (λ r. r.1.items ≡ all_codes (R.collection rows.now) members.now) }
+{
+    let (mut means, mut codes) = room_for(alloc, members, coded)?;
+    let source = Source {
+        rows,
+        layout,
+        coded,
+    };
+    fill_in_turn(&source, members, means.as_mut_slice(), codes.as_mut_slice());
     Ok((means, codes))
 }
 
@@ -161,18 +203,19 @@ fn fill_from<R: Rows>(
     }
 }
 
-/// How many values of each row are coded: all, or 1, so that there are no codes, where rows have more values than a file may hold. Such
-/// rows are windows that overlap, and their codes would take more than what they lie in.
+/// How many values of each row are coded, the first ones: those of whole blocks of 256 values, and those behind them where they fill seven
+/// eighths of one block more, so that codes take three tenths of what values do at most. None are where rows have more values than a file
+/// may hold: such rows are windows that overlap, and their codes would take more than what they lie in.
 pub fn coded_length<R: Rows>(rows: &R) -> u32
     ensures value { result ≡ coded_points (R.collection rows.now) }
-    ensures some { 1 ≤ result }
     ensures limit { result ≤ (R.collection rows.now).points }
     ensures short { result ≤ 65536 }
 {
-    let values = u64::from(rows.count()) * u64::from(rows.length());
+    let length = rows.length();
+    let values = u64::from(rows.count()) * u64::from(length);
     if values > u64::from(MAX_VALUES) {
-        1
+        0
     } else {
-        rows.length()
+        length.min(256 * ((length + 32) / 256))
     }
 }

@@ -1,14 +1,17 @@
-//! The tree of a collection, built by workers in two phases.
+//! The tree of a collection, built by workers in two phases, or by one worker alone in the caller's thread.
 ghost use Rattle.std.specs.Prelude.{◌≡◌, ◌≤◌, IfOk, vec_len};
+ghost use Rattle.series_core.specs.Collection.{IsCollection};
 ghost use Rattle.subtree_build.specs.Fits.{Fits, IsTreeOf};
 ghost use Rattle.subtree_build.specs.Building.{HoldsRoots};
+ghost use Rattle.subtree_build.specs.Summaries.{HoldAllMembers};
 
-use crate::building::build_parts;
+use crate::bare_tree::BareTree;
+use crate::building::{build_parts, build_parts_alone};
 use crate::index::Index;
-use crate::part::join_parts;
 use crate::settings::Settings;
 use crate::splicing::{RootLists, splice};
-use crate::summaries::{Summaries, root_numbers, summarise_all};
+use crate::summaries::{Summaries, root_numbers, summarise_all, summarise_alone};
+use crate::tables::{tables_alone, tables_of};
 use isax_word::Layout;
 use outside::{Gate, NoMemory};
 use series_core::Rows;
@@ -32,30 +35,54 @@ pub fn build<H: Threads + Sync, R: Rows + Sync, G: Gate + Sync>(
     ensures tree { IfOk result (IsTreeOf (R.collection rows.now) settings.now.layout settings.now.leaf_size) }
     ensures fits { IfOk result (Fits (R.collection rows.now) settings.now.layout) }
 {
-    let (found, turns) = gather_roots(rt, alloc, rows, &settings.layout, workers, gate)?;
+    let layout = &settings.layout;
+    let summaries = summarise_all(rt, alloc, rows, layout, workers, gate)?;
+    let (found, turns) = roots_in(alloc, rows, layout, summaries)?;
     let parts = build_parts(rt, alloc, settings, &found, turns.as_slice(), gate)?;
-    let RootLists { roots, lists } = found;
-    drop(lists);
-    let joined = join_parts(alloc, parts, rows.count())?;
-    Index::of_tree(rt, alloc, rows, settings, workers, roots, joined)
+    let bare = BareTree::of_parts(alloc, rows, settings, found, parts)?;
+    let members = bare.members.as_slice();
+    let tables = tables_of(
+        rt,
+        alloc,
+        rows,
+        layout,
+        members,
+        bare.leaves.as_slice(),
+        workers,
+    )?;
+    Ok(Index::of_tree(rows, settings, bare, tables))
 }
 
-/// The first phase: the members of each root number that some series has, and how many turns each worker took.
-fn gather_roots<H: Threads + Sync, R: Rows + Sync, G: Gate + Sync>(
-    rt: &H,
+/// Builds the same tree by one worker, in the caller's thread: it wants no leave to start threads, and passes no gate.
+pub fn build_alone<R: Rows>(alloc: Global, rows: &R, settings: &Settings) -> Result<Index, NoMemory>
+    requires length { settings.now.layout.cuts.row_length ≡ (R.collection rows.now).points }
+    ensures tree { IfOk result (IsTreeOf (R.collection rows.now) settings.now.layout settings.now.leaf_size) }
+    ensures fits { IfOk result (Fits (R.collection rows.now) settings.now.layout) }
+{
+    let layout = &settings.layout;
+    let summaries = summarise_alone(alloc, rows, layout)?;
+    let (found, _turns) = roots_in(alloc, rows, layout, summaries)?;
+    let parts = build_parts_alone(alloc, settings, &found)?;
+    let bare = BareTree::of_parts(alloc, rows, settings, found, parts)?;
+    let members = bare.members.as_slice();
+    let tables = tables_alone(alloc, rows, layout, members, bare.leaves.as_slice())?;
+    Ok(Index::of_tree(rows, settings, bare, tables))
+}
+
+/// What the first phase leaves to the second: the members of each root number that some series has, and how many turns each worker took.
+fn roots_in<R: Rows>(
     alloc: Global,
     rows: &R,
     layout: &Layout,
-    workers: u32,
-    gate: &G,
+    summaries: Summaries,
 ) -> Result<(RootLists, Vec<u64>), NoMemory>
-    requires length { layout.now.cuts.row_length ≡ (R.collection rows.now).points }
-    requires workers { (1 ≤ workers) × (workers ≤ 64) }
+    requires sound { IsCollection (R.collection rows.now) }
+    requires members { HoldAllMembers layout.now (R.collection rows.now) summaries.buffers.items }
     ensures roots { IfOk result (λ r. HoldsRoots layout.now (R.collection rows.now) r.0) }
-    ensures turns { IfOk result (λ r. vec_len r.1 ≡ workers) }
+    ensures turns { IfOk result (λ r. vec_len r.1 ≡ vec_len summaries.turns) }
 {
+    let _ = rows;
     let roots = root_numbers(layout);
-    let summaries = summarise_all(rt, alloc, rows, layout, workers, gate)?;
     let Summaries { mut buffers, turns } = summaries;
     let found = splice(alloc, roots, buffers.as_mut_slice())?;
     Ok((found, turns))

@@ -1,4 +1,4 @@
-//! The first phase: workers summarise the collection side by side, each into buffers of its own.
+//! The first phase: workers summarise the collection side by side, or one alone in this thread, each into buffers of its own.
 ghost use Rattle.std.specs.Prelude.{◌≡◌, ◌^◌, ◌<◌, ◌≤◌, None, All, IfOk, IfSome, length, vec_len};
 ghost use Rattle.claim_word.specs.Passes.{fresh_pass};
 ghost use Rattle.segment_sums.specs.Division.{IsDivision};
@@ -8,7 +8,7 @@ ghost use Rattle.subtree_build.specs.Summaries.{HasSummarised, HoldAllMembers};
 
 use claim_word::Claims;
 use isax_word::Layout;
-use outside::{Gate, NoMemory};
+use outside::{Gate, NoGate, NoMemory};
 use series_core::Rows;
 use std::alloc::Global;
 use std::thread;
@@ -89,6 +89,26 @@ fn run<H: Threads + Sync, R: Rows + Sync, G: Gate + Sync>(
     );
 }
 
+/// A worker alone summarises in this thread, and keeps what it made.
+fn run_alone<R: Rows>(
+    alloc: Global,
+    rows: &R,
+    layout: &Layout,
+    claims: &Claims,
+    team: &mut Vec<TeamWorker<Buffers>>,
+)
+    requires length { layout.now.cuts.row_length ≡ (R.collection rows.now).points }
+    requires chunks { claims.now.count ≡ chunk_count (length (R.collection rows.now).series) }
+    requires one { vec_len team.old ≡ 1 }
+    requires fresh { All (λ w. w.pass ≡ fresh_pass claims.now) team.old.items }
+    ensures len { vec_len team.new ≡ vec_len team.old }
+    ensures own { All (λ w. w.pass.claims ≡ claims.now) team.new.items }
+    ensures done { All (λ w. IfSome w.made (HasSummarised layout.now (R.collection rows.now) w.pass)) team.new.items }
+{
+    let worker = &mut team[0];
+    worker.made = summarised(alloc, rows, layout, claims, &NoGate, worker).ok();
+}
+
 /// How many turns each worker took.
 fn turns_of(alloc: Global, team: &[TeamWorker<Buffers>]) -> Result<Vec<u64>, NoMemory>
     ensures { IfOk result (λ turns. vec_len turns ≡ length team.now) }
@@ -98,6 +118,48 @@ fn turns_of(alloc: Global, team: &[TeamWorker<Buffers>]) -> Result<Vec<u64>, NoM
         turns.push(worker.turn)?;
     }
     Ok(turns)
+}
+
+/// The counter over the chunks of a collection, and a team whose workers are to draw them.
+fn begin<R: Rows>(
+    alloc: Global,
+    rows: &R,
+    workers: u32,
+) -> Result<(Claims, Vec<TeamWorker<Buffers>>), NoMemory>
+    requires workers { (1 ≤ workers) × (workers ≤ 64) }
+    ensures chunks { IfOk result (λ r. r.0.count ≡ chunk_count (length (R.collection rows.now).series)) }
+    ensures callers { IfOk result (λ r. r.0.callers ≡ workers) }
+    ensures len { IfOk result (λ r. vec_len r.1 ≡ workers) }
+    ensures fresh { IfOk result (λ r. All (λ w. w.pass ≡ fresh_pass r.0) r.1.items) }
+    ensures sound { IsCollection (R.collection rows.now) }
+{
+    let (claims, passes) = Claims::begin(alloc, chunks(rows.count()), workers)?;
+    let team = hire(alloc, &claims, passes, &[0; 64])?;
+    Ok((claims, team))
+}
+
+/// Ends the drawing: the buffers of all workers together hold for each root number its members.
+fn end<R: Rows>(
+    alloc: Global,
+    rows: &R,
+    layout: &Layout,
+    claims: Claims,
+    team: Vec<TeamWorker<Buffers>>,
+) -> Result<Summaries, NoMemory>
+    requires chunks { claims.count ≡ chunk_count (length (R.collection rows.now).series) }
+    requires all { vec_len team ≡ claims.callers }
+    requires some { 0 < vec_len team }
+    requires own { All (λ w. w.pass.claims ≡ claims) team.items }
+    requires done { All (λ w. IfSome w.made (HasSummarised layout.now (R.collection rows.now) w.pass)) team.items }
+    ensures members { IfOk result (λ s. HoldAllMembers layout.now (R.collection rows.now) s.buffers.items) }
+    ensures turns { IfOk result (λ s. vec_len s.turns ≡ vec_len team) }
+{
+    let _ = rows;
+    let _ = layout;
+    let turns = turns_of(alloc, team.as_slice())?;
+    let (passes, buffers) = dismiss(alloc, team)?;
+    claims.close(passes);
+    Ok(Summaries { buffers, turns })
 }
 
 /// Workers summarise the collection: their buffers together hold for each root number its members.
@@ -115,11 +177,23 @@ pub(crate) fn summarise_all<H: Threads + Sync, R: Rows + Sync, G: Gate + Sync>(
     ensures turns { IfOk result (λ s. vec_len s.turns ≡ workers) }
     ensures sound { IsCollection (R.collection rows.now) }
 {
-    let (claims, passes) = Claims::begin(alloc, chunks(rows.count()), workers)?;
-    let mut team = hire(alloc, &claims, passes, &[0; 64])?;
+    let (claims, mut team) = begin(alloc, rows, workers)?;
     run(rt, alloc, rows, layout, &claims, gate, &mut team);
-    let turns = turns_of(alloc, team.as_slice())?;
-    let (passes, buffers) = dismiss(alloc, team)?;
-    claims.close(passes);
-    Ok(Summaries { buffers, turns })
+    end(alloc, rows, layout, claims, team)
+}
+
+/// The same by a worker alone, in this thread.
+pub(crate) fn summarise_alone<R: Rows>(
+    alloc: Global,
+    rows: &R,
+    layout: &Layout,
+) -> Result<Summaries, NoMemory>
+    requires length { layout.now.cuts.row_length ≡ (R.collection rows.now).points }
+    ensures members { IfOk result (λ s. HoldAllMembers layout.now (R.collection rows.now) s.buffers.items) }
+    ensures turns { IfOk result (λ s. vec_len s.turns ≡ 1) }
+    ensures sound { IsCollection (R.collection rows.now) }
+{
+    let (claims, mut team) = begin(alloc, rows, 1)?;
+    run_alone(alloc, rows, layout, &claims, &mut team);
+    end(alloc, rows, layout, claims, team)
 }

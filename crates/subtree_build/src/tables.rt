@@ -1,10 +1,10 @@
 //! The tables beside the members of an index: their means, the codes of their rows, and the boxes of the leaves' means.
 ghost use Rattle.std.specs.Prelude.{◌≡◌, ◌<◌, ◌≤◌, ◌^◌, All, IfOk, length};
-ghost use Rattle.subtree_build.specs.Places.{AreTables, AreTablesOf, IsPlace};
+ghost use Rattle.subtree_build.specs.Places.{AreBoxes, AreTables, AreTablesOf, IsPlace};
 
 use crate::boxes::{Boxes, boxes_of};
 use crate::leaf::LeafPlace;
-use crate::means::{coded_length, means_of_all};
+use crate::means::{coded_length, means_alone, means_of_all};
 use isax_word::{Layout, Member};
 use mean_bound::Means;
 use outside::NoMemory;
@@ -20,6 +20,29 @@ pub(crate) struct Tables {
     pub(crate) blocks: u32,
     pub(crate) codes: Vec<CodeBlock>,
     pub(crate) boxes: Boxes,
+}
+
+/// Tables of these means and codes, so many blocks of codes a member, with the boxes of the means at places.
+fn with_boxes(
+    alloc: Global,
+    means: Vec<Means>,
+    blocks: u32,
+    codes: Vec<CodeBlock>,
+    places: &[LeafPlace],
+) -> Result<Tables, NoMemory>
+    requires { All (IsPlace (length means.items)) places.now }
+    ensures means { IfOk result (λ t. t.means.items ≡ means.items) }
+    ensures blocks { IfOk result (λ t. t.blocks ≡ blocks) }
+    ensures codes { IfOk result (λ t. t.codes.items ≡ codes.items) }
+    ensures boxes { IfOk result (λ t. AreBoxes t.means.items places.now t.boxes) }
+{
+    let boxes = boxes_of(alloc, means.as_slice(), places)?;
+    Ok(Tables {
+        means,
+        blocks,
+        codes,
+        boxes,
+    })
 }
 
 /// The tables of members, each of which is a series of the rows, and of the places of leaves among them.
@@ -41,13 +64,26 @@ pub(crate) fn tables_of<H: Threads + Sync, R: Rows + Sync>(
 {
     let coded = coded_length(rows);
     let (means, codes) = means_of_all(rt, alloc, rows, layout, coded, members, workers)?;
-    let boxes = boxes_of(alloc, means.as_slice(), places)?;
-    Ok(Tables {
-        means,
-        blocks: block_count(coded),
-        codes,
-        boxes,
-    })
+    with_boxes(alloc, means, block_count(coded), codes, places)
+}
+
+/// The same by a worker alone, in this thread.
+pub(crate) fn tables_alone<R: Rows>(
+    alloc: Global,
+    rows: &R,
+    layout: &Layout,
+    members: &[Member],
+    places: &[LeafPlace],
+) -> Result<Tables, NoMemory>
+    requires length { layout.now.cuts.row_length ≡ (R.collection rows.now).points }
+    requires series { All (λ m. m.number < length (R.collection rows.now).series) members.now }
+    requires few { length members.now < 2 ^ 32 }
+    requires places { All (IsPlace (length members.now)) places.now }
+    ensures { IfOk result (AreTablesOf (R.collection rows.now) layout.now members.now places.now) }
+{
+    let coded = coded_length(rows);
+    let (means, codes) = means_alone(alloc, rows, layout, coded, members)?;
+    with_boxes(alloc, means, block_count(coded), codes, places)
 }
 
 /// Tables of members and of the places of leaves among them, by no rows: every mean is 0, and there are no codes.
@@ -60,11 +96,5 @@ pub(crate) fn blank_tables(
     ensures { IfOk result (AreTables members.now places.now) }
 {
     let means = vec![in alloc; Means::zeros(); members.len()]?;
-    let boxes = boxes_of(alloc, means.as_slice(), places)?;
-    Ok(Tables {
-        means,
-        blocks: 0,
-        codes: Vec::new(alloc),
-        boxes,
-    })
+    with_boxes(alloc, means, 0, Vec::new(alloc), places)
 }

@@ -9,7 +9,7 @@ use std::alloc::Global;
 use std::sync::atomic::{AtomicBool, AtomicU64, Ordering};
 use std::test::Fail;
 use std::thread::Threads;
-use subtree_build::{Index, Settings, build};
+use subtree_build::{Index, Settings, build, build_alone};
 
 /// How often a thread looks for another before it gives up.
 const LOOKS: u32 = 1_000_000_000;
@@ -83,7 +83,7 @@ fn has_leaves(index: &Index, tree: &Known) -> bool {
     true
 }
 
-/// Whether a known tree that 1, 2 and 64 workers build has its leaves, and the query starts where it is to.
+/// Whether a known tree that 1, 2 and 64 workers build, and one that wants no threads, has its leaves, and the query starts where it is to.
 fn grows<H: Threads + Sync>(rt: &H, alloc: Global, tree: &Known) -> Result<bool, Fail> {
     let rows = collection(alloc, tree.length, tree.values)?;
     let some = 1 <= tree.segments && tree.segments <= 16 && tree.segments <= tree.length;
@@ -103,7 +103,10 @@ fn grows<H: Threads + Sync>(rt: &H, alloc: Global, tree: &Known) -> Result<bool,
             return Ok(false);
         }
     }
-    Ok(true)
+    let Ok(alone) = build_alone(alloc, &rows, &settings) else {
+        return Err(Fail::new("no memory for the tree"));
+    };
+    Ok(has_leaves(&alone, tree))
 }
 
 /// Trees that are known.

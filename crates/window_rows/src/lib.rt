@@ -9,6 +9,3 @@ mod rows;
 pub use choosing::choose;
 pub use laws::{enough_law, windows_law};
 pub use rows::Windows;
-
-#[cfg(test)]
-mod tests;

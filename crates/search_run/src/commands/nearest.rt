@@ -21,7 +21,6 @@ use crate::input::index_file::load_index;
 use crate::input::pair::{Both, Search, read_alike, read_both};
 use crate::output::text::query_text;
 use crate::status::Status;
-use crate::stop::Stop;
 use crate::tree::{Tree, tree_of};
 use certificate::print;
 use command_words::{Options, Text};
@@ -36,7 +35,7 @@ use std::thread::Threads;
 struct Nearest<'a, T, G, P> {
     // Threads, memory and the gate.
     crew: &'a Crew<'a, T, G>,
-    // How all workers search one query.
+    // How all workers search one query for a certificate.
     team: &'a P,
     // The two files and the options.
     search: &'a Search<'a>,
@@ -76,7 +75,6 @@ impl<
     // Answers without certificates.
     fn plain<F: Files, S: Sink>(&self, files: &mut F, out: &mut S) -> Result<(), Status>
         requires limits { OptionsKeepLimits self.now.search.now.options.now }
-        requires team { IsTeam (λ rows. rows) (P.pre self.now.team.now) (P.post self.now.team.now) }
         ensures { Serves F.Files S.Sink (plan_by (pieces_by false) self.now.search.now) files.old files.new out.old out.new result }
     {
         let both = read_both(self.crew.alloc, files, self.search)?;
@@ -93,7 +91,6 @@ impl<
         out: &mut S,
     ) -> Result<(), Status>
         requires limits { OptionsKeepLimits self.now.search.now.options.now }
-        requires team { IsTeam (λ rows. rows) (P.pre self.now.team.now) (P.post self.now.team.now) }
         ensures { Serves F.Files S.Sink (plan_by (indexed_plan index.now) self.now.search.now) files.old files.new out.old out.new result }
     {
         let both = read_alike(self.crew.alloc, files, self.search)?;
@@ -110,9 +107,8 @@ impl<
     }
 
     // Writes for each query its k nearest, by a search of this tree.
-    fn write<S: Sink>(&self, both: &Both, tree: &Tree, out: &mut S) -> Result<(), Stop>
+    fn write<S: Sink>(&self, both: &Both, tree: &Tree, out: &mut S) -> Result<(), Status>
         requires limits { OptionsKeepLimits self.now.search.now.options.now }
-        requires team { IsTeam (λ rows. rows) (P.pre self.now.team.now) (P.post self.now.team.now) }
         requires tree { IsTreeFor both.now.series.rows tree.now }
         requires lengths { both.now.series.rows.points ≡ both.now.queries.rows.points }
         ensures ok { OnOk result (AppendsPieces (IsNearestPiece false self.now.search.now.options.now both.now.series)
@@ -128,7 +124,7 @@ impl<
             asking: asking_of(self.search.options),
         };
         let telling = Telling::Nearest(&both.series.labels);
-        write_answers(self.crew, self.team, &batch, &telling, out)
+        write_answers(self.crew, &batch, &telling, out)
     }
 
     // Answers with certificates.

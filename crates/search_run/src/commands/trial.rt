@@ -6,7 +6,7 @@ ghost use Rattle.command_words.specs.Limits.{OptionsKeepLimits};
 ghost use Rattle.command_words.specs.declared.limits.TheConstants.{MOST_QUERIES};
 ghost use Rattle.search_run.specs.Traffic.{Reading, wrote_to};
 ghost use Rattle.search_run.specs.Commands.{trial_plan};
-ghost use Rattle.search_run.specs.Batches.{IsBatch, IsTeam};
+ghost use Rattle.search_run.specs.Batches.{IsBatch};
 ghost use Rattle.search_run.specs.Ends.{Follows, ended};
 ghost use Rattle.search_run.specs.Plans.{HasSegments};
 ghost use Rattle.search_run.specs.Trials.{KeepsTrialLimits, answers_of, summed, trial_text};
@@ -15,16 +15,15 @@ ghost use Rattle.search_run.specs.declared.status.Which.{Which};
 
 use crate::batch::Batch;
 use crate::crew::Crew;
-use crate::finding::{Asking, asking_of};
+use crate::finding::asking_of;
 use crate::input::lengths::check_segments;
 use crate::output::summary::{Summary, summary_text};
 use crate::status::{Status, Which};
-use crate::tree::{Tree, tree_of};
+use crate::tree::tree_of;
 use command_words::Options;
 use outside::{Gate, NoMemory, Sink, write_whole};
-use query_core::Outcome;
 use random_walks::{generator, walks};
-use series_core::{Flat, Rows};
+use series_core::Rows;
 use std::thread::Threads;
 
 /// What `trial` is asked for: `queries` walks among `count` walks of `length` values each, all from one seed.
@@ -43,14 +42,8 @@ struct Trial<'a> {
 }
 
 /// Answers `trial`: the four lines over the answers to `queries` queries.
-pub fn answer_trial<
-    T: Threads + Sync,
-    S: Sink,
-    G: Gate + Sync,
-    P: Fn(&Flat, &Tree, &[i16], Asking) -> Result<Outcome, NoMemory>,
->(
+pub fn answer_trial<T: Threads + Sync, S: Sink, G: Gate + Sync>(
     crew: &Crew<'_, T, G>,
-    team: &P,
     seed: u64,
     count: u32,
     length: u32,
@@ -60,7 +53,6 @@ pub fn answer_trial<
 ) -> Result<(), Status>
     requires trial { KeepsTrialLimits count length queries }
     requires options { OptionsKeepLimits options.now }
-    requires team { IsTeam (λ rows. rows) (P.pre team.now) (P.post team.now) }
     ensures answers { (reading : Reading) → Follows (trial_plan seed count length queries options.now) reading
         (wrote_to S.Sink out.old out.new) (ended result) }
     ensures reads_nothing { (w : Which) → result ≢ Err (Status.ReadFault w) }
@@ -73,21 +65,19 @@ pub fn answer_trial<
         queries,
         options,
     };
-    let text = text_of(crew, team, &trial)?;
+    let text = text_of(crew, &trial)?;
     write_whole(out, &text)?;
     Ok(())
 }
 
 // The whole text of a trial.
-fn text_of<
-    T: Threads + Sync,
-    G: Gate + Sync,
-    P: Fn(&Flat, &Tree, &[i16], Asking) -> Result<Outcome, NoMemory>,
->(crew: &Crew<'_, T, G>, team: &P, trial: &Trial<'_>) -> Result<Vec<u8>, NoMemory>
+fn text_of<T: Threads + Sync, G: Gate + Sync>(
+    crew: &Crew<'_, T, G>,
+    trial: &Trial<'_>,
+) -> Result<Vec<u8>, NoMemory>
     requires trial { KeepsTrialLimits trial.now.count trial.now.length trial.now.queries }
     requires options { OptionsKeepLimits trial.now.options.now }
     requires segments { HasSegments trial.now.options.now.segments trial.now.length }
-    requires team { IsTeam (λ rows. rows) (P.pre team.now) (P.post team.now) }
     ensures { IfOk result (λ text. text.items ≡ trial_text trial.now.seed trial.now.count trial.now.length
         trial.now.queries trial.now.options.now.k) }
 {
@@ -101,7 +91,7 @@ fn text_of<
         queries: &asked,
         asking: asking_of(trial.options),
     };
-    let summary = summary_of(crew, team, &batch)?;
+    let summary = summary_of(crew, &batch)?;
     summary_text(
         crew.alloc,
         trial.count,
@@ -113,14 +103,11 @@ fn text_of<
 }
 
 // The summary of the answers to the queries of a trial.
-fn summary_of<
-    T: Threads + Sync,
-    R: Rows + Sync,
-    G,
-    P: Fn(&R, &Tree, &[i16], Asking) -> Result<Outcome, NoMemory>,
->(crew: &Crew<'_, T, G>, team: &P, batch: &Batch<'_, R>) -> Result<Summary, NoMemory>
+fn summary_of<T: Threads + Sync, R: Rows + Sync, G: Gate + Sync>(
+    crew: &Crew<'_, T, G>,
+    batch: &Batch<'_, R>,
+) -> Result<Summary, NoMemory>
     requires batch { IsBatch R.collection batch.now }
-    requires team { IsTeam R.collection (P.pre team.now) (P.post team.now) }
     requires few { length batch.now.queries.now.series ≤ MOST_QUERIES }
     ensures { IfOk result (λ summary. summary
         ≡ summed (answers_of (R.collection batch.now.rows.now) batch.now.asking.k batch.now.queries.now.series)) }
@@ -128,7 +115,7 @@ fn summary_of<
     let mut summary = Summary::NONE;
     let mut ahead = Vec::new(crew.alloc);
     for i in 0..batch.queries.count() {
-        let pairs = batch.answer(crew, team, i, &mut ahead)?;
+        let pairs = batch.answer(crew, i, &mut ahead)?;
         summary.add(&pairs.items);
     }
     Ok(summary)

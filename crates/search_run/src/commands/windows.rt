@@ -6,7 +6,6 @@ ghost use Rattle.command_words.specs.Limits.{IsWithin, OptionsKeepLimits};
 ghost use Rattle.command_words.specs.Options.{windows_needed};
 ghost use Rattle.series_core.specs.declared.best.TheConstants.{MAX_BEST};
 ghost use Rattle.series_file.specs.Stages.{IsForm};
-ghost use Rattle.search_run.specs.Batches.{IsTeam};
 ghost use Rattle.search_run.specs.Loads.{form_of};
 ghost use Rattle.search_run.specs.Plans.{Refuses};
 ghost use Rattle.search_run.specs.Serves.{Serves, plan_by};
@@ -23,9 +22,8 @@ use crate::input::file::{form_of, load};
 use crate::input::lengths::check_segments;
 use crate::input::pair::{Both, Search};
 use crate::status::{Status, Which};
-use crate::tree::{Tree, tree_of};
-use outside::{Files, Gate, NoMemory, Sink};
-use query_core::Outcome;
+use crate::tree::tree_of;
+use outside::{Files, Gate, Sink};
 use series_core::Rows;
 use series_file::Form;
 use std::alloc::Global;
@@ -34,22 +32,14 @@ use window_rows::Windows;
 
 /// Answers `windows`: reads the long series and the queries, and writes for each query the windows chosen from the nearest,
 /// which begin a whole number of `step` values from the front.
-pub fn answer_windows<
-    T: Threads + Sync,
-    F: Files,
-    S: Sink,
-    G: Gate + Sync,
-    P: Fn(&Windows<'_>, &Tree, &[i16], Asking) -> Result<Outcome, NoMemory>,
->(
+pub fn answer_windows<T: Threads + Sync, F: Files, S: Sink, G: Gate + Sync>(
     crew: &Crew<'_, T, G>,
-    team: &P,
     search: &Search<'_>,
     step: u32,
     files: &mut F,
     out: &mut S,
 ) -> Result<(), Status>
     requires limits { OptionsKeepLimits search.now.options.now }
-    requires team { IsTeam (λ windows. windows) (P.pre team.now) (P.post team.now) }
     requires step { 1 ≤ step }
     requires needed { windows_needed search.now.options.now ≤ MAX_BEST }
     ensures { Serves F.Files S.Sink (plan_by (λ series queries o. windows_plan series queries step o) search.now)
@@ -69,7 +59,7 @@ pub fn answer_windows<
         },
     };
     let telling = Telling::Apart(options.apart, options.k);
-    write_answers(crew, team, &batch, &telling, out)?;
+    write_answers(crew, &batch, &telling, out)?;
     Ok(())
 }
 

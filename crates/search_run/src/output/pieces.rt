@@ -8,7 +8,7 @@ ghost use Rattle.search_run.specs.Texts.{IsMade, IsTextOf};
 ghost use Rattle.search_run.specs.Traffic.{wrote_to};
 
 use crate::row::row_of;
-use crate::stop::Stop;
+use crate::status::Status;
 use outside::{NoMemory, Sink, write_whole};
 use series_core::Rows;
 
@@ -18,7 +18,7 @@ pub fn write_pieces<C, Q: Rows, S: Sink, P: Fn(&C, u32, &[i16]) -> Result<Vec<u8
     piece_of: &P,
     queries: &Q,
     out: &mut S,
-) -> Result<(), Stop>
+) -> Result<(), Status>
     requires callable { (i : ℕ) (q : _) → i < length (Q.collection queries.now).series
         → length q.now ≡ (Q.collection queries.now).points → P.pre piece_of.now context i q }
     ensures ok { OnOk result ((text : List ℕ)

@@ -125,16 +125,16 @@ const KINDS: [Kind; 7] = [
 const LENGTHS: [(u32, u32); 14] = [
     (1, 2),
     (5, 1),
-    (15, 10),
     (16, 100),
-    (17, 1),
     (100, 40),
+    (223, 10),
+    (224, 100),
     (255, 10),
     (256, 1),
     (256, 100),
     (257, 10),
-    (258, 1),
-    (511, 10),
+    (479, 1),
+    (480, 10),
     (512, 100),
     (513, 10),
 ];
@@ -175,7 +175,7 @@ fn many_of_every_kind(rt: HostRuntime) -> Result<(), Fail> {
 fn data_that_codes_alone_tell(rt: HostRuntime) -> Result<(), Fail> {
     let alloc = rt.alloc();
     let mut rng = SplitMix64::seed_from_u64(6);
-    for (length, k) in [(256, 1), (256, 3), (130, 2), (128, 3), (128, 100)] {
+    for (length, k) in [(256, 1), (256, 3), (230, 2), (300, 3), (480, 100)] {
         let values = values_of(alloc, &mut rng, Kind::Flutter, 3000, length)?;
         assert!(rt;
             agree(&rt, alloc, values, length, k)?,

@@ -1,19 +1,11 @@
--- The limit begins above its floor; the k farthest are series, and each with its nearest other is a discord.
-use Rattle.std.proofs.Common.{◌≡◌, ◌-◌, ap, sym, ◌∙◌, subst}
+-- The k farthest are series, and each with its nearest other is a discord.
+use Rattle.std.proofs.Common.{◌≡◌, ap, sym, ◌∙◌, subst}
 use Rattle.std.specs.List.{flat_map}
 use Rattle.std.proofs.lemmas.Result.{IfOk-weaker}
-use Rattle.series_core.specs.Pairs.{ascending}
-use Rattle.series_core.proofs.Parts.{distance_small}
-use Rattle.discord_query.specs.Discords.{all_farness, discords, discords_of}
+use Rattle.discord_query.specs.Discords.{discords, discords_of}
 use Rattle.discord_query.specs.Searches.{AreSeries}
-use Rattle.discord_query.proofs.Farness.{all_near}
 use Rattle.discord_query.proofs.Together.{top_series}
 use Rattle.discord_query.proofs.farthest.discord.Goals as goal
-
-pub begin-requires-clause-floor : goal.begin-requires-clause-floor
-begin-requires-clause-floor g c =
-    let all = g.R.Rows.collection c.args.rows.now in
-    distance_small (c.args.k - 1) (ascending (all_farness all)) (all_near all)
 
 pub named-requires-clause-inside : goal.named-requires-clause-inside
 named-requires-clause-inside g c =

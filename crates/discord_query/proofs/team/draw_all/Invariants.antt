@@ -3,7 +3,8 @@ use Rattle.std.proofs.Common.{◌≡◌, ◌≤◌, ◌<◌, ◌-◌, false}
 use Rattle.list_totals.specs.Standing.{In}
 use Rattle.series_core.specs.declared.pair.Pair.{Pair}
 use Rattle.discord_query.specs.Discords.{least_farness}
-use Rattle.discord_query.specs.Done.{IsTold, IsPart, Holds}
+use Rattle.list_team.specs.Searchers.{IsTold}
+use Rattle.discord_query.specs.Done.{IsPart, Holds}
 use Rattle.discord_query.proofs.team.draw_all.Given as goal
 
 abbrev pub invariant-loop-drawn : goal.invariant-loop-drawn

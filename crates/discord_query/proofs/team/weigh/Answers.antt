@@ -1,8 +1,9 @@
 -- The series is given up, has no other, or is kept among the k farthest.
 use Rattle.std.proofs.Common.{◌≤◌, inl, ap, ◌∙◌, sym, arith}
 use Rattle.std.specs.Option.{option_to_list}
+use Rattle.best_word.specs.Passes.{Pass as Word}
 use Rattle.discord_query.specs.Discords.{least_farness}
-use Rattle.discord_query.proofs.Weighing.{given_up, alone, weighed_part, weighed_only, weighed_keeps}
+use Rattle.discord_query.proofs.Weighing.{floor_below, given_up, alone, weighed_part, weighed_only, weighed_keeps}
 use Rattle.discord_query.proofs.team.weigh.Goals as goal
 
 pub returns-then-is_given_up-clause-weighed : goal.returns-then-is_given_up-clause-weighed
@@ -24,12 +25,16 @@ returns-in_default-clause-weighed g c = record {
       c.args.list.now.pairs (sym (ap option_to_list c.in_default.is) ∙ c.in_ok-other.ensures);
 }
 
-pub share-requires-clause-part : goal.share-requires-clause-part
-share-requires-clause-part g c =
-    weighed_part (g.R.Rows.collection c.args.search.now.rows.now) c.args.search.now.k c.args.number
+pub offer_last-requires-clause-last : goal.offer_last-requires-clause-last
+offer_last-requires-clause-last g c =
+    let all = g.R.Rows.collection c.args.search.now.rows.now in
+    let low = floor_below all c.args.search.now.k c.add.new.self
+    (weighed_part (g.R.Rows.collection c.args.search.now.rows.now) c.args.search.now.k c.args.number
     c.in-Some.other c.args.list.now
     (sym (ap option_to_list c.in-Some.is) ∙ c.in_ok-other.ensures) c.requires.number c.requires.part
-    c.requires.new c.add.new.self c.add.ensures.k c.add.ensures.pairs
+    c.requires.new c.add.new.self c.add.ensures.k c.add.ensures.pairs) in
+    let kept = ap (λ (w : Word). w.floor) c.read-limit.ensures.trace in
+    omega (arith, low, kept, c.requires.told.floor_is)
 
 pub returns-clause-weighed : goal.returns-clause-weighed
 returns-clause-weighed g c =

@@ -1,4 +1,4 @@
--- The leaves from the start leaf up to this one were scanned.
+-- The leaves from the first leaf up to this one were scanned.
 use Rattle.std.proofs.Common.{◌≡◌, ◌-◌}
 use Rattle.std.specs.List.{range_with_len}
 use Rattle.search_machine.specs.Sound.{ListSound}

@@ -1,5 +1,5 @@
 -- The members of a leaf and their codes are lent.
-use Rattle.std.proofs.Common.{◌≡◌, ◌<◌, List, length, subst, sym}
+use Rattle.std.proofs.Common.{◌<◌, List, length, subst, sym}
 use Rattle.isax_word.specs.declared.member.Member.{Member}
 use Rattle.subtree_build.specs.Index.{IndexParts}
 use Rattle.subtree_build.specs.Members.{numbers_of}

@@ -1,16 +1,16 @@
 -- One stretch more was drawn and scanned.
-use Rattle.std.proofs.Common.{◌≡◌, ◌-◌, ◌≤◌, ◌++◌, ◌∷◌, [], ℕ, List, ap, sym, subst, ◌∙◌, arith}
+use Rattle.std.proofs.Common.{◌-◌, ◌≤◌, ◌++◌, ◌∷◌, [], ℕ, List, ap, sym, subst, ◌∙◌, arith}
 use Rattle.claim_word.specs.Passes.{Pass}
 use Rattle.best_word.specs.Passes.{Pass as Word}
 use Rattle.series_core.specs.Best.{Best}
 use Rattle.series_core.specs.Order.{distance_at}
-use Rattle.series_core.specs.declared.pair.Pair.{Pair}
 use Rattle.search_machine.specs.Ground.{last, worst}
 use Rattle.search_machine.specs.Sound.{ListSound}
 use Rattle.nearest_answer.specs.Stretches.{by_stretches}
 use Rattle.nearest_answer.proofs.Nearest.{next_scanned, none_met, worst_enough}
 use Rattle.nearest_answer.proofs.StretchLeaves.{stretches_fit}
 use Rattle.nearest_answer.proofs.TeamLists.{not_drawn}
+use Rattle.search_task.specs.Questions.{last_of}
 use Rattle.search_task.proofs.Grounds.{ground_last}
 use Rattle.nearest_answer.proofs.team.draw_all.Given as given
 use Rattle.nearest_answer.proofs.team.draw_all.Goals as goal
@@ -54,17 +54,18 @@ more g c =
 pub scan_stretch-requires-clause-number : goal.scan_stretch-requires-clause-number
 scan_stretch-requires-clause-number g c = c.requires.cut.real c.in-Some.drawn c.in-Some.ensures.number.0
 
-pub share-requires-clause-last : goal.share-requires-clause-last
-share-requires-clause-last g c =
+pub offer_last-requires-clause-last : goal.offer_last-requires-clause-last
+offer_last-requires-clause-last g c =
     let s = c.args.search.now in
     let ground = by_stretches s c.args.by c.args.claims.now.count in
     let fits = stretches_fit s c.args.by c.args.claims.now.count c.k-k.ensures.searched c.requires.cut in
     let list = c.scan_stretch.new.list in
     let least : last ground ≤ worst ground list.pairs
     = worst_enough ground fits c.draw.new.pass.draws list.pairs
-    (more g (goal.at.share-requires-clause-last g c).After-scan_stretch) in
+    (more g (goal.at.offer_last-requires-clause-last g c).After-scan_stretch) in
     let kth = ap (λ (n : ℕ). distance_at (n - 1) list.pairs) c.scan_stretch.ensures.k in
-    omega (arith, least, kth, ground_last s c.k-k.ensures.searched)
+    let kept = ap (λ (w : Word). w.floor) c.read-limit.ensures.trace in
+    omega (arith, least, kth, ground_last s c.k-k.ensures.searched, kept, c.loop-drawn.invariant.told.floor_is)
 
 pub loop-drawn-preserved : goal.loop-drawn-preserved
 loop-drawn-preserved g c =
@@ -75,7 +76,10 @@ loop-drawn-preserved g c =
       own = ap (λ (p : Pass). p.claims) drawn ∙ was.own;
       goes_on = ap (λ (p : Pass). p.ended) drawn ∙ was.goes_on;
       met = omega (arith, met, c.in-Some.ensures.number.0);
-      told = c.share.ensures.told;
+      told = c.offer_last.ensures (last_of c.args.search.now.question) (record {
+        best = ap (λ (w : Word). w.best) c.read-limit.ensures.trace ∙ was.told.best;
+        floor_is = ap (λ (w : Word). w.floor) c.read-limit.ensures.trace ∙ was.told.floor_is;
+      });
       k = c.scan_stretch.ensures.k;
       sound = more g (goal.at.loop-drawn-preserved g c).After-scan_stretch;
     }

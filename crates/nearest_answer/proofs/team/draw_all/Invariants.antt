@@ -2,7 +2,7 @@
 use Rattle.std.proofs.Common.{◌≡◌, ◌≤◌, ◌-◌, false}
 use Rattle.search_machine.specs.Sound.{ListSound}
 use Rattle.nearest_answer.specs.Stretches.{by_stretches}
-use Rattle.nearest_answer.specs.Team.{IsTold}
+use Rattle.list_team.specs.Searchers.{IsTold}
 use Rattle.search_task.specs.Questions.{last_of}
 use Rattle.nearest_answer.proofs.team.draw_all.Given as goal
 

@@ -31,5 +31,5 @@ returns-clause-answers g c =
 
 pub returns-in_err-write_pieces-clause-reliable : goal.returns-in_err-write_pieces-clause-reliable
 returns-in_err-write_pieces-clause-reliable g c reliable w =
-    stop_reads_nothing c.from_residual-in_err-write_pieces.result c.in_err-write_pieces.field-0.0 w
-    c.from_residual-in_err-write_pieces.ensures.1
+    stop_reads_nothing _ _ _ c.from_residual-in_err-write_pieces.result c.in_err-write_pieces.field-0.0 w
+    c.in_err-write_pieces.ensures.stops c.from_residual-in_err-write_pieces.ensures.1

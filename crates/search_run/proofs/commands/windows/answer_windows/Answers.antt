@@ -8,7 +8,7 @@ use Rattle.search_run.specs.Traffic.{wrote_to}
 use Rattle.search_run.specs.Windows.{AppendsChoices, IsChoice, found_apart, windows_in, windows_plan}
 use Rattle.search_run.specs.declared.answers.Telling.TheVariants.{Apart}
 use Rattle.search_run.specs.declared.input.pair.Both.{Both}
-use Rattle.search_run.specs.declared.stop.Stop.{Stop}
+use Rattle.search_run.specs.declared.status.Status.{Status}
 use Rattle.search_run.proofs.Served.{done_serves, memory_serves, refused_serves, stopped_serves}
 use Rattle.search_run.proofs.Windowed.{chosen_done, chosen_stopped, long_refused}
 use Rattle.search_run.proofs.commands.windows.answer_windows.Goals as goal
@@ -41,7 +41,7 @@ returns-in_err-write_answers g c =
     let over : c.new-windows.result ≡ all = search rules in
     let writing = wrote_to g.S.Sink c.args.out.now c.write_answers.new.out in
     let stop = c.in_err-write_answers.field-0.0 in
-    let gave : Result (Unit {0}) Stop = Err stop in
+    let gave : Result (Unit {0}) Status = Err stop in
     let stopped = subst (λ w. IfErr gave (Stops (IsChoice o w) y.rows.series writing)) over
     (chosen_stopped o c.requires.limits.apart.0 c.new-windows.result y.rows.series writing gave
     (subst (λ k. IfErr gave (Stops (IsTold (Apart o.apart o.k) c.new-windows.result k) y.rows.series writing))
@@ -62,7 +62,7 @@ returns g c =
     let over : c.new-windows.result ≡ windows_in x y c.args.step = search rules in
     let before = g.S.Sink.written c.args.out.now in
     let now = g.S.Sink.written c.write_answers.new.out in
-    let gave : Result (Unit {0}) Stop = Ok tt in
+    let gave : Result (Unit {0}) Status = Ok tt in
     let wrote = subst (λ w. OnOk gave (AppendsChoices o w y.rows.series before now)) over
     (chosen_done o c.requires.limits.apart.0 c.new-windows.result y.rows.series before now gave
     (subst (λ k. OnOk gave (AppendsTold (Apart o.apart o.k) c.new-windows.result k y.rows.series before now))

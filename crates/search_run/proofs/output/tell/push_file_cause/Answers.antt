@@ -9,9 +9,9 @@ pub returns-in-Truncated-clause-text : goal.returns-in-Truncated-clause-text
 returns-in-Truncated-clause-text c =
     c.push_counted-in-Truncated-2.ensures.text
     ∙ ap (λ line. line ++ (codes " of " ++ decimal c.in-Truncated.want)) c.push_counted-in-Truncated.ensures.text
-    ∙ two_counted c.args.line.now (codes "ends at byte ") (decimal c.in-Truncated.at) (codes " of ") (decimal c.in-Truncated.want)
-    ∙ ap (λ (e : FileError). c.args.line.now ++ file_cause e) (sym c.in-Truncated.is)
+    ∙ two_counted c.args.line.now.bytes (codes "ends at byte ") (decimal c.in-Truncated.at) (codes " of ") (decimal c.in-Truncated.want)
+    ∙ ap (λ (e : FileError). c.args.line.now.bytes ++ file_cause e) (sym c.in-Truncated.is)
 
 pub returns-in-Trailing-clause-text : goal.returns-in-Trailing-clause-text
 returns-in-Trailing-clause-text c =
-    c.push_counted-in-Trailing.ensures.text ∙ ap (λ (e : FileError). c.args.line.now ++ file_cause e) (sym c.in-Trailing.is)
+    c.push_counted-in-Trailing.ensures.text ∙ ap (λ (e : FileError). c.args.line.now.bytes ++ file_cause e) (sym c.in-Trailing.is)

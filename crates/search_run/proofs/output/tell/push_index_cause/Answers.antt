@@ -6,8 +6,8 @@ use Rattle.search_run.proofs.output.tell.push_index_cause.Goals as goal
 
 pub returns-in-Unfit-clause-text : goal.returns-in-Unfit-clause-text
 returns-in-Unfit-clause-text c =
-    c.push-in-Unfit.ensures
+    c.push_str-in-Unfit.ensures.bytes
     ∙ ap (λ line. line ++ codes " does not fit") c.push_counted.ensures.text
-    ∙ append_assoc c.args.line.now (codes "series " ++ decimal c.from.result) (codes " does not fit")
-    ∙ ap (λ n. c.args.line.now ++ ((codes "series " ++ decimal n) ++ codes " does not fit")) c.from.ensures
-    ∙ ap (λ (f : IndexFault). c.args.line.now ++ index_cause f) (sym c.in-Unfit.is)
+    ∙ append_assoc c.args.line.now.bytes (codes "series " ++ decimal c.from.result) (codes " does not fit")
+    ∙ ap (λ n. c.args.line.now.bytes ++ ((codes "series " ++ decimal n) ++ codes " does not fit")) c.from.ensures
+    ∙ ap (λ (f : IndexFault). c.args.line.now.bytes ++ index_cause f) (sym c.in-Unfit.is)

@@ -8,9 +8,9 @@ use Rattle.search_run.proofs.output.tell.push_reject.Goals as goal
 pub returns-in-Blocks-clause-text : goal.returns-in-Blocks-clause-text
 returns-in-Blocks-clause-text c =
     let want = codes " blocks for " ++ decimal c.in-Blocks.want in
-    c.push.ensures
+    c.push_str.ensures.bytes
     ∙ ap (λ line. line ++ codes " queries") c.push_counted.ensures.text
     ∙ ap (λ line. (line ++ want) ++ codes " queries") c.push_number.ensures.text
-    ∙ number_counted_text c.args.line.now (decimal c.in-Blocks.have) (codes " blocks for ")
+    ∙ number_counted_text c.args.line.now.bytes (decimal c.in-Blocks.have) (codes " blocks for ")
     (decimal c.in-Blocks.want) (codes " queries")
-    ∙ ap (λ (r : Reject). c.args.line.now ++ reject_cause r) (sym c.in-Blocks.is)
+    ∙ ap (λ (r : Reject). c.args.line.now.bytes ++ reject_cause r) (sym c.in-Blocks.is)

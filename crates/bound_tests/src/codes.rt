@@ -1,0 +1,244 @@
+//! Worked rows, whose expected bounds were found by hand or by a small program apart from the crate; and rows of many lengths against a
+//! plain computation of their bounds, one value at a time and with a division for each.
+use crate::drawn::scattered;
+use row_codes::{
+    CodeBlock, CodeLimit, CodeView, block_count, code_row, codes_have_squares, four_within,
+};
+use std::alloc::{AllocError, Global};
+use std::process::Abort;
+use std::test::Fail;
+
+/// The longest row.
+const LONGEST: usize = 65536;
+
+/// Compares the bound of a row by its codes for a query with an expected one: it is within that, and not within one less.
+fn compare(
+    rt: &impl Abort,
+    alloc: Global,
+    (row, query): (&[i16], &[i16]),
+    bound: u64,
+) -> Result<(), AllocError> {
+    let length = row.len();
+    assert!(rt;
+        length == query.len() && length <= LONGEST,
+        "{length} values are no row"
+    );
+    let count = block_count(length as u32) as usize;
+    let mut codes = vec![in alloc; CodeBlock::zeros(); count]?;
+    assert_eq!(rt; codes.len(), count);
+    code_row(row, &mut codes);
+    codes_have_squares(row);
+    let view = CodeView::new(query);
+    assert!(rt;
+        view.is_within(&codes, &CodeLimit::new(bound)),
+        "{length} values within {bound}"
+    );
+    assert!(rt;
+        view.is_within(&codes, &CodeLimit::new(u64::MAX)),
+        "{length} values without a limit"
+    );
+    if bound > 0 {
+        let less = CodeLimit::new(bound - 1);
+        assert!(rt;
+            !view.is_within(&codes, &less),
+            "{length} values below {bound}"
+        );
+    }
+    Ok(())
+}
+
+#[test]
+fn worked_rows(rt: HostRuntime) -> Result<(), Fail> {
+    let rising: [i16; 16] = [0, 1, 2, 3, 4, 5, 6, 7, 8, 9, 10, 11, 12, 13, 14, 15];
+    let about: [i16; 16] = [-8, -7, -6, -5, -4, -3, -2, -1, 0, 1, 2, 3, 4, 5, 6, 7];
+    let turned: [i16; 16] = [8, 7, 6, 5, 4, 3, 2, 1, 0, -1, -2, -3, -4, -5, -6, -7];
+    let mut outlier = [100; 16];
+    outlier[15] = -3000;
+    let rows: [([i16; 16], [i16; 16], u64); 9] = [
+        ([0; 16], [0; 16], 0),
+        ([0; 16], [100; 16], 156816),
+        ([7; 16], [7; 16], 0),
+        ([8; 16], [-8; 16], 4096),
+        (rising, [0; 16], 1122),
+        (about, turned, 1190),
+        ([-32768; 16], [32767; 16], 60396011536),
+        ([32767; 16], [-32768; 16], 60399943696),
+        (outlier, [0; 16], 6335289),
+    ];
+    for (row, query, bound) in rows {
+        compare(&rt, rt.alloc(), (&row, &query), bound)?;
+    }
+    Ok(())
+}
+
+#[test]
+fn worked_rows_of_several_blocks(rt: HostRuntime) -> Result<(), Fail> {
+    let rows: [(usize, i16, i16, i16, u64); 6] = [
+        (3, 1, 2, 5, 0),
+        (256, 32767, 32767, -32768, 966399099136),
+        (256, -32768, -32768, 32767, 966336184576),
+        (256, 0, 32767, 0, 146434201),
+        (257, 5, 5, -5, 25600),
+        (300, 1000, 1000, 0, 237606810),
+    ];
+    for (length, value, last, asked, bound) in rows {
+        let mut row = Vec::from_elem(rt.alloc(), value, length)?;
+        let _ = row.pop();
+        row.push(last)?;
+        let query = Vec::from_elem(rt.alloc(), asked, length)?;
+        compare(&rt, rt.alloc(), (&row, &query), bound)?;
+    }
+    Ok(())
+}
+
+/// The root of a number, rounded up.
+fn plain_root_up(n: u64) -> u64 {
+    let root = n.isqrt();
+    if root.wrapping_mul(root) < n {
+        root.wrapping_add(1)
+    } else {
+        root
+    }
+}
+
+/// The step of the values of a block.
+fn plain_step(values: &[i16]) -> i64 {
+    let mut far = 0;
+    for value in values {
+        let value = i64::from(*value);
+        far = far.max(value).max((-1i64).wrapping_sub(value));
+    }
+    (far / 8).wrapping_add(1)
+}
+
+/// The square of a number.
+fn plain_square(n: i64) -> u64 {
+    n.wrapping_mul(n).unsigned_abs()
+}
+
+/// The bound, from the definition of codes and of what they forget.
+fn plain_bound(row: &[i16], query: &[i16]) -> u64 {
+    let (mut far, mut lost, mut bound) = (0u64, 0u64, 0u64);
+    if row.len() < 16 {
+        return bound;
+    }
+    for (values, asked) in row.chunks(256).zip(query.chunks(256)) {
+        let step = plain_step(values);
+        for (value, other) in values.iter().zip(asked) {
+            let value = i64::from(*value);
+            let above = step.wrapping_mul(8).wrapping_add(value);
+            let code = if step <= 0 { 0 } else { above.div_euclid(step) };
+            let place = code.wrapping_mul(2).wrapping_sub(15);
+            let shown = step.wrapping_mul(place);
+            let other = i64::from(*other);
+            far = far.wrapping_add(plain_square(shown.wrapping_sub(other.wrapping_mul(2))));
+            lost = lost.wrapping_add(plain_square(shown.wrapping_sub(value.wrapping_mul(2))));
+        }
+        let above = far.isqrt().saturating_sub(plain_root_up(lost));
+        bound = bound.max(above.wrapping_mul(above) / 4);
+    }
+    bound
+}
+
+/// Compares scattered rows of a length with the plain computation: wide, narrow, and narrow against wide ones.
+fn compare_scattered(rt: &impl Abort, alloc: Global, length: usize) -> Result<(), AllocError> {
+    for (bits, asked) in [(16, 16), (5, 5), (1, 1), (12, 16), (16, 3)] {
+        let row = scattered(alloc, 7, length, bits)?;
+        let query = scattered(alloc, 8, length, asked)?;
+        compare(rt, alloc, (&row, &query), plain_bound(&row, &query))?;
+        compare(rt, alloc, (&row, &row), plain_bound(&row, &row))?;
+    }
+    Ok(())
+}
+
+#[test]
+fn scattered_rows_of_every_length(rt: HostRuntime) -> Result<(), Fail> {
+    for length in 1..71 {
+        compare_scattered(&rt, rt.alloc(), length)?;
+    }
+    for length in [127, 128, 255, 256, 257, 258, 511, 512, 513, 1024, LONGEST] {
+        compare_scattered(&rt, rt.alloc(), length)?;
+    }
+    Ok(())
+}
+
+#[test]
+fn extreme_rows(rt: HostRuntime) -> Result<(), Fail> {
+    for length in [16, 17, 64, 100, 255, 256, 257, 513, LONGEST] {
+        for (value, first, asked) in [
+            (-32768, -32768, 32767),
+            (32767, 32767, -32768),
+            (0, -32768, 0),
+            (0, 32767, 5),
+            (1000, 1000, 1000),
+            (-1, 0, 0),
+        ] {
+            let mut row = vec![in rt.alloc(); first]?;
+            for _place in 1..length {
+                row.push(value)?;
+            }
+            let query = Vec::from_elem(rt.alloc(), asked, length)?;
+            let bound = plain_bound(&row, &query);
+            compare(&rt, rt.alloc(), (&row, &query), bound)?;
+        }
+    }
+    Ok(())
+}
+
+/// Compares what four queries at once say with the plain bounds: two limits are these, and two are one less.
+fn compare_four(
+    rt: &impl Abort,
+    alloc: Global,
+    row: &[i16],
+    (a, b): (&[i16], &[i16]),
+    (c, d): (&[i16], &[i16]),
+) -> Result<(), AllocError> {
+    let length = row.len();
+    assert!(rt; length <= LONGEST, "{length} values are no row");
+    assert!(rt;
+        length == a.len() && length == b.len(),
+        "two of {length} values"
+    );
+    assert!(rt;
+        length == c.len() && length == d.len(),
+        "two more of {length} values"
+    );
+    let count = block_count(length as u32) as usize;
+    let mut codes = vec![in alloc; CodeBlock::zeros(); count]?;
+    assert_eq!(rt; codes.len(), count);
+    code_row(row, &mut codes);
+    codes_have_squares(row);
+    let (second, last) = (plain_bound(row, b), plain_bound(row, d));
+    let limits = [
+        CodeLimit::new(plain_bound(row, a)),
+        CodeLimit::new(second.saturating_sub(1)),
+        CodeLimit::new(plain_bound(row, c)),
+        CodeLimit::new(last.saturating_sub(1)),
+    ];
+    let (a, b, c, d) = (
+        CodeView::new(a),
+        CodeView::new(b),
+        CodeView::new(c),
+        CodeView::new(d),
+    );
+    let found = four_within(&a, &b, &c, &d, &codes, &limits);
+    assert_eq!(rt;
+        found,
+        [true, second == 0, true, last == 0],
+        "{length} values"
+    );
+    Ok(())
+}
+
+#[test]
+fn four_queries_at_once(rt: HostRuntime) -> Result<(), Fail> {
+    for length in [15, 16, 255, 256, 300, 1024] {
+        let row = scattered(rt.alloc(), 7, length, 12)?;
+        let a = scattered(rt.alloc(), 8, length, 16)?;
+        let b = scattered(rt.alloc(), 9, length, 12)?;
+        let c = scattered(rt.alloc(), 10, length, 12)?;
+        let d = scattered(rt.alloc(), 11, length, 3)?;
+        compare_four(&rt, rt.alloc(), &row, (&a, &b), (&c, &d))?;
+    }
+    Ok(())
+}

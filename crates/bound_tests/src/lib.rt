@@ -1,0 +1,10 @@
+//! Tests of bounds by means and by codes of rows, in a crate of their own: the gate proves a crate that has tests twice. It has no
+//! code: what is promised stands at its own calls.
+#![tactic(auto)]
+
+#[cfg(test)]
+mod codes;
+#[cfg(test)]
+mod drawn;
+#[cfg(test)]
+mod means;

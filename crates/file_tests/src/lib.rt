@@ -1,0 +1,10 @@
+//! Tests of series files, windows and walks, a module a crate, in a crate of their own: the gate proves a crate that has tests
+//! twice. It has no code: what is promised stands at its own calls.
+#![tactic(auto)]
+
+#[cfg(test)]
+mod drawn_walks;
+#[cfg(test)]
+mod series_files;
+#[cfg(test)]
+mod windows;

@@ -1,0 +1,4 @@
+-- The lemmas of this crate.
+mod Limits
+mod Scanned
+mod Sweeps

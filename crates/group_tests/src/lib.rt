@@ -1,0 +1,10 @@
+//! Tests of the answers to several queries, in a crate of their own: the gate proves a crate that has tests twice.
+//! It has no code: what these answers promise stands at their own calls.
+#![tactic(auto)]
+
+#[cfg(test)]
+mod batches;
+#[cfg(test)]
+mod choices;
+#[cfg(test)]
+mod kinds;

@@ -1,0 +1,14 @@
+//! Tests of saved indexes, in a crate of their own: the gate proves a crate that has tests twice.
+//! It has no code: what is promised stands at its own calls.
+#![tactic(auto)]
+
+#[cfg(test)]
+mod loading;
+#[cfg(test)]
+mod plain_fault;
+#[cfg(test)]
+mod plain_reader;
+#[cfg(test)]
+mod readers;
+#[cfg(test)]
+mod texts;

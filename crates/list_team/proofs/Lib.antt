@@ -1,0 +1,2 @@
+-- What the lists of workers make, one worker after another.
+pub mod Merging

@@ -1,6 +1,0 @@
--- The writer stays one of the collection.
-use Rattle.live_collection.specs.Sides.{IsWriterOf}
-use Rattle.live_collection.proofs.tests.appended_to_the_end.Given as goal
-
-abbrev pub invariant-loop-batch : goal.invariant-loop-batch
-invariant-loop-batch g l = IsWriterOf l.live l.writer

@@ -1,6 +1,0 @@
--- The reader stays one of the collection.
-use Rattle.live_collection.specs.Sides.{IsReaderOf}
-use Rattle.live_collection.proofs.tests.threads.ask_often.Given as goal
-
-abbrev pub invariant-loop-ask : goal.invariant-loop-ask
-invariant-loop-ask g l = IsReaderOf l.live l.reader

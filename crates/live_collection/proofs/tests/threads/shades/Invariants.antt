@@ -1,6 +1,0 @@
--- Four values a series.
-use Rattle.std.proofs.Common.{◌≡◌, ◌*◌, vec_len}
-use Rattle.live_collection.proofs.tests.threads.shades.Given as goal
-
-abbrev pub invariant-loop-place : goal.invariant-loop-place
-invariant-loop-place l = vec_len l.values ≡ l.place * 4

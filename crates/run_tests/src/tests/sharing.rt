@@ -1,0 +1,74 @@
+//! Two workers over noise that is great enough to be shared: for one query both draw of its stretches, and for two each answers one. They
+//! run at once, and write what a plain sort finds.
+
+use crate::tests::fixture::{Meeting, Outside, words_of};
+use outside::NoMemory;
+use plain_search::{Source, plain_nearest};
+use run_traffic::push_line;
+use search_run::{Status, run};
+use series_core::{Flat, Rows};
+use std::alloc::Global;
+use std::test::*;
+
+/// How many values a series has.
+const LENGTH: u32 = 8192;
+
+/// How many series there are: together they have two million values and more, which pays for threads.
+const SERIES: u32 = 256;
+
+/// Values for so many series, at most two of them or all.
+fn noise(alloc: Global, seed: u64, series: u32) -> Result<Flat, NoMemory> {
+    let mut source = Source::new(seed, 20000);
+    let values = source.values(alloc, series.min(SERIES) * LENGTH)?;
+    Ok(Flat::from_values(LENGTH, values))
+}
+
+/// A file of these series without a header.
+fn raw(alloc: Global, rows: &Flat) -> Result<Vec<u8>, NoMemory> {
+    let mut bytes = Vec::new(alloc);
+    for value in rows.values() {
+        bytes.extend_from_slice(&value.to_le_bytes())?;
+    }
+    Ok(bytes)
+}
+
+/// The text of the three series nearest to each query, by a plain sort.
+fn plain_text(alloc: Global, rows: &Flat, queries: &Flat) -> Result<Vec<u8>, NoMemory> {
+    let mut text = Vec::new(alloc);
+    for i in 0..queries.count() {
+        text.extend_from_slice(b"query ")?;
+        push_line(&mut text, u64::from(i), &[])?;
+        let mut rank = 0u64;
+        for (distance, number) in plain_nearest(alloc, rows, queries.row(i), 3)? {
+            rank = rank.saturating_add(1);
+            push_line(&mut text, rank, &[u64::from(number), distance])?;
+        }
+    }
+    Ok(text)
+}
+
+#[test]
+fn two_workers_meet_over_one_query_and_over_two(rt: HostRuntime) -> Result<(), Fail> {
+    let alloc = rt.alloc();
+    let rows = noise(alloc, 1, SERIES)?;
+    for count in [1, 2] {
+        let queries = noise(alloc, 2, count)?;
+        let outside = Outside::sound(65536);
+        let mut files = outside.files(alloc)?;
+        files.hold("noise", &raw(alloc, &rows)?)?;
+        files.hold("asked", &raw(alloc, &queries)?)?;
+        let (mut out, mut err) = outside.sinks(alloc)?;
+        let words = words_of(alloc, "nearest noise asked --raw 8192 --workers 2 --k 3")?;
+        let gate = Meeting::new();
+        let status = run(&rt, alloc, &words, &mut files, &mut out, &mut err, &gate);
+        assert_eq!(rt; status, Status::Done, "{count} queries");
+        let text = plain_text(alloc, &rows, &queries)?;
+        assert_eq!(rt; out.written(), text.as_slice(), "{count} queries");
+        assert_eq!(rt;
+            gate.counts(),
+            (2, 2, 0),
+            "{count} queries: nobody waits in vain"
+        );
+    }
+    Ok(())
+}
