@@ -74,7 +74,7 @@ fn worked_rows(rt: HostRuntime) -> Result<(), Fail> {
 #[test]
 fn worked_rows_of_several_blocks(rt: HostRuntime) -> Result<(), Fail> {
     let rows: [(usize, i16, i16, i16, u64); 6] = [
-        (3, 1, 2, 5, 0),
+        (3, 1, 2, 5, 20),
         (256, 32767, 32767, -32768, 966399099136),
         (256, -32768, -32768, 32767, 966336184576),
         (256, 0, 32767, 0, 146434201),
@@ -119,9 +119,6 @@ fn plain_square(n: i64) -> u64 {
 /// The bound, from the definition of codes and of what they forget.
 fn plain_bound(row: &[i16], query: &[i16]) -> u64 {
     let (mut far, mut lost, mut bound) = (0u64, 0u64, 0u64);
-    if row.len() < 16 {
-        return bound;
-    }
     for (values, asked) in row.chunks(256).zip(query.chunks(256)) {
         let step = plain_step(values);
         for (value, other) in values.iter().zip(asked) {

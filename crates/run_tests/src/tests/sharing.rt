@@ -11,10 +11,10 @@ use std::alloc::Global;
 use std::test::*;
 
 /// How many values a series has.
-const LENGTH: u32 = 8192;
+const LENGTH: u32 = 2048;
 
 /// How many series there are: together they have two million values and more, which pays for threads.
-const SERIES: u32 = 256;
+const SERIES: u32 = 1024;
 
 /// Values for so many series, at most two of them or all.
 fn noise(alloc: Global, seed: u64, series: u32) -> Result<Flat, NoMemory> {
@@ -58,7 +58,7 @@ fn two_workers_meet_over_one_query_and_over_two(rt: HostRuntime) -> Result<(), F
         files.hold("noise", &raw(alloc, &rows)?)?;
         files.hold("asked", &raw(alloc, &queries)?)?;
         let (mut out, mut err) = outside.sinks(alloc)?;
-        let words = words_of(alloc, "nearest noise asked --raw 8192 --workers 2 --k 3")?;
+        let words = words_of(alloc, "nearest noise asked --raw 2048 --workers 2 --k 3")?;
         let gate = Meeting::new();
         let status = run(&rt, alloc, &words, &mut files, &mut out, &mut err, &gate);
         assert_eq!(rt; status, Status::Done, "{count} queries");

@@ -11,7 +11,7 @@ use subtree_build::{Settings, build};
 #[test]
 fn two_workers_draw_side_by_side(rt: HostRuntime) -> Result<(), Fail> {
     let alloc = rt.alloc();
-    let rows = Flat::from_values(16, Source::new(3, 500).values(alloc, 3200)?);
+    let rows = Flat::from_values(16, Source::new(3, 500).values(alloc, 19200)?);
     let settings = Settings::new(16, 16, Table::Bent, 2);
     let index = build(&rt, alloc, &rows, &settings, 1, &NoGate)?;
     let task = Task::new(&rows, &[0; 16], 5, &settings.layout);
