@@ -1,0 +1,7 @@
+-- The lemmas of this crate.
+pub mod Values
+pub mod HandleValues
+pub mod Sends
+pub mod SlotSends
+pub mod Filling
+pub mod Fitting
