@@ -17,6 +17,7 @@ use Rattle.series_core.proofs.Parts.{has_take}
 use Rattle.series_core.proofs.Plain.{has_ascending}
 use Rattle.discord_query.specs.Discords.{all_farness, top}
 use Rattle.discord_query.specs.Done.{IsDone}
+use Rattle.discord_query.specs.Groups.{group_of, IsCut}
 use Rattle.list_team.specs.Searchers.{merged}
 use Rattle.list_team.specs.declared.searcher.Searcher.{Searcher}
 use Rattle.discord_query.proofs.Farness.{all_strict, own_piece, top_is}
@@ -33,18 +34,22 @@ stands x xs some = contains_in xs x (times_contains x xs some)
 abbrev drawn : ℕ → List Searcher → ℕ
 drawn x ws = total (λ (p : Pass). times x p.draws) (map (λ (w : Searcher). w.pass) ws)
 
-module _ (c : Collection) (k : ℕ) where
-  -- what is held ascends, is some of all, and no more than k; what of the k smallest was drawn is held
+module _ (c : Collection) (k size : ℕ) where
+  -- the group of the series of a pair
+  abbrev group : Pair → ℕ
+  group p = group_of size p.number
+
+  -- what is held ascends, is some of all, and no more than k; what of the k smallest is of a group that was drawn is held
   record IsHeld (often : ℕ → ℕ) (held : List Pair) : Type 0 where
     strict : Ascending held
     among : Among held (all_farness c)
     few : length held ≤ k
-    only : (p : Pair) → In p held → 0 < often p.number
-    has : (p : Pair) → In p (take k (ascending (all_farness c))) → 0 < often p.number → In p held
+    only : (p : Pair) → In p held → 0 < often (group p)
+    has : (p : Pair) → In p (take k (ascending (all_farness c))) → 0 < often (group p) → In p held
 
   -- one worker's list more
   more_held : (often : ℕ → ℕ) (held : List Pair) (w : Searcher) → IsHeld often held
-      → IsDone c k w.pass w.list → ((x : ℕ) → times x w.pass.draws + often x ≤ 1)
+      → IsDone c k size w.pass w.list → ((x : ℕ) → times x w.pass.draws + often x ≤ 1)
       → IsHeld (λ x. times x w.pass.draws + often x) (smallest k (w.list.pairs ++ held))
   more_held often held w was done once = record {
     strict = joined_strict k (all_farness c) w.list.pairs held (all_strict c) done.part.strict was.strict
@@ -53,23 +58,23 @@ module _ (c : Collection) (k : ℕ) where
     few = omega (arith, length-take k (ascending (w.list.pairs ++ held)), least k (length (ascending (w.list.pairs ++ held))));
     only = λ p has. ⊎_elim
         (λ (t : In p w.list.pairs).
-        let some = counted p.number w.pass.draws (done.holds.only p t) in omega (arith, some))
+        let some = counted (group p) w.pass.draws (done.holds.only p t) in omega (arith, some))
         (λ (t : In p held). let some = was.only p t in omega (arith, some))
         (found p has);
     has = λ p first some. joined_has k (all_farness c) w.list.pairs held (all_strict c) done.part.strict
         was.strict done.part.among was.among apart p first
         (⊎_elim
-        (λ (mine : 0 < times p.number w.pass.draws).
-        inl (done.holds.has p first (stands p.number w.pass.draws mine)))
-        (λ (before : 0 < often p.number). inr (was.has p first before))
-        (one_of_two (times p.number w.pass.draws) (often p.number) some));
+        (λ (mine : 0 < times (group p) w.pass.draws).
+        inl (done.holds.has p first (stands (group p) w.pass.draws mine)))
+        (λ (before : 0 < often (group p)). inr (was.has p first before))
+        (one_of_two (times (group p) w.pass.draws) (often (group p)) some));
   }
     where
       apart : (p : Pair) → In p w.list.pairs → In p held → ⊥
       apart p has had =
-          let mine = counted p.number w.pass.draws (done.holds.only p has) in
+          let mine = counted (group p) w.pass.draws (done.holds.only p has) in
           let before = was.only p had in
-          let most = once p.number in absurd (omega (arith, mine, before, most))
+          let most = once (group p) in absurd (omega (arith, mine, before, most))
 
       found : (p : Pair) → In p (smallest k (w.list.pairs ++ held)) → In p w.list.pairs ⊎ In p held
       found p has = joined_only k (all_farness c) w.list.pairs held (all_strict c) done.part.strict was.strict
@@ -83,7 +88,7 @@ module _ (c : Collection) (k : ℕ) where
 
   -- all workers' lists
   all_held : (ws : List Searcher) (often : ℕ → ℕ) (held : List Pair) → IsHeld often held
-      → All (λ w. IsDone c k w.pass w.list) ws → ((x : ℕ) → drawn x ws + often x ≤ 1)
+      → All (λ w. IsDone c k size w.pass w.list) ws → ((x : ℕ) → drawn x ws + often x ≤ 1)
       → IsHeld (λ x. drawn x ws + often x) (merged k held ws)
   all_held [] often held was done once = record {
     strict = was.strict;
@@ -93,7 +98,7 @@ module _ (c : Collection) (k : ℕ) where
     has = λ p first some. was.has p first (omega (arith, some));
   }
   all_held (w ∷ ws) often held was done once =
-      let Done : Searcher → Type 0 = λ v. IsDone c k v.pass v.list in
+      let Done : Searcher → Type 0 = λ v. IsDone c k size v.pass v.list in
       let next = more_held often held w was (All-head Done w ws done)
       (λ x. let most = once x in omega (arith, most)) in
       let all = all_held ws (λ x. times x w.pass.draws + often x)
@@ -123,23 +128,25 @@ module _ (c : Collection) (k : ℕ) where
   below_once : (x n : ℕ) → x < n → once_below x n ≡ 1
   below_once x n low = grind (arith, nat_tests)
 
-  -- the lists of workers that drew all series, merged, are the k smallest of all
-  pub all_top : (ws : List Searcher) → 0 < length ws → All (λ w. IsDone c k w.pass w.list) ws
-      → EachDrawnOnce (length c.series) (map (λ (w : Searcher). w.pass) ws)
+  -- the lists of workers that drew all groups, merged, are the k smallest of all
+  pub all_top : (groups : ℕ) (ws : List Searcher) → IsCut size (length c.series) groups → 0 < length ws
+      → All (λ w. IsDone c k size w.pass w.list) ws
+      → EachDrawnOnce groups (map (λ (w : Searcher). w.pass) ws)
       → merged k [] ws ≡ top c k
-  all_top ws some done each =
+  all_top groups ws cut some done each =
       let passes = map (λ (w : Searcher). w.pass) ws in
       let ended : All (λ p. p.ended ≡ true) passes
       = All-map (λ (p : Pass). p.ended ≡ true) (λ (w : Searcher). w.pass) ws
       (λ n d low. (done n d low).ended) in
-      let all = all_drawn (length c.series) passes each (long ws some) ended in
+      let all = all_drawn groups passes each (long ws some) ended in
       let held = all_held ws (λ x. 0) [] none_held done
       (λ x. let most = at_most_once x each.drawn in let once = each.once x in omega (arith, most, once)) in
       whole_top k (all_farness c) (merged k [] ws) (all_strict c) held.strict held.among held.few
       (λ p first.
       let mine = own_piece c p (has_ascending p (all_farness c) (has_take k p (ascending (all_farness c)) first)) in
-      let once = each.once p.number in
-      let one = below_once p.number each.drawn (omega (arith, all, mine.0)) in
+      let once = each.once (group p) in
+      let real = cut.whole p.number mine.0 in
+      let one = below_once (group p) each.drawn (omega (arith, all, real)) in
       held.has p first (omega (arith, once, one)))
       ∙ sym (top_is c k)
     where

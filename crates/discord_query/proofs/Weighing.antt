@@ -1,7 +1,5 @@
--- One series more: given up, without another, or kept among the k farthest.
-use Rattle.std.proofs.Common.{◌≡◌, ℕ, zero, suc, ◌-◌, ◌<◌, ◌≤◌, List, [], ◌∷◌, ◌++◌, ◌⊎◌, All, Some, length, map, take, sym, ap, ◌∙◌, subst, inl, inr, ⊎_elim, arith}
-use Rattle.std.specs.Prelude.{slice_get}
-use Rattle.std.proofs.lemmas.Option.{none-some, same_Some}
+-- One series more: given up, without another, or kept among the k farthest. Then the series of a group (`weighed_next`, `weighed_group`).
+use Rattle.std.proofs.Common.{◌≡◌, ℕ, ◌+◌, ◌-◌, ◌*◌, ◌<◌, ◌≤◌, List, [], ◌∷◌, ◌++◌, ◌⊎◌, All, length, map, min, take, sym, ap, ◌∙◌, subst, inl, inr, ⊎_elim, arith}
 use Rattle.list_totals.specs.Standing.{In}
 use Rattle.list_totals.proofs.Standing.{in_all, in_append, in_front, in_behind}
 use Rattle.series_core.specs.Best.{Best}
@@ -12,8 +10,10 @@ use Rattle.series_core.specs.declared.pair.Pair.{Pair}
 use Rattle.series_core.proofs.Parts.{has_take, distance_part}
 use Rattle.series_core.proofs.Plain.{has_ascending, ascending_has}
 use Rattle.discord_query.specs.Discords.{farness, farness_of, all_farness, least_farness, other}
-use Rattle.discord_query.specs.Done.{IsPart, Holds}
+use Rattle.discord_query.specs.Done.{IsPart, Weighed, Holds}
+use Rattle.discord_query.specs.Groups.{group_of, IsOfGroup}
 use Rattle.discord_query.proofs.Farness.{all_near, all_strict, own_piece, piece_in_all, top_below}
+use Rattle.discord_query.proofs.Grouping.{of_group, in_group}
 use Rattle.discord_query.proofs.Joining.{joined_strict, joined_only, joined_has}
 
 module _ (c : Collection) (k : ℕ) where
@@ -116,19 +116,75 @@ module _ (c : Collection) (k : ℕ) where
         inl (subst (λ (l : List Pair). In p (map (farness s) l)) (sym is) (of_series s p first same)))
         has))
 
-  -- one series more is drawn
-  pub holds_more : (draws drawn : List ℕ) (n : ℕ) (pairs after : List Pair) → Holds c k draws pairs
-      → drawn ≡ draws ++ n ∷ []
-      → ((p : Pair) → In p after → In p pairs ⊎ (p.number ≡ n))
-      → ((p : Pair) → In p (take k (ascending (all_farness c))) → In p pairs ⊎ (p.number ≡ n) → In p after)
-      → Holds c k drawn after
-  holds_more draws drawn n pairs after was more only keeps = record {
-    only = λ p has. subst (λ (l : List ℕ). In p.number l) (sym more) (⊎_elim
-        (λ (t : In p pairs). in_front p.number draws (n ∷ []) (was.only p t))
-        (λ (e : p.number ≡ n). in_behind p.number draws (n ∷ []) (inl e))
-        (only p has));
-    has = λ p first has. keeps p first (⊎_elim
-        (λ (t : In p.number draws). inl (was.has p first t))
-        (λ (t : In p.number (n ∷ [])). ⊎_elim (λ (e : p.number ≡ n). inr e) (λ (u : ⊥). absurd u) t)
-        (in_append p.number draws (n ∷ []) (subst (λ (l : List ℕ). In p.number l) more has)));
+  -- the list with the series from one up to another taken in
+  abbrev pub WeighedRow : ℕ → ℕ → Best → Best → Type 0
+  WeighedRow from end before after = Weighed c k (λ s. (from ≤ s) × (s < end)) before after
+
+  -- no series yet
+  pub weighed_none : (from : ℕ) (list : Best) → IsPart c k list → WeighedRow from from list list
+  weighed_none from list part = record {
+    part = part;
+    only = λ p has. inl has;
+    keeps = λ p first has. ⊎_elim (λ (t : In p list.pairs). t)
+        (λ (t : (from ≤ p.number) × (p.number < from)). absurd (omega (arith, t.0, t.1))) has;
+  }
+
+  -- the next series
+  pub weighed_next : (from s : ℕ) (before list after : Best) → from ≤ s → WeighedRow from s before list
+      → Weighed c k (λ n. n ≡ s) list after → WeighedRow from (s + 1) before after
+  weighed_next from s before list after low was one = record {
+    part = one.part;
+    only = λ p has. ⊎_elim
+        (λ (t : In p list.pairs). ⊎_elim
+        (λ (u : In p before.pairs). inl u)
+        (λ (u : (from ≤ p.number) × (p.number < s)). inr (u.0, omega (arith, u.1)))
+        (was.only p t))
+        (λ (e : p.number ≡ s). inr (omega (arith, low, e), omega (arith, e)))
+        (one.only p has);
+    keeps = λ p first has. one.keeps p first (⊎_elim
+        (λ (t : In p before.pairs). inl (was.keeps p first (inl t)))
+        (λ (t : (from ≤ p.number) × (p.number < s + 1)). ⊎_elim
+        (λ (e : p.number ≡ s). inr e)
+        (λ (l : p.number < s). inl (was.keeps p first (inr (t.0, l))))
+        (last_or_before p.number s t.1))
+        has);
+  }
+    where
+      last_or_before : (n s : ℕ) → n < s + 1 → (n ≡ s) ⊎ (n < s)
+      last_or_before n s low = grind arith
+
+  -- the series from the first of a group up to its end, or that of all series, are those of the group
+  pub weighed_group : (size g from end : ℕ) (before after : Best) → 1 ≤ size → from ≡ g * size
+      → end ≡ from + min size (length c.series - from) → WeighedRow from end before after
+      → Weighed c k (IsOfGroup size g) before after
+  weighed_group size g from end before after some first last was = record {
+    part = was.part;
+    only = λ p has. ⊎_elim
+        (λ (t : In p before.pairs). inl t)
+        (λ (t : (from ≤ p.number) × (p.number < end)).
+        inr (of_group size g p.number some (omega (arith, first, t.0)) (omega (arith, first, last, t.1))))
+        (was.only p has);
+    keeps = λ p near has. was.keeps p near (⊎_elim
+        (λ (t : In p before.pairs). inl t)
+        (λ (t : IsOfGroup size g p.number).
+        let there = in_group size g p.number some t in
+        let real = own_piece c p (has_ascending p (all_farness c) (has_take k p (ascending (all_farness c)) near)) in
+        inr (omega (arith, first, there.0), omega (arith, first, last, there.1, real.0)))
+        has);
+  }
+
+  -- one group more is drawn
+  pub holds_more : (size g : ℕ) (draws drawn : List ℕ) (before after : Best) → Holds c k size draws before.pairs
+      → drawn ≡ draws ++ g ∷ [] → Weighed c k (IsOfGroup size g) before after → Holds c k size drawn after.pairs
+  holds_more size g draws drawn before after was more now = record {
+    only = λ p has. subst (In (group_of size p.number)) (sym more) (⊎_elim
+        (λ (t : In p before.pairs). in_front (group_of size p.number) draws (g ∷ []) (was.only p t))
+        (λ (e : IsOfGroup size g p.number). in_behind (group_of size p.number) draws (g ∷ []) (inl e))
+        (now.only p has));
+    has = λ p first has.
+        let n = group_of size p.number in
+        now.keeps p first (⊎_elim
+        (λ (t : In n draws). inl (was.has p first t))
+        (λ (t : In n (g ∷ [])). ⊎_elim (λ (e : n ≡ g). inr e) (λ (u : ⊥). absurd u) t)
+        (in_append n draws (g ∷ []) (subst (In n) more has)));
   }

@@ -3,4 +3,5 @@ pub use Rattle.series_core.specs.Collection
 pub use Rattle.subtree_build.specs.Fits
 pub mod Discords
 pub mod Searches
+pub mod Groups
 pub mod Done

@@ -6,6 +6,7 @@ ghost use Rattle.discord_query.specs.Discords.{discords, discords_of, top};
 ghost use Rattle.discord_query.specs.Searches.{IsReady, AreSeries};
 
 use crate::discords::{Discord, DiscordList};
+use crate::groups::{group_count, group_size};
 use crate::homes::homes_of;
 use crate::search::Search;
 use crate::team::draw_together;
@@ -21,7 +22,7 @@ use subtree_build::Index;
 
 /// The k series whose nearest other is farthest, the farthest first, of two as far the one with the smaller number: whatever
 /// the number of workers, from 1 to 64, and whichever series each of them draws. `gate.pass(worker, turn)` comes before each
-/// draw of a series, turns counted from 0. It waits for nobody, and one worker starts no thread.
+/// draw of some series in a row, turns counted from 0. It waits for nobody, and one worker starts no thread.
 pub fn discord<T: Threads + Sync, R: Rows + Sync, G: Gate + Sync>(
     rt: &T,
     alloc: Global,
@@ -45,6 +46,7 @@ pub fn discord<T: Threads + Sync, R: Rows + Sync, G: Gate + Sync>(
         layout,
         homes: homes.as_slice(),
         k,
+        size: group_size(rows.count(), workers),
     };
     let farthest = by_team(rt, alloc, &search, workers, gate)?;
     named(alloc, &search, farthest.pairs())
@@ -63,8 +65,8 @@ fn by_team<T: Threads + Sync, R: Rows + Sync, G: Gate + Sync>(
     ensures { IfOk result (λ all. all.pairs ≡ top (R.collection search.now.rows.now) search.now.k) }
 {
     let (best, words) = BestWord::begin(alloc, search, NONE, workers)?;
-    let count = u64::from(search.rows.count());
-    let (claims, passes) = Claims::begin(alloc, count, workers)?;
+    let groups = u64::from(group_count(search));
+    let (claims, passes) = Claims::begin(alloc, groups, workers)?;
     let mut team = hire(alloc, &claims, &best, search.k, passes, words)?;
     draw_together(rt, alloc, search, &claims, &best, gate, &mut team);
     let list = dismiss(alloc, search.k, claims, team)?;

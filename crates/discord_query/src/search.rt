@@ -19,7 +19,8 @@ use subtree_build::Index;
 /// How many leaves on each side are looked through before a series is searched for its nearest other.
 const REACH: u32 = 8192;
 
-/// What all workers search: rows, their index, the leaf of each series, and how many discords are wanted.
+/// What all workers search: rows, their index, the leaf of each series, how many discords are wanted, and how many series a worker takes
+/// at a time.
 #[derive(Drop)]
 pub(crate) struct Search<'a, R> {
     pub rows: &'a R,
@@ -27,6 +28,7 @@ pub(crate) struct Search<'a, R> {
     pub layout: &'a Layout,
     pub homes: &'a [u32],
     pub k: u32,
+    pub size: u32,
 }
 
 /// `NONE` less the distance of the k-th discord, or `NONE` where there are fewer: no limit falls below it.

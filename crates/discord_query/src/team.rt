@@ -1,10 +1,11 @@
-//! Workers that draw series until none is left, each with the k farthest that it finished.
-ghost use Rattle.std.specs.Prelude.{◌≡◌, ◌<◌, All, OnOk, length, vec_len, true};
+//! Workers that draw groups of series until none is left, each with the k farthest that it finished.
+ghost use Rattle.std.specs.Prelude.{◌≡◌, ◌*◌, ◌<◌, All, OnOk, length, vec_len, true};
 ghost use Rattle.list_totals.specs.Standing.{In};
 ghost use Rattle.list_team.specs.Searchers.{IsFresh, IsTold};
 ghost use Rattle.series_core.specs.declared.pair.Pair.{Pair};
 ghost use Rattle.discord_query.specs.Searches.{IsReady, floor_of};
 ghost use Rattle.discord_query.specs.Done.{IsDone, IsPart, Weighed};
+ghost use Rattle.discord_query.specs.Groups.{IsCut, IsOfGroup};
 
 use crate::recent::Recent;
 use crate::search::Search;
@@ -34,7 +35,7 @@ fn weigh<R: Rows>(
     requires new { (p : Pair) → In p list.old.pairs → p.number < number }
     ensures told { IsTold best.now (floor_of R.collection search.now) word.new }
     ensures weighed { let c = R.collection search.now.rows.now in
-        OnOk result (Weighed c search.now.k number list.old list.new) }
+        OnOk result (Weighed c search.now.k (λ s. s ≡ number) list.old list.new) }
 {
     let limit = best.read(word);
     if search.is_given_up(number, limit, recent) {
@@ -51,7 +52,34 @@ fn weigh<R: Rows>(
     Ok(())
 }
 
-/// Draws series until none is left, and takes in each.
+/// Takes in the series of a group, one after another.
+fn weigh_group<R: Rows>(
+    alloc: Global,
+    search: &Search<'_, R>,
+    best: &BestWord,
+    word: &mut WordPass,
+    list: &mut KBest,
+    recent: &mut Recent,
+    group: u32,
+) -> Result<(), NoMemory>
+    requires ready { IsReady R.collection search.now }
+    requires group { group * search.now.size < length (R.collection search.now.rows.now).series }
+    requires told { IsTold best.now (floor_of R.collection search.now) word.old }
+    requires part { IsPart (R.collection search.now.rows.now) search.now.k list.old }
+    requires new { (p : Pair) → In p list.old.pairs → p.number < group * search.now.size }
+    ensures told { IsTold best.now (floor_of R.collection search.now) word.new }
+    ensures weighed { let c = R.collection search.now.rows.now in
+        OnOk result (Weighed c search.now.k (IsOfGroup search.now.size group) list.old list.new) }
+{
+    let first = group * search.size;
+    let end = first + search.size.min(search.rows.count() - first);
+    for number in first..end {
+        weigh(alloc, search, best, word, list, recent, number)?;
+    }
+    Ok(())
+}
+
+/// Draws groups of series until none is left, and takes in each.
 fn draw_all<R: Rows, G: Gate>(
     alloc: Global,
     search: &Search<'_, R>,
@@ -61,12 +89,12 @@ fn draw_all<R: Rows, G: Gate>(
     worker: &mut Searcher,
 ) -> Result<(), NoMemory>
     requires ready { IsReady R.collection search.now }
-    requires count { claims.now.count ≡ length (R.collection search.now.rows.now).series }
+    requires cut { IsCut search.now.size (length (R.collection search.now.rows.now).series) claims.now.count }
     requires fresh { let floor = floor_of R.collection search.now in
         IsFresh claims.now best.now floor search.now.k worker.old }
     ensures own { worker.new.pass.claims ≡ claims.now }
     ensures done { let c = R.collection search.now.rows.now in
-        OnOk result (IsDone c search.now.k worker.new.pass worker.new.list) }
+        OnOk result (IsDone c search.now.k search.now.size worker.new.pass worker.new.list) }
 {
     let mut recent = Recent::new();
     loop {
@@ -75,7 +103,7 @@ fn draw_all<R: Rows, G: Gate>(
         let Some(drawn) = claims.draw(&mut worker.pass) else {
             return Ok(());
         };
-        weigh(
+        weigh_group(
             alloc,
             search,
             best,
@@ -97,12 +125,12 @@ fn work<R: Rows, G: Gate>(
     worker: &mut Searcher,
 )
     requires ready { IsReady R.collection search.now }
-    requires count { claims.now.count ≡ length (R.collection search.now.rows.now).series }
+    requires cut { IsCut search.now.size (length (R.collection search.now.rows.now).series) claims.now.count }
     requires fresh { let floor = floor_of R.collection search.now in
         IsFresh claims.now best.now floor search.now.k worker.old }
     ensures own { worker.new.pass.claims ≡ claims.now }
     ensures done { let c = R.collection search.now.rows.now in
-        worker.new.ended ≡ true → IsDone c search.now.k worker.new.pass worker.new.list }
+        worker.new.ended ≡ true → IsDone c search.now.k search.now.size worker.new.pass worker.new.list }
 {
     worker.ended = draw_all(alloc, search, claims, best, gate, worker).is_ok();
 }
@@ -118,14 +146,14 @@ pub(crate) fn draw_together<T: Threads + Sync, R: Rows + Sync, G: Gate + Sync>(
     team: &mut Vec<Searcher>,
 )
     requires ready { IsReady R.collection search.now }
-    requires count { claims.now.count ≡ length (R.collection search.now.rows.now).series }
+    requires cut { IsCut search.now.size (length (R.collection search.now.rows.now).series) claims.now.count }
     requires some { 0 < vec_len team.old }
     requires fresh { let floor = floor_of R.collection search.now in
         All (IsFresh claims.now best.now floor search.now.k) team.old.items }
     ensures len { vec_len team.new ≡ vec_len team.old }
     ensures own { All (λ w. w.pass.claims ≡ claims.now) team.new.items }
     ensures done { let c = R.collection search.now.rows.now in
-        All (λ w. w.ended ≡ true → IsDone c search.now.k w.pass w.list) team.new.items }
+        All (λ w. w.ended ≡ true → IsDone c search.now.k search.now.size w.pass w.list) team.new.items }
 {
     for_each_mut(
         rt,

@@ -101,6 +101,11 @@ fn finds_what_a_plain_double_loop_finds(rt: HostRuntime) -> Result<(), Fail> {
         (5, 80, 30, 4, shaped(Table::Bent, 1, 5, 5)),
         (6, 90, 30000, 2, shaped(Table::Flat, 3, 4, 5)),
         (7, 120, 700, 1, shaped(Table::Bent, 3, 5, 5)),
+        // in groups of sixteen, of twelve and of six, of which the last has twelve, twelve and four; and by 64 workers one by one
+        (8, 300, 700, 3, shaped(Table::Flat, 3, 9, 1)),
+        (9, 300, 2, 10, shaped(Table::Bent, 3, 9, 3)),
+        (10, 400, 500, 400, shaped(Table::Bent, 3, 9, 8)),
+        (11, 200, 700, 1024, shaped(Table::Bent, 3, 9, 64)),
     ] {
         let mut source = Source::new(seed, spread);
         let rows = collection(alloc, &mut source, count)?;
@@ -116,15 +121,19 @@ fn finds_what_a_plain_double_loop_finds(rt: HostRuntime) -> Result<(), Fail> {
 #[test]
 fn each_worker_passes_the_gate_before_each_draw(rt: HostRuntime) -> Result<(), Fail> {
     let alloc = rt.alloc();
-    let mut source = Source::new(11, 500);
-    let rows = collection(alloc, &mut source, 50)?;
-    let gate = Turns::of_two();
-    let discords = found(&rt, alloc, &rows, shaped(Table::Flat, 3, 4, 2), 3, &gate)?;
-    assert_eq!(rt; discords.len(), 3, "three discords");
-    assert_eq!(rt;
-        gate.told(),
-        (50 + 2, 0),
-        "a turn for each of fifty series, and one more for each worker, counted from 0"
-    );
+    // Two workers draw five series one by one, fifty in groups of three, and six hundred in groups of sixteen, of which the last has
+    // fewer.
+    for (count, turns) in [(5u32, 5 + 2u64), (50, 17 + 2), (600, 38 + 2)] {
+        let mut source = Source::new(11, 500);
+        let rows = collection(alloc, &mut source, count)?;
+        let gate = Turns::of_two();
+        let discords = found(&rt, alloc, &rows, shaped(Table::Flat, 3, 4, 2), 3, &gate)?;
+        assert_eq!(rt; discords.len(), 3, "three discords of {count} series");
+        assert_eq!(rt;
+            gate.told(),
+            (turns, 0),
+            "a turn for each group of {count} series, and one more for each worker, counted from 0"
+        );
+    }
     Ok(())
 }

@@ -1,14 +1,15 @@
 -- The limit begins above its floor, the team is hired fresh for it, and its lists merged are the k farthest of all.
-use Rattle.std.proofs.Common.{rules, ◌≡◌, ℕ, ◌<◌, ◌-◌, List, All, length, map, refl, sym, ap, ◌∙◌, subst, arith}
+use Rattle.std.proofs.Common.{◌≡◌, ◌<◌, ◌-◌, List, All, length, refl, sym, ap, ◌∙◌, subst, arith}
 use Rattle.std.proofs.lemmas.List.{length-replicate}
 use Rattle.std.proofs.lemmas.List.Elements.{All-replicate}
-use Rattle.claim_word.specs.Passes.{EachDrawnOnce, fresh_pass}
+use Rattle.claim_word.specs.Passes.{fresh_pass}
 use Rattle.best_word.specs.Passes.{Pass as Word, fresh_pass as fresh_word}
 use Rattle.list_team.specs.declared.searcher.Searcher.{Searcher}
 use Rattle.series_core.specs.Pairs.{ascending}
 use Rattle.series_core.proofs.Parts.{distance_small}
 use Rattle.discord_query.specs.Discords.{all_farness, least_farness}
 use Rattle.discord_query.specs.Done.{IsDone}
+use Rattle.discord_query.specs.Groups.{IsCut}
 use Rattle.discord_query.proofs.Farness.{all_near}
 use Rattle.discord_query.proofs.Together.{all_top}
 use Rattle.discord_query.proofs.farthest.by_team.Goals as goal
@@ -27,6 +28,11 @@ draw_together-requires-clause-fresh g c κs within =
     (All-replicate (λ (w : Word). w ≡ fresh_word best floor) c.args.workers (fresh_word best floor) refl) in
     c.in_ok-team.ensures.fresh floor words
 
+pub draw_together-requires-clause-cut : goal.draw_together-requires-clause-cut
+draw_together-requires-clause-cut g c κs within =
+    let all = g.R.Rows.collection c.args.search.now.rows.now in
+    subst (IsCut c.args.search.now.size (length all.series)) (sym (c.in_ok-claims.ensures.count ∙ c.from-groups.ensures)) c.group_count.ensures
+
 pub returns : goal.returns
 returns g c =
     let all = g.R.Rows.collection c.args.search.now.rows.now in
@@ -43,8 +49,10 @@ returns g c =
       length-replicate c.args.workers (fresh_pass c.in_ok-claims.claims),
       c.requires.workers.0,
     ) in
-    let done : All (λ (w : Searcher). IsDone all k w.pass w.list) team
+    let size = c.args.search.now.size in
+    let done : All (λ (w : Searcher). IsDone all k size w.pass w.list) team
     = λ n d low. c.draw_together.ensures.done n d low (c.in_ok-list.ensures.ended n d low) in
-    let count : c.in_ok-claims.claims.count ≡ length all.series = search rules in
-    c.in_ok-list.ensures.pairs ∙ all_top all k team some done
-    (subst (λ (n : ℕ). EachDrawnOnce n (map (λ (w : Searcher). w.pass) team)) count c.in_ok-list.ensures.drawn)
+    let groups = c.in_ok-claims.claims.count in
+    let cut : IsCut size (length all.series) groups
+    = subst (IsCut size (length all.series)) (sym (c.in_ok-claims.ensures.count ∙ c.from-groups.ensures)) c.group_count.ensures in
+    c.in_ok-list.ensures.pairs ∙ all_top all k size groups team cut some done c.in_ok-list.ensures.drawn
