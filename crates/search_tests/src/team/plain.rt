@@ -1,4 +1,5 @@
-//! Teams of 1 to 64 workers over small collections in each way, and over one that is great enough to be shared: as a plain sort.
+//! Teams of 1 to 64 workers over small collections in each way and in the one that is chosen, and over one that is great enough to be
+//! shared: as a plain sort.
 use breakpoints::Table;
 use nearest_answer::{ApartBy, Task, answer_by_stretches, answer_by_team};
 use outside::{NoGate, NoMemory};
@@ -89,6 +90,14 @@ const KINDS: [Kind; 4] = [Kind::Walks, Kind::Equal, Kind::Clusters, Kind::Noise]
 
 const WORKERS: [u32; 5] = [1, 2, 3, 8, 64];
 
+// Each way, and none, so that the search chooses one.
+const WAYS: [Option<ApartBy>; 4] = [
+    Some(ApartBy::Means),
+    Some(ApartBy::Codes),
+    Some(ApartBy::Nothing),
+    None,
+];
+
 // How many series there are, and how many are asked for.
 const SIZES: [(u32, u32); 8] = [
     (0, 1),
@@ -107,11 +116,11 @@ fn each_way_finds_what_a_plain_sort_finds(rt: HostRuntime) -> Result<(), Fail> {
     for kind in KINDS {
         for (count, k) in SIZES {
             for workers in WORKERS {
-                for by in [ApartBy::Means, ApartBy::Codes, ApartBy::Nothing] {
+                for by in WAYS {
                     let search = Search {
                         k,
                         leaf: 5,
-                        by: Some(by),
+                        by,
                         workers,
                     };
                     assert!(rt;

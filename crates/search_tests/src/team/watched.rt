@@ -1,4 +1,4 @@
-//! Rows that are watched: those of leaves that are too far are read by no worker.
+//! Rows that are watched: those of leaves that are too far are read by no worker, alone or of two.
 use breakpoints::Table;
 use nearest_answer::{ApartBy, Task, answer_by_stretches};
 use outside::NoGate;
@@ -22,8 +22,15 @@ fn rows_of_far_leaves_are_not_read(rt: HostRuntime) -> Result<(), Fail> {
     let index = build(&rt, alloc, &rows, &settings, 1, &NoGate)?;
     let before = [rows.times(0), rows.times(2)];
     let task = Task::new(&rows, &[0; 16], 400, &settings.layout);
-    let found = answer_by_stretches(&rt, alloc, &task, &index, ApartBy::Means, 2, &NoGate)?;
-    assert_eq!(rt; found.items.len(), 400);
-    assert_eq!(rt; [rows.times(0), rows.times(2)], before, "far rows");
+    for workers in [1, 2] {
+        let by = ApartBy::Means;
+        let found = answer_by_stretches(&rt, alloc, &task, &index, by, workers, &NoGate)?;
+        assert_eq!(rt; found.items.len(), 400, "{workers} workers");
+        assert_eq!(rt;
+            [rows.times(0), rows.times(2)],
+            before,
+            "far rows, {workers} workers"
+        );
+    }
     Ok(())
 }

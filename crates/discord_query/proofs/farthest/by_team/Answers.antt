@@ -31,7 +31,9 @@ draw_together-requires-clause-fresh g c κs within =
 pub draw_together-requires-clause-cut : goal.draw_together-requires-clause-cut
 draw_together-requires-clause-cut g c κs within =
     let all = g.R.Rows.collection c.args.search.now.rows.now in
-    subst (IsCut c.args.search.now.size (length all.series)) (sym (c.in_ok-claims.ensures.count ∙ c.from-groups.ensures)) c.group_count.ensures
+    let size = c.args.search.now.size in
+    subst (IsCut size (length all.series)) (sym (c.in_ok-claims.ensures.count ∙ c.from-groups.ensures))
+    c.group_count.ensures
 
 pub returns : goal.returns
 returns g c =
@@ -54,5 +56,6 @@ returns g c =
     = λ n d low. c.draw_together.ensures.done n d low (c.in_ok-list.ensures.ended n d low) in
     let groups = c.in_ok-claims.claims.count in
     let cut : IsCut size (length all.series) groups
-    = subst (IsCut size (length all.series)) (sym (c.in_ok-claims.ensures.count ∙ c.from-groups.ensures)) c.group_count.ensures in
+    = subst (IsCut size (length all.series)) (sym (c.in_ok-claims.ensures.count ∙ c.from-groups.ensures))
+    c.group_count.ensures in
     c.in_ok-list.ensures.pairs ∙ all_top all k size groups team cut some done c.in_ok-list.ensures.drawn
