@@ -6,7 +6,7 @@ mod answers;
 mod building;
 mod handle;
 mod held;
-mod loose;
+mod pieces;
 mod searching;
 mod settings;
 mod slot;
