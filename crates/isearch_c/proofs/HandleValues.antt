@@ -47,7 +47,7 @@ module _ {M : Type 1} {𝓤 : Ura M} {𝓛 : Logic 𝓤} {K : Type 0} {Γ : List
   -- what a handle owns is put into it
   pub handle_in : K → (p : Ptr) (h : Val) (a : Global) (m : Option Held)
       → Step K 𝓛 (‵ (Handle.own_val (record { at = p; alloc = a; held = m }) (two (ptr_val p) h ∷ [])) ∷ Γ) G
-          (‵ (held_at a p m) ∷ ‵ (Z.own_val a (h ∷ [])) ∷ Γ) G
+      (‵ (held_at a p m) ∷ ‵ (Z.own_val a (h ∷ [])) ∷ Γ) G
   handle_in t p h a m = step (λ next.
       let both : Val = two (ptr_val p) h in
       let value = to handle.the_type (record { at = p; alloc = a; held = m }) in
@@ -60,7 +60,7 @@ module _ {M : Type 1} {𝓤 : Ura M} {𝓛 : Logic 𝓤} {K : Type 0} {Γ : List
   -- and taken out of it
   pub handle_out : K → (d : Handle.Denot) (all : List Val)
       → ((h : Val) → all ≡ two (ptr_val d.at) h ∷ [] → Good (layout Z) h
-          → Seq K 𝓛 (‵ (held_at d.alloc d.at d.held) ∷ ‵ (Z.own_val d.alloc (h ∷ [])) ∷ Γ) G)
+      → Seq K 𝓛 (‵ (held_at d.alloc d.at d.held) ∷ ‵ (Z.own_val d.alloc (h ∷ [])) ∷ Γ) G)
       → Seq K 𝓛 (‵ (Handle.own_val d all) ∷ Γ) G
   handle_out t d all next =
       fsplit t $ fpick t (λ parts. fsplit t $ feq_l t (λ is. fsplit t $ feq_l t (λ first. fsplit t

@@ -63,7 +63,7 @@ module _ (R Z : RattleType) (L : Laws Z) (g : Ghosts Z.Denot) where
     -- a box and its allocator become pieces
     pub pieces_in : K → (b o : ℕ) (h : Val) (a : Z.Denot) (x : R.Denot)
         → Step K 𝓛 (‵ (Pieces.own_val (record { at = block_ptr b o; alloc = a; value = x }) (two (vptr b o) h ∷ [])) ∷ Γ) G
-            (‵ (box_at a (block_ptr b o) x) ∷ ‵ (Z.own_val a (h ∷ [])) ∷ Γ) G
+        (‵ (box_at a (block_ptr b o) x) ∷ ‵ (Z.own_val a (h ∷ [])) ∷ Γ) G
     pieces_in t b o h a x = step (λ next.
         let word : Val = vptr b o in
         let both : Val = two word h in
@@ -71,12 +71,12 @@ module _ (R Z : RattleType) (L : Laws Z) (g : Ghosts Z.Denot) where
         $ feq_i t (List Val) (word ∷ []) (word ∷ []) refl $ fjoin t
         $ feq_i t (List Val) (both ∷ []) (both ∷ []) refl $ fjoin t
         $ fpack t (Valss (RawPtr ∷ Z ∷ [])) (within (shape (pieces.the_type R Z g)) (block_ptr b o, (a, tt)) (both ∷ []))
-            (word ∷ [], (h ∷ [], tt)) $ fjoin t $ next)
+        (word ∷ [], (h ∷ [], tt)) $ fjoin t $ next)
 
     -- pieces become a box, which lies at no null pointer, and its allocator
     pub pieces_out : K → (d : Pieces.Denot) (all : List Val)
         → ((b o : ℕ) (h : Val) → d.at ≡ block_ptr b o → all ≡ two (vptr b o) h ∷ [] → Good (layout Z) h
-            → Seq K 𝓛 (‵ (box_at d.alloc (block_ptr b o) d.value) ∷ ‵ (Z.own_val d.alloc (h ∷ [])) ∷ Γ) G)
+        → Seq K 𝓛 (‵ (box_at d.alloc (block_ptr b o) d.value) ∷ ‵ (Z.own_val d.alloc (h ∷ [])) ∷ Γ) G)
         → Seq K 𝓛 (‵ (Pieces.own_val d all) ∷ Γ) G
     pieces_out t d all next =
         let no_null = fst∗ 𝓤 (never 𝓤) (sem 𝓛 (g.dealloc_token d.alloc (bare (lone R.mir)) null_ptr)) in

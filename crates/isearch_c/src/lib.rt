@@ -6,6 +6,7 @@ mod answers;
 mod building;
 mod handle;
 mod held;
+mod making;
 mod pieces;
 mod searching;
 mod settings;
@@ -13,4 +14,5 @@ mod slot;
 mod status;
 #[cfg(test)]
 mod tests;
+mod texts;
 mod windows;

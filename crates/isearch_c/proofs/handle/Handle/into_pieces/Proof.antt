@@ -69,7 +69,7 @@ into_pieces_spec 𝓤 𝓛 𝓜 𝓡 wired =
     let typed = pieces_fit R Z LZ ghosts b o h fits in
     let are : z.0.4.0 ≡ both ∷ [] = subst (λ (p : Ptr). z.0.4.0 ≡ two (ptr_val p) h ∷ []) e words in
     suffices ! (Runs (both ∷ []))
-      (subst (λ (us : List Val). ent 𝓤 (Runs (both ∷ [])) (Runs us)) (sym (λ i. are i ++ [])) (id⊢ 𝓤 (Runs (both ∷ []))))
+    (subst (λ (us : List Val). ent 𝓤 (Runs (both ∷ [])) (Runs us)) (sym (λ i. are i ++ [])) (id⊢ 𝓤 (Runs (both ∷ []))))
     $ enter ! 𝓣.C 𝓣.Λ fn (both ∷ []) Ends $ alloc_all ! (λ l. pass_all ! refl (typed, tt)
     $ sets ! (of_opd ! (get_in ! (fld ! refl (stop !)) (sub ! 0 refl (whole !)))) refl (tt, tt)
     $ sets ! (of_opd ! (get_in ! (fld ! refl (stop !)) (sub ! 1 refl (whole !)))) refl fits

@@ -53,8 +53,8 @@ none_at_spec 𝓤 𝓛 𝓜 𝓡 wired =
     qed 𝓛 ((‵ ftrue ⊛ ‵ (owns (types_at En.signature.params κs) z.0.3 z.0.4)) ∷ raw ((c κs z.0.3).requires z.1) ∷ [])
     ∵ split ! $ move ! (1 ∷ []) $ fsplit ! $ feq_l ! (λ first. fsplit ! $ handle_tells the_heap ! a z.0.4.1.0 (λ h second fits.
     suffices ! (Runs (ptr_val p ∷ h ∷ []))
-      (subst (λ (us : List Val). ent 𝓤 (Runs (ptr_val p ∷ h ∷ [])) (Runs us)) (λ i. sym first i ++ (sym second i ++ []))
-      (id⊢ 𝓤 (Runs (ptr_val p ∷ h ∷ []))))
+    (subst (λ (us : List Val). ent 𝓤 (Runs (ptr_val p ∷ h ∷ [])) (Runs us)) (λ i. sym first i ++ (sym second i ++ []))
+    (id⊢ 𝓤 (Runs (ptr_val p ∷ h ∷ []))))
     $ enter ! 𝓣.C 𝓣.Λ fn (ptr_val p ∷ h ∷ []) Ends $ alloc_all ! (λ l. pass_all ! refl (Ptr-Good p, (fits, tt))
     $ sets ! (agg ! (and_then ! (get ! refl) (and_then ! (get ! refl) (no_more !)))) refl (handle_fits p h fits)
     $ nothing ! $ handle_in ! p h a None

@@ -52,7 +52,7 @@ of_pieces_spec 𝓤 𝓛 𝓜 𝓡 wired =
     let both : Val = two (vptr b o) h in
     let typed = pieces_fit R Z LZ ghosts b o h fits in
     suffices ! (Runs (both ∷ []))
-      (subst (λ (us : List Val). ent 𝓤 (Runs (both ∷ [])) (Runs us)) (sym (λ i. words i ++ [])) (id⊢ 𝓤 (Runs (both ∷ []))))
+    (subst (λ (us : List Val). ent 𝓤 (Runs (both ∷ [])) (Runs us)) (sym (λ i. words i ++ [])) (id⊢ 𝓤 (Runs (both ∷ []))))
     $ enter ! 𝓣.C 𝓣.Λ fn (both ∷ []) Ends $ alloc_all ! (λ l. pass_all ! refl (typed, tt)
     $ sets ! (of_opd ! (get_in ! (fld ! refl (stop !)) (sub ! 0 refl (whole !)))) refl (tt, tt)
     $ sets ! (of_opd ! (get_in ! (fld ! refl (stop !)) (sub ! 1 refl (whole !)))) refl fits

@@ -73,19 +73,19 @@ into_box_spec 𝓤 𝓛 𝓜 𝓡 wired T A L LA g d dx dd allocator glue glued 
     $ feq_i ! (List Val) (vptr b o ∷ []) (vptr b o ∷ []) refl $ fjoin ! $ move ! (2 ∷ 0 ∷ []) $ fjoin ! $ move ! (2 ∷ 0 ∷ [])
     $ join ! $ join ! $ use1 𝓛 (raw (k.pre y)) (id⊢ 𝓤 _)
     $ suffices ! (Runs (both ∷ []))
-      (subst (λ (us : List Val). ent 𝓤 (Runs (both ∷ [])) (Runs us)) (sym (λ i. words i ++ [])) (id⊢ 𝓤 (Runs (both ∷ []))))
+    (subst (λ (us : List Val). ent 𝓤 (Runs (both ∷ [])) (Runs us)) (sym (λ i. words i ++ [])) (id⊢ 𝓤 (Runs (both ∷ []))))
     $ enter ! 𝓣.C 𝓣.Λ fn (both ∷ []) Ends $ alloc_all ! (λ l. pass_all ! refl (typed, tt) $ let Ev = env fn.locals l in
     sets ! (of_opd ! (get_in ! (fld ! refl (stop !)) (sub ! 0 refl (whole !)))) refl (tt, tt)
     $ sets ! (of_opd ! (get_in ! (fld ! refl (stop !)) (sub ! 1 refl (whole !)))) refl fits
     $ first ! $ blocks ! $ sets ! (of_opd ! (get ! refl)) refl fits
     $ calls_at_last ! (fm 𝓛 𝓜 𝓡) k
-      (met 𝓤 𝓛 𝓜 𝓡 (code.calls-std_alloc::boxed::Box::from_raw 𝓡.env wired) T A L LA g d dd allocator glued) y
-      (and_then ! (get ! refl) (and_then ! (get ! refl) (no_more !))) (λ u.
+    (met 𝓤 𝓛 𝓜 𝓡 (code.calls-std_alloc::boxed::Box::from_raw 𝓡.env wired) T A L LA g d dd allocator glued) y
+    (and_then ! (get ! refl) (and_then ! (get ! refl) (no_more !))) (λ u.
     -- what comes back: a box of the same value
     let Given = Lasts (callee.ended T A g d dd) κs y.0.3 in
     use1 𝓛 (later (some (λ (r : B.Denot). (lives ⊛ ‵ (B.own_val r (u ∷ [])))
-      ⊛ some (λ (ls : Given). ‵ (lasts (callee.ended T A g d dd) κs y.0.3 ls)
-      ⊛ (raw (fact 𝓤 (r.value ≡ v.value)) ⊛ raw (fact 𝓤 (r.alloc ≡ v.alloc))))))) (id⊢ 𝓤 (k.post y u))
+    ⊛ some (λ (ls : Given). ‵ (lasts (callee.ended T A g d dd) κs y.0.3 ls)
+    ⊛ (raw (fact 𝓤 (r.value ≡ v.value)) ⊛ raw (fact 𝓤 (r.alloc ≡ v.alloc))))))) (id⊢ 𝓤 (k.post y u))
     $ await ! tt $ pick ! (λ r. split ! $ move ! (1 ∷ []) $ pick ! (λ _. split3 ! $ drop ! $ move ! (2 ∷ []) $ split ! $ move ! (1 ∷ [])
     $ box_out E ! r (u ∷ []) (λ b' o' h' e' are_words fits'. box_in E ! r b' o' r.value e' refl
     $ rewrite ! 0 (λ (words : List Val). ‵ (B.own_val r words)) (sym are_words) refl $

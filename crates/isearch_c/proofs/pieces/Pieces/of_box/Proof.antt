@@ -70,15 +70,15 @@ of_box_spec 𝓤 𝓛 𝓜 𝓡 wired T A L LA g d dx dd allocator glue glued =
     let Both = Tuple (RawPtr ∷ Z ∷ []) in
     fjoin ! $ move ! (1 ∷ 0 ∷ []) $ join ! $ join ! $ use1 𝓛 (raw (k.pre y)) (id⊢ 𝓤 _) $
     suffices ! (Runs (whole_box ∷ []))
-      (subst (λ (us : List Val). ent 𝓤 (Runs (whole_box ∷ [])) (Runs us)) (sym (λ i. words i ++ [])) (id⊢ 𝓤 (Runs (whole_box ∷ [])))) $
+    (subst (λ (us : List Val). ent 𝓤 (Runs (whole_box ∷ [])) (Runs us)) (sym (λ i. words i ++ [])) (id⊢ 𝓤 (Runs (whole_box ∷ [])))) $
     enter ! 𝓣.C 𝓣.Λ fn (whole_box ∷ []) Ends $ alloc_all ! (λ l. pass_all ! refl (typed, tt) $ sets ! (of_opd ! (get ! refl)) refl typed $
     calls_at ! (fm 𝓛 𝓜 𝓡) k
-      (met 𝓤 𝓛 𝓜 𝓡 (code.calls-std_alloc::boxed::Box::into_raw_with_allocator 𝓡.env wired) T A L LA g d dd dx allocator glued glue) y
-      (and_then ! (get ! refl) (no_more !)) (λ u.
+    (met 𝓤 𝓛 𝓜 𝓡 (code.calls-std_alloc::boxed::Box::into_raw_with_allocator 𝓡.env wired) T A L LA g d dd dx allocator glued glue) y
+    (and_then ! (get ! refl) (no_more !)) (λ u.
     -- what comes back: a pointer that is the allocator's to free, and the allocator
     use1 𝓛 (later (some (λ (r : Ptr × A.Denot). (lives ⊛ ‵ (Both.own_val r (u ∷ [])))
-      ⊛ some (λ (_ : (Unit {0} × (Unit {0} × Unit {0})) × Unit {0}). ‵ (fsep (fsep ftrue (fsep ftrue ftrue)) ftrue)
-      ⊛ (raw (fact 𝓤 (r.1 ≡ v.alloc)) ⊛ ‵ (box_at R Z LZ g v.alloc r.0 v.value)))))) (id⊢ 𝓤 _) $
+    ⊛ some (λ (_ : (Unit {0} × (Unit {0} × Unit {0})) × Unit {0}). ‵ (fsep (fsep ftrue (fsep ftrue ftrue)) ftrue)
+    ⊛ (raw (fact 𝓤 (r.1 ≡ v.alloc)) ⊛ ‵ (box_at R Z LZ g v.alloc r.0 v.value)))))) (id⊢ 𝓤 _) $
     await ! tt $ pick ! (λ r. split ! $ move ! (1 ∷ []) $ pick ! (λ _. split3 ! $ drop ! $ heard ! (r.1 ≡ v.alloc) (λ own.
     let no_null = fst∗ 𝓤 (never 𝓤) (sem 𝓛 (g.dealloc_token v.alloc (bare (layout T)) null_ptr)) in
     in_a_block ! r.0 (λ p. box_at R Z LZ g v.alloc p v.value) no_null (λ b' o' e'.
@@ -95,4 +95,4 @@ of_box_spec 𝓤 𝓛 𝓜 𝓡 wired T A L LA g d dx dd allocator glue glued =
     $ use0 𝓛 (raw (fact 𝓤 (v.value ≡ v.value))) (fact_i 𝓤 (v.value ≡ v.value) (emp 𝓤) refl) $ nothing ! $ nothing ! $ fjoin !
     $ returns ! (look_at ! 0 refl) $ free_all ! refl $ keep ! (4 ∷ 0 ∷ 2 ∷ 1 ∷ [])
     $ by ! (leaves 𝓛 En stays c z (two (vptr b' o') h') (record { at = block_ptr b' o'; alloc = v.alloc; value = v.value })
-      ((tt, (tt, tt)), tt) (tt, tt))))))))))))))
+    ((tt, (tt, tt)), tt) (tt, tt))))))))))))))
