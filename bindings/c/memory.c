@@ -78,10 +78,8 @@ static long each(const char *name, int32_t (*call)(void)) {
 
 int main(void) {
     uint32_t state = 9;
-    for (int i = 0; i < ROWS * LENGTH; i++) {
-        state = state * 1664525u + 1013904223u;
-        rows[0][i] = (int16_t)(state >> 20);
-    }
+    for (int i = 0; i < ROWS; i++)
+        for (int j = 0; j < LENGTH; j++) rows[i][j] = (int16_t)((state = state * 1664525u + 1013904223u) >> 20);
     long bad = isearch_build(&whole, rows[0], ROWS * LENGTH, &SETTINGS) != 0;
     bad += isearch_nearest(&whole, rows[3], LENGTH, K, wanted_d, K, wanted_n, K) != 0;
     bad += isearch_save(&whole, text, sizeof text, &bytes) != 0;

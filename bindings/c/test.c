@@ -207,6 +207,7 @@ static long unloaded(uint8_t *text, size_t bytes) {
     for (int i = 0; i < ROWS; i++) memcpy(others[i], rows[ROWS - 1 - i], sizeof others[i]);
     bad += wrong("other rows", isearch_load(&index, others[0], ROWS * LENGTH, LENGTH, text, bytes), no);
     for (size_t at = 0; at < 24; at++) {
+        if (at == 16 || at == 17) continue; /* another leaf size, under which the same tree is an index too */
         text[at] ^= 0x80;
         bad += wrong("another head", isearch_load(&index, rows[0], ROWS * LENGTH, LENGTH, text, bytes), no);
         text[at] ^= 0x80;
