@@ -261,16 +261,9 @@ fn saved(alloc: Global) -> Result<(IsearchIndex, Vec<u8>), Fail> {
 fn a_text_is_loaded_and_saved_again(rt: HostRuntime) -> Result<(), Fail> {
     let alloc = rt.alloc();
     let (mut built, first) = saved(alloc)?;
-    assert_eq!(rt;
-        &first[..8],
-        [73u8, 83, 69, 88, 1, 0, 4, 1].as_slice(),
-        "head"
-    );
-    assert_eq!(rt;
-        text(alloc, &mut built, first.len() - 1)?.0,
-        7,
-        "few places"
-    );
+    let head = [73u8, 83, 69, 88, 1, 0, 4, 1];
+    assert!(rt; first.starts_with(&head), "head");
+    assert_eq!(rt; text(alloc, &mut built, 23)?.0, 7, "few places");
     isearch_free(&mut built, alloc);
     assert_eq!(rt; text(alloc, &mut built, 9)?.0, 1, "no index");
     let mut index = IsearchIndex::empty(alloc);
@@ -298,11 +291,14 @@ fn each_refusal_of_a_text(rt: HostRuntime) -> Result<(), Fail> {
     let (mut index, bytes) = saved(alloc)?;
     isearch_free(&mut index, alloc);
     let whole = bytes.as_slice();
+    let Some((_, part)) = whole.split_last() else {
+        return Err(Fail::new("no text"));
+    };
     let cases: [(&str, &[i16], u32, &[u8], i32); 7] = [
         ("no rows", &[], 4, whole, 3),
         ("a part of a row", &ROWS[..15], 4, whole, 3),
         ("no text", &ROWS, 4, &[], 8),
-        ("a part", &ROWS, 4, &whole[..whole.len() - 1], 8),
+        ("a part", &ROWS, 4, part, 8),
         ("another length", &ROWS, 8, whole, 8),
         ("a row less", &ROWS[..12], 4, whole, 8),
         ("other rows", &[9; 16], 4, whole, 8),
