@@ -1,8 +1,7 @@
 -- What is tested of the arguments of a call, in this order, and the status of each test that fails.
-use Rattle.std.specs.Prelude.{◌≡◌, ℕ, ℤ, ◌+◌, ◌-◌, ◌*◌, ◌/◌, Bool, true, false, not, ◌&&◌, cond, List, [], ◌∷◌, length, nat_le, nat_lt, nat_eq, Option, None, Some}
+use Rattle.std.specs.Prelude.{ℕ, ℤ, ◌*◌, ◌/◌, Bool, not, ◌&&◌, cond, List, [], ◌∷◌, length, nat_le, nat_lt, nat_eq, Option, None, Some}
 use Rattle.std.specs.Option.{is_some}
 use Rattle.segment_sums.specs.Division.{division_of}
-use Rattle.breakpoints.specs.declared.table.Table.{Table}
 use Rattle.breakpoints.specs.declared.table.Table.TheVariants.{Bent, Flat}
 use Rattle.series_core.specs.declared.rows.TheConstants.{MAX_COUNT, MAX_LENGTH, MAX_VALUES}
 use Rattle.series_core.specs.declared.pair.Pair.{Pair}

@@ -1,5 +1,5 @@
 -- What is kept can be saved.
-use Rattle.std.proofs.Common.{◌≡◌, ℕ, length, subst, sym}
+use Rattle.std.proofs.Common.{ℕ, length, subst, sym}
 use Rattle.saved_index.specs.IndexText.{CanSave}
 use Rattle.isearch_c.proofs.Fitting.{CanSave-had}
 use Rattle.isearch_c.proofs.texts.text_in.Goals as goal
