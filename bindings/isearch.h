@@ -33,9 +33,9 @@ enum {
                                    16777216 rows, or more than 134217728 values */
     ISEARCH_WRONG_SETTINGS = 4, /* no segments, more than 16 or more than a row has values, or a leaf size of 0 or above 65535 */
     ISEARCH_WRONG_QUERIES = 5,  /* values that are no whole number of queries as long as a row */
-    ISEARCH_WRONG_COUNT = 6,    /* k is 0 or above 1024 */
-    ISEARCH_WRONG_PLACES = 7,   /* not as many places for distances or for numbers as are wanted */
-    ISEARCH_WRONG_TEXT = 8,     /* kept for the loading of saved indexes; no call answers it yet */
+    ISEARCH_WRONG_COUNT = 6,    /* k is 0 or above 1024, or windows are to lie apart as isearch_windows does not take it */
+    ISEARCH_WRONG_PLACES = 7,   /* not as many places for distances, for numbers or for a text as are wanted */
+    ISEARCH_WRONG_TEXT = 8,     /* bytes that are not the text of an index that fits the rows */
     ISEARCH_NO_MEMORY = 9,      /* memory ran out */
     ISEARCH_NULL = 10           /* a pointer is null (this header's answer, not the library's) */
 };
@@ -79,6 +79,17 @@ int32_t isearch_windows(const int16_t *series, size_t values, const int16_t *que
                         const isearch_settings *settings, uint32_t k, uint32_t apart,
                         uint64_t *distances, size_t distance_places, uint32_t *numbers, size_t number_places);
 
+/* Writes the text of an index, some 5 bytes a row, at the first places; found tells how many bytes it has. It is the text that the program
+ * `isearch save` writes of the same rows and settings. Where there are fewer places than bytes, ISEARCH_WRONG_PLACES tells how many are
+ * wanted, and nothing else is written; there may be no places. The rows are not in the text. */
+int32_t isearch_save(isearch_index *index, uint8_t *text, size_t places, size_t *found);
+
+/* Makes an index of a text that isearch_save wrote, and of the rows that it was an index of, of so many values each, in a handle that has
+ * none. The rows are copied, once. The text tells the settings. Nothing of it is believed: ISEARCH_WRONG_TEXT says that it is no text of an
+ * index, or one of other lengths or counts, or that a row does not lie where the text says. A row that changed since, within its leaf's
+ * word, passes, and is searched as it is now. */
+int32_t isearch_load(isearch_index *index, const int16_t *rows, size_t values, uint32_t length, const uint8_t *text, size_t bytes);
+
 /* Gives a handle that has no index a share of another's, for another thread: nothing is copied. */
 int32_t isearch_share(isearch_index *index, isearch_index *other);
 
@@ -112,6 +123,15 @@ static inline int32_t isearch_windows_tested(const int16_t *series, size_t value
         : ISEARCH_NULL;
 }
 
+static inline int32_t isearch_save_tested(isearch_index *index, uint8_t *text, size_t places, size_t *found) {
+    return index && text && found ? isearch_save(index, text, places, found) : ISEARCH_NULL;
+}
+
+static inline int32_t isearch_load_tested(isearch_index *index, const int16_t *rows, size_t values, uint32_t length,
+                                          const uint8_t *text, size_t bytes) {
+    return index && rows && text ? isearch_load(index, rows, values, length, text, bytes) : ISEARCH_NULL;
+}
+
 static inline int32_t isearch_share_tested(isearch_index *index, isearch_index *other) {
     if (!index || !other) return ISEARCH_NULL;
     if (index == other) return index->full ? ISEARCH_HAS_INDEX : ISEARCH_NO_INDEX;
@@ -126,6 +146,8 @@ static inline void isearch_free_tested(isearch_index *index) {
 #define isearch_nearest isearch_nearest_tested
 #define isearch_within isearch_within_tested
 #define isearch_windows isearch_windows_tested
+#define isearch_save isearch_save_tested
+#define isearch_load isearch_load_tested
 #define isearch_share isearch_share_tested
 #define isearch_free isearch_free_tested
 #endif

@@ -1,5 +1,5 @@
-/* The calls of the library against a plain scan, from four threads at once, each with a handle of its own; each refusal; and a thousand
- * indexes built and freed. Run under the address, undefined-behaviour and thread sanitizers by ../try. It prints each thing that is wrong,
+/* The calls of the library against a plain scan, from four threads at once, each with a handle of its own; each refusal; texts of indexes,
+ * saved and loaded; and a thousand indexes built and freed. Run under the address, undefined-behaviour and thread sanitizers by ../try. It prints each thing that is wrong,
  * and ends with 0 where nothing is. */
 #include "../isearch.h"
 #include <pthread.h>
@@ -159,6 +159,81 @@ static long windows(void) {
     return bad;
 }
 
+/* The text of a handle's index, with its length. */
+static uint8_t *saved(isearch_index *index, size_t *bytes, long *bad) {
+    uint8_t none = 7;
+    *bytes = 99;
+    *bad += wrong("a text in no places", isearch_save(index, &none, 0, bytes), ISEARCH_WRONG_PLACES);
+    uint8_t *text = malloc(*bytes + 1);
+    memset(text, 7, *bytes + 1);
+    size_t told = 99;
+    *bad += wrong("a text in few places", isearch_save(index, text, *bytes - 1, &told), ISEARCH_WRONG_PLACES);
+    *bad += none != 7 || told != *bytes || text[0] != 7;
+    *bad += wrong("a text", isearch_save(index, text, *bytes + 1, &told), 0);
+    *bad += told != *bytes || text[*bytes] != 7;
+    return text;
+}
+
+/* What a text is loaded as: as good as the index that it was saved of, and saved again the same. */
+static long loaded(const uint8_t *text, size_t bytes) {
+    isearch_index index = {0};
+    uint64_t distances[QUERIES][K];
+    uint32_t numbers[QUERIES][K];
+    size_t again_bytes;
+    long bad = wrong("load", isearch_load(&index, rows[0], ROWS * LENGTH, LENGTH, text, bytes), 0);
+    bad += wrong("load twice", isearch_load(&index, rows[0], ROWS * LENGTH, LENGTH, text, bytes), ISEARCH_HAS_INDEX);
+    bad += wrong("nearest", isearch_nearest(&index, queries[0], QUERIES * LENGTH, K, distances[0], QUERIES * K, numbers[0], QUERIES * K), 0);
+    bad += memcmp(distances, wanted_distances, sizeof distances) != 0;
+    bad += memcmp(numbers, wanted_numbers, sizeof numbers) != 0;
+    uint8_t *again = saved(&index, &again_bytes, &bad);
+    bad += again_bytes != bytes || memcmp(again, text, bytes) != 0;
+    free(again);
+    isearch_free(&index);
+    return bad;
+}
+
+/* Texts that are not loaded, and the handle that is left without an index. */
+static long unloaded(uint8_t *text, size_t bytes) {
+    static int16_t others[ROWS][LENGTH];
+    isearch_index index = {0};
+    size_t found = 99;
+    const int32_t no = ISEARCH_WRONG_TEXT;
+    long bad = wrong("no text", isearch_load(&index, rows[0], ROWS * LENGTH, LENGTH, text, 0), no);
+    for (size_t cut = 1; cut < bytes; cut += 97) bad += wrong("a part", isearch_load(&index, rows[0], ROWS * LENGTH, LENGTH, text, cut), no);
+    text[bytes] = 0;
+    bad += wrong("a byte more", isearch_load(&index, rows[0], ROWS * LENGTH, LENGTH, text, bytes + 1), no);
+    bad += wrong("a row less", isearch_load(&index, rows[0], (ROWS - 1) * LENGTH, LENGTH, text, bytes), no);
+    bad += wrong("half as long", isearch_load(&index, rows[0], ROWS * LENGTH, LENGTH / 2, text, bytes), no);
+    for (int i = 0; i < ROWS; i++) memcpy(others[i], rows[ROWS - 1 - i], sizeof others[i]);
+    bad += wrong("other rows", isearch_load(&index, others[0], ROWS * LENGTH, LENGTH, text, bytes), no);
+    for (size_t at = 0; at < 24; at++) {
+        if (at == 16 || at == 17) continue; /* another leaf size, under which the same tree is an index too */
+        text[at] ^= 0x80;
+        bad += wrong("another head", isearch_load(&index, rows[0], ROWS * LENGTH, LENGTH, text, bytes), no);
+        text[at] ^= 0x80;
+    }
+    bad += wrong("no rows", isearch_load(&index, rows[0], 0, LENGTH, text, bytes), ISEARCH_WRONG_ROWS);
+    bad += wrong("rows of nothing", isearch_load(&index, rows[0], LENGTH, 0, text, bytes), ISEARCH_WRONG_ROWS);
+    bad += wrong("a part of a row", isearch_load(&index, rows[0], LENGTH + 1, LENGTH, text, bytes), ISEARCH_WRONG_ROWS);
+    bad += wrong("null rows", isearch_load(&index, NULL, LENGTH, LENGTH, text, bytes), ISEARCH_NULL);
+    bad += wrong("null text", isearch_load(&index, rows[0], LENGTH, LENGTH, NULL, bytes), ISEARCH_NULL);
+    bad += wrong("save of none", isearch_save(&index, text, 0, &found), ISEARCH_NO_INDEX);
+    bad += wrong("save in null", isearch_save(&index, NULL, 0, &found), ISEARCH_NULL);
+    bad += index.full || found != 99;
+    return bad;
+}
+
+static long texts(void) {
+    isearch_index index = {0};
+    size_t bytes;
+    long bad = wrong("build", isearch_build(&index, rows[0], ROWS * LENGTH, &SETTINGS), 0);
+    uint8_t *text = saved(&index, &bytes, &bad);
+    isearch_free(&index);
+    bad += loaded(text, bytes) + unloaded(text, bytes);
+    free(text);
+    return bad;
+}
+
 static long thousand(void) {
     long bad = 0;
     for (int i = 0; i < 1000; i++) {
@@ -176,7 +251,7 @@ int main(void) {
     for (int i = 0; i < ROWS; i++) walk(rows[i]);
     for (int i = 0; i < QUERIES; i++) walk(queries[i]);
     for (int i = 0; i < QUERIES; i++) scan(i);
-    long bad = threads() + refusals() + windows() + thousand();
+    long bad = threads() + refusals() + windows() + texts() + thousand();
     printf(bad ? "%ld wrong\n" : "all right\n", bad);
     return bad != 0;
 }

@@ -97,6 +97,7 @@ def refusals():
     refused(TypeError, "isearch.scaled", isearch.Index, rows.astype(float))
     refused(TypeError, "int16", isearch.Index, rows.astype(np.int32))
     refused(ValueError, "gaps", isearch.Index, rows[:, ::2])
+    refused(ValueError, "even addresses", isearch.Index, np.frombuffer(b" " + rows.tobytes(), np.uint8)[1:].view(np.int16).reshape(rows.shape))
     refused(ValueError, "dimensions", isearch.Index, rows[0])
     refused(ValueError, "rows", isearch.Index, rows[:0].copy())
     refused(ValueError, "segments", isearch.Index, rows, segments=17)
@@ -111,6 +112,36 @@ def refusals():
     index.close()
     values, scale = isearch.scaled(np.linspace(-1, 1, 64).reshape(2, 32))
     assert values.dtype == np.int16 and abs(int(values.max())) == 32767 and scale == 32767
+
+
+def saved():
+    """An index that was saved and loaded answers as before, and saves the same; a file that is not of these rows is refused."""
+    rows = KINDS["walks"](500, 32)
+    queries = (rows[::50] + np.int16(3)).copy()
+    with tempfile.TemporaryDirectory() as folder:
+        path, again = os.path.join(folder, "index"), os.path.join(folder, "again")
+        for settings in ({}, {"segments": 7, "leaf": 3, "bent": False}):
+            with isearch.Index(rows, **settings) as index:
+                index.save(path)
+                wanted = index.search(queries, 4)
+            with isearch.Index.load(rows, path) as index:
+                same("loaded", index.search(queries, 4, threads=3), wanted)
+                same("loaded, within", index.within(queries[0], 10**6), isearch.Index(rows).within(queries[0], 10**6))
+                index.save(again)
+            with open(path, "rb") as first, open(again, "rb") as second:
+                assert first.read() == second.read(), "saved again, another text"
+        refused(ValueError, "closed", index.save, again)
+        refused(ValueError, "not one of these rows", isearch.Index.load, rows[:499], path)
+        refused(ValueError, "not one of these rows", isearch.Index.load, rows[:, :31].copy(), path)
+        refused(ValueError, "not one of these rows", isearch.Index.load, rows[::-1].copy(), path)
+        refused(TypeError, "int16", isearch.Index.load, rows.astype(float), path)
+        refused(ValueError, "gaps", isearch.Index.load, rows[:, ::2], path)
+        refused(FileNotFoundError, "absent", isearch.Index.load, rows, os.path.join(folder, "absent"))
+        refused(FileNotFoundError, "absent", isearch.Index(rows).save, os.path.join(folder, "absent", "index"))
+        for end in (0, 23, 100, -1):
+            with open(path, "rb") as whole, open(again, "wb") as part:
+                part.write(whole.read()[:end])
+            refused(ValueError, "no saved index", isearch.Index.load, rows, again)
 
 
 def shared():
@@ -153,7 +184,7 @@ def windows():
 
 
 def program():
-    """The program's text of the same search, where the program is there."""
+    """The program's text of the same search, and its index of the same rows, where the program is there."""
     path = os.environ.get("ISEARCH", "")
     if not os.path.exists(path):
         print("passed over: the program's text, since isearch is not here")
@@ -165,6 +196,11 @@ def program():
         text = subprocess.run(
             [path, "nearest", "rows", "queries", "--raw", "48", "--k", "5"], cwd=folder, check=True, capture_output=True, text=True
         ).stdout
+        isearch.Index(rows, segments=9, leaf=20).save(os.path.join(folder, "index"))
+        words = [path, "save", "rows", "--raw", "48", "--segments", "9", "--leaf", "20", "--breaks", "bent"]
+        index = subprocess.run(words, cwd=folder, check=True, capture_output=True).stdout
+        with open(os.path.join(folder, "index"), "rb") as file:
+            assert file.read() == index, "another index than the program's"
     lines = []
     for i, (distances, numbers) in enumerate(zip(*isearch.Index(rows).search(queries, 5))):
         lines += [f"query {i}"] + [f"{rank + 1} {n} {d}" for rank, (d, n) in enumerate(zip(distances, numbers))]
@@ -213,6 +249,7 @@ def main():
         for count, length, k in ((900, 64, 10), (700, 256, 1), (50, 5, 7)):
             compare(kind, make, count, length, k)
     refusals()
+    saved()
     shared()
     windows()
     program()

@@ -1,7 +1,7 @@
-"""An index over rows of a numpy array. Its one rule: a handle of the library is in one call at a time, so each thread takes one of a pool."""
+"""An index over rows of a numpy array. Its rules: a handle of the library is in one call at a time, so each thread takes one of a pool; and
+the library is given no array whose type and whose layout were not looked at, or that was not made here."""
 
 import concurrent.futures
-import contextlib
 import ctypes
 import threading
 
@@ -14,6 +14,8 @@ NO_DISTANCE = np.uint64(2**64 - 1)
 
 NO_NUMBER = np.uint32(2**32 - 1)
 """What stands at a place for which there is no row."""
+
+_INT16 = np.dtype(np.int16)
 
 RECIPE = (
     "values are 16-bit whole numbers (numpy.int16). Floats are made so by one scale for rows and queries alike, as "
@@ -43,12 +45,14 @@ def scaled(rows, scale=None):
 def _whole(name, array, dimensions):
     """The array as it lies, where it is one of 16-bit values with so many dimensions and no gaps."""
     array = np.asarray(array)
-    if array.dtype != np.int16:
+    if array.dtype != _INT16:
         raise TypeError(f"{name}: {array.dtype} is not int16; {RECIPE}")
     if array.ndim not in dimensions:
         raise ValueError(f"{name}: an array of {array.ndim} dimensions; wanted {' or '.join(map(str, dimensions))}")
     if not array.flags.c_contiguous:
         raise ValueError(f"{name}: the array has gaps or another order; numpy.ascontiguousarray({name}) copies it without")
+    if not array.flags.aligned:
+        raise ValueError(f"{name}: values do not begin at even addresses; {name}.copy() does")
     return array
 
 
@@ -78,15 +82,8 @@ class _Pool:
     def __init__(self, spare):
         self._spare, self._free, self._lock, self._open = spare, [], threading.Lock(), True
 
-    @contextlib.contextmanager
-    def handle(self):
-        slot = self._take()
-        try:
-            yield slot
-        finally:
-            self._give(slot)
-
-    def _take(self):
+    def take(self):
+        """A handle that is in no call. It is to be given back."""
         with self._lock:
             if not self._open:
                 tell(NO_INDEX)
@@ -96,14 +93,24 @@ class _Pool:
             tell(library().isearch_share(ctypes.byref(self._spare), ctypes.byref(slot)))
             return slot
 
-    def _give(self, slot):
+    def give(self, slot):
+        """Gives a handle back."""
         with self._lock:
             if self._open:
                 self._free.append(slot)
             else:
                 library().isearch_free(ctypes.byref(slot))
 
+    def call(self, name, *words):
+        """The status of a call by a handle of the pool."""
+        slot = self.take()
+        try:
+            return getattr(library(), name)(ctypes.byref(slot), *words)
+        finally:
+            self.give(slot)
+
     def close(self):
+        """Frees the handles that are in no call; each other one is freed when it is given back."""
         with self._lock:
             self._open = False
             for slot in [*self._free, self._spare]:
@@ -127,8 +134,43 @@ class Index:
         length = rows.shape[1]
         settings = _settings(length, min(16, length) if segments == 16 else segments, leaf, bent)
         spare = Slot()
-        tell(library().isearch_build(ctypes.byref(spare), rows, rows.size, ctypes.byref(settings)))
+        tell(library().isearch_build(ctypes.byref(spare), rows.ctypes.data, rows.size, ctypes.byref(settings)))
+        self._keep(spare, rows)
+
+    def _keep(self, spare, rows):
         self._pool, self._count, self._length = _Pool(spare), rows.shape[0], rows.shape[1]
+
+    def save(self, path):
+        """Writes the index without its rows to a file, some 5 bytes a row, which `Index.load` takes beside the same rows.
+
+        path: where the file is to lie; what is there is written over. It is the file that the program's `isearch save` writes of the same
+        rows, segments, leaf and breakpoints, and that its `--index` takes. OSError where the file cannot be written.
+        """
+        found, status = ctypes.c_size_t(8 * self._count + 65536), PLACES
+        while status == PLACES:
+            text = np.empty(found.value, np.uint8)
+            status = self._pool.call("isearch_save", text.ctypes.data, text.size, ctypes.byref(found))
+        tell(status)
+        with open(path, "wb") as file:
+            file.write(memoryview(text[: found.value]))
+
+    @classmethod
+    def load(cls, rows, path):
+        """The index of a file that `save` wrote, over the rows that it was saved of; they are searched at once, since nothing is built.
+
+        rows: int16 of shape (count, length), without gaps, as for `Index`; they are copied once. The file tells segments, leaf and
+        breakpoints. Nothing of it is believed: ValueError where it is no saved index, or one of other lengths or counts, or where a row does
+        not lie where it says. A row that changed since, so little that it lies there still, is searched as it is now. OSError where the file
+        cannot be read; other errors as of `Index`.
+        """
+        rows = _whole("rows", rows, (2,))
+        length = _whole_number("the length of a row", rows.shape[1], 1, 65536)
+        text = np.fromfile(path, np.uint8)
+        spare = Slot()
+        tell(library().isearch_load(ctypes.byref(spare), rows.ctypes.data, rows.size, length, text.ctypes.data, text.size))
+        index = cls.__new__(cls)
+        index._keep(spare, rows)
+        return index
 
     def search(self, queries, k=1, threads=1):
         """The k nearest rows to each query: `(distances, numbers)`, uint64 and uint32 of shape (queries, k).
@@ -140,23 +182,21 @@ class Index:
         queries = self._queries("queries", queries)
         k, threads = _whole_number("k", k, 1, 1024), _whole_number("threads", threads, 1, 1024)
         distances, numbers = np.empty((len(queries), k), np.uint64), np.empty((len(queries), k), np.uint32)
-
-        def answer(first, end):
-            part, ds, ns = queries[first:end], distances[first:end], numbers[first:end]
-            with self._pool.handle() as slot:
-                tell(library().isearch_nearest(ctypes.byref(slot), part, part.size, k, ds, ds.size, ns, ns.size))
-
-        self._by_threads(answer, len(queries), threads)
+        if threads == 1 or len(queries) < 2:
+            self._answer(queries, k, distances, numbers)
+        else:
+            self._answer_by(threads, queries, k, distances, numbers)
         return distances, numbers
 
-    @staticmethod
-    def _by_threads(answer, count, threads):
-        if threads == 1 or count < 2:
-            answer(0, count)
-            return
-        step = max(1, -(-count // (4 * threads)))
+    def _answer(self, queries, k, distances, numbers):
+        words = distances.ctypes.data, distances.size, numbers.ctypes.data, numbers.size
+        tell(self._pool.call("isearch_nearest", queries.ctypes.data, queries.size, k, *words))
+
+    def _answer_by(self, threads, queries, k, distances, numbers):
+        step = -(-len(queries) // (4 * threads))
+        parts = [slice(first, first + step) for first in range(0, len(queries), step)]
         with concurrent.futures.ThreadPoolExecutor(threads) as team:
-            for done in [team.submit(answer, first, min(count, first + step)) for first in range(0, count, step)]:
+            for done in [team.submit(self._answer, queries[part], k, distances[part], numbers[part]) for part in parts]:
                 done.result()
 
     def within(self, query, radius):
@@ -168,14 +208,11 @@ class Index:
         if query.size != self._length:
             raise ValueError(f"query: {query.size} values; a row has {self._length}")
         radius = _whole_number("radius", radius, 0, 2**64 - 1)
-        found = ctypes.c_size_t(64)
-        with self._pool.handle() as slot:
-            status = PLACES
-            while status == PLACES:
-                distances, numbers = np.empty(found.value, np.uint64), np.empty(found.value, np.uint32)
-                status = library().isearch_within(
-                    ctypes.byref(slot), query, query.size, radius, distances, distances.size, numbers, numbers.size, ctypes.byref(found)
-                )
+        found, status = ctypes.c_size_t(64), PLACES
+        while status == PLACES:
+            distances, numbers = np.empty(found.value, np.uint64), np.empty(found.value, np.uint32)
+            words = distances.ctypes.data, distances.size, numbers.ctypes.data, numbers.size, ctypes.byref(found)
+            status = self._pool.call("isearch_within", query.ctypes.data, query.size, radius, *words)
         tell(status)
         return distances[: found.value].copy(), numbers[: found.value].copy()
 
@@ -194,15 +231,14 @@ class Index:
         k, apart = _whole_number("k", k, 1, 1024), _whole_number("apart", apart, 1, 512)
         settings = _settings(length, min(16, length) if segments == 16 else segments, leaf, bent)
         distances, numbers = np.empty((len(queries), k), np.uint64), np.empty((len(queries), k), np.uint32)
-        tell(
-            library().isearch_windows(
-                series, series.size, queries, queries.size, ctypes.byref(settings), k, apart, distances, distances.size, numbers, numbers.size
-            )
-        )
+        asked = series.ctypes.data, series.size, queries.ctypes.data, queries.size, ctypes.byref(settings), k, apart
+        tell(library().isearch_windows(*asked, distances.ctypes.data, distances.size, numbers.ctypes.data, numbers.size))
         return distances, numbers
 
     def _queries(self, name, queries):
-        queries = np.atleast_2d(_whole(name, queries, (1, 2)))
+        queries = _whole(name, queries, (1, 2))
+        if queries.ndim == 1:
+            queries = queries[None]
         if queries.shape[1] != self._length:
             raise ValueError(f"{name}: {queries.shape[1]} values a query; a row has {self._length}")
         return queries

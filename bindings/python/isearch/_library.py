@@ -1,10 +1,9 @@
-"""The shared library: where it lies, its calls and what their statuses mean. Its one rule: each call is declared as `isearch.h` has it."""
+"""The shared library: where it lies, its calls and what their statuses mean. Its one rule: each call is declared as `isearch.h` has it, with
+the address of an array's values for a pointer to them."""
 
 import ctypes
 import os
 import pathlib
-
-import numpy as np
 
 DONE, NO_INDEX, PLACES, NO_MEMORY = 0, 1, 7, 9
 
@@ -16,6 +15,7 @@ MEANINGS = {
     5: "a query has as many values as a row",
     6: "k is 1 to 1024, and windows lie 1 to 512 apart, with (k - 1) * (2 * apart - 1) + 1 of at most 1024",
     7: "there are not as many places as are wanted",
+    8: "the file is no saved index, or is not one of these rows: it has other lengths or counts, or a row does not lie where it says",
     9: "out of memory",
 }
 
@@ -49,16 +49,15 @@ def _load():
             "library that is built elsewhere in the environment variable ISEARCH_LIBRARY."
         )
     library = ctypes.CDLL(str(path))
-    slot, settings, size = ctypes.POINTER(Slot), ctypes.POINTER(Settings), ctypes.c_size_t
-    values = np.ctypeslib.ndpointer(np.int16, flags="C_CONTIGUOUS")
-    u64 = np.ctypeslib.ndpointer(np.uint64, flags=("C_CONTIGUOUS", "WRITEABLE"))
-    u32 = np.ctypeslib.ndpointer(np.uint32, flags=("C_CONTIGUOUS", "WRITEABLE"))
-    count = ctypes.POINTER(size)
+    slot, settings, size, at = ctypes.POINTER(Slot), ctypes.POINTER(Settings), ctypes.c_size_t, ctypes.c_void_p
+    count, u32, u64 = ctypes.POINTER(ctypes.c_size_t), ctypes.c_uint32, ctypes.c_uint64
     calls = {
-        "build": [slot, values, size, settings],
-        "nearest": [slot, values, size, ctypes.c_uint32, u64, size, u32, size],
-        "within": [slot, values, size, ctypes.c_uint64, u64, size, u32, size, count],
-        "windows": [values, size, values, size, settings, ctypes.c_uint32, ctypes.c_uint32, u64, size, u32, size],
+        "build": [slot, at, size, settings],
+        "nearest": [slot, at, size, u32, at, size, at, size],
+        "within": [slot, at, size, u64, at, size, at, size, count],
+        "windows": [at, size, at, size, settings, u32, u32, at, size, at, size],
+        "save": [slot, at, size, count],
+        "load": [slot, at, size, u32, at, size],
         "share": [slot, slot],
         "free": [slot],
     }

@@ -1,6 +1,6 @@
 -- What is found of queries, each filled up: one place more is filled (`fill_more`), one query more is answered (`next_query`), and all have
 -- as many pairs as are wanted of each (`length_filled_all`).
-use Rattle.std.proofs.Common.{◌≡◌, ℕ, true, Bool, nat_eq, zero, suc, ◌+◌, ◌-◌, ◌*◌, ◌<◌, ◌≤◌, ℤ, List, [], ◌∷◌, ◌++◌, length, take, drop, refl, sym, ap, ◌∙◌, append_assoc, length-append, arith}
+use Rattle.std.proofs.Common.{◌≡◌, ℕ, true, zero, suc, ◌+◌, ◌-◌, ◌*◌, ◌≤◌, ℤ, List, [], ◌∷◌, ◌++◌, length, take, drop, sym, ap, ◌∙◌, append_assoc, length-append, arith}
 use Rattle.std.specs.Prelude.{replicate}
 use Rattle.std.specs.List.{flat_map}
 use Rattle.std.specs.Prelude.{Option, None, Some, find}

@@ -1,5 +1,5 @@
 -- The lemmas of this crate.
-pub mod Values
+pub mod PieceValues
 pub mod HandleValues
 pub mod Sends
 pub mod SlotSends

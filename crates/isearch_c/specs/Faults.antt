@@ -1,10 +1,10 @@
 -- What is tested of the arguments of a call, in this order, and the status of each test that fails.
-use Rattle.std.specs.Prelude.{◌≡◌, ℕ, ◌+◌, ◌-◌, ◌*◌, ◌/◌, Bool, true, false, not, ◌&&◌, cond, List, [], ◌∷◌, length, nat_le, nat_lt, nat_eq, Option, None, Some}
+use Rattle.std.specs.Prelude.{ℕ, ℤ, ◌*◌, ◌/◌, Bool, not, ◌&&◌, cond, List, [], ◌∷◌, length, nat_le, nat_lt, nat_eq, Option, None, Some}
 use Rattle.std.specs.Option.{is_some}
 use Rattle.segment_sums.specs.Division.{division_of}
-use Rattle.breakpoints.specs.declared.table.Table.{Table}
 use Rattle.breakpoints.specs.declared.table.Table.TheVariants.{Bent, Flat}
 use Rattle.series_core.specs.declared.rows.TheConstants.{MAX_COUNT, MAX_LENGTH, MAX_VALUES}
+use Rattle.series_core.specs.declared.pair.Pair.{Pair}
 use Rattle.subtree_build.specs.declared.settings.Settings.{Settings}
 use Rattle.window_rows.specs.Choice.{enough}
 use Rattle.isearch_c.specs.declared.held.Held.{Held}
@@ -12,6 +12,7 @@ use Rattle.isearch_c.specs.declared.settings.IsearchSettings.{IsearchSettings}
 use Rattle.isearch_c.specs.declared.status.Status.{Status}
 use Rattle.isearch_c.specs.declared.status.Status.TheVariants.{NoIndex, HasIndex, WrongRows, WrongSettings, WrongQueries, WrongCount, WrongPlaces}
 use Rattle.isearch_c.specs.Kept.{searched}
+use Rattle.isearch_c.specs.Statuses.{EndsThen}
 
 -- the status of the first test that fails
 abbrev pub first_fault : List (Bool × Status) → Option Status
@@ -76,6 +77,15 @@ nearest_fault held values k distances numbers =
 abbrev pub share_fault : Option Held → Option Held → Option Status
 share_fault held other = first_fault ((is_some held, NoIndex) ∷ (not (is_some other), HasIndex) ∷ [])
 
+-- what is tested where the text of an index is saved
+abbrev pub save_fault : Option Held → Option Status
+save_fault held = first_fault ((is_some held, NoIndex) ∷ [])
+
+-- what is tested where an index of a text is loaded in a handle that has one or not, beside rows of n values
+abbrev pub load_fault : Option Held → ℕ → ℕ → Option Status
+load_fault held n values =
+    first_fault ((not (is_some held), HasIndex) ∷ (rows_fit n values, WrongRows) ∷ [])
+
 -- windows of n values may be taken of a series of so many values; there may be none
 abbrev pub windows_fit : ℕ → ℕ → Bool
 windows_fit n values = nat_lt 0 n && nat_le n MAX_LENGTH && nat_le values MAX_COUNT
@@ -95,9 +105,18 @@ windows_tests s series values k apart distances numbers =
     ∷ (places_fit (values / s.length) k distances numbers, WrongPlaces)
     ∷ []
 
+-- what is tested of such a search, as a status
+abbrev pub windows_fault : IsearchSettings → ℕ → ℕ → ℕ → ℕ → ℕ → ℕ → Option Status
+windows_fault s series values k apart distances numbers =
+    first_fault (windows_tests s series values k apart distances numbers)
+
 -- what is tested of a search within a radius of a query of so many values, among rows of n values
 abbrev pub within_tests : ℕ → ℕ → List (Bool × Status)
 within_tests n values = (nat_eq values n, WrongQueries) ∷ []
+
+-- what is tested of it, as a status
+abbrev pub query_fault : ℕ → ℕ → Option Status
+query_fault n values = first_fault (within_tests n values)
 
 -- what is tested where a handle is searched so: first that there is an index
 abbrev pub within_fault : Option Held → ℕ → Option Status
@@ -106,3 +125,8 @@ within_fault held values = first_fault ((is_some held, NoIndex) ∷ within_tests
 -- there are places for so many pairs
 abbrev pub has_room : ℕ → ℕ → ℕ → Bool
 has_room pairs distances numbers = nat_le pairs distances && nat_le pairs numbers
+
+-- how a search within a radius ends: by the fault that its tests tell, and where they tell none by whether there is room for what is near
+abbrev pub EndsWithin : Option Status → List Pair → List ℕ → List ℕ → ℤ → Type 0
+EndsWithin fault near distances numbers r =
+    EndsThen fault (has_room (length near) (length distances) (length numbers)) WrongPlaces r

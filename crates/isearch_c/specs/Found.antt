@@ -33,6 +33,14 @@ answers asked c queries = flat_map (λ q. filled asked.k (wanted_of asked c q)) 
 abbrev pub queries_in : ℕ → List ℤ → List (List ℤ)
 queries_in n values = rows_of n (length values / n) values
 
+-- for each query in order the k nearest, filled up
+abbrev pub all_nearest : ℕ → Collection → List ℤ → List Pair
+all_nearest k c values = answers (record { k = k; apart = None }) c (queries_in c.points values)
+
+-- for each query in order k that are chosen so that their numbers lie so far apart, filled up
+abbrev pub all_apart : ℕ → ℕ → Collection → List ℤ → List Pair
+all_apart k apart c values = answers (record { k = k; apart = Some apart }) c (queries_in c.points values)
+
 -- the distances and the numbers of these pairs stand at places
 pub record Hold (pairs : List Pair) (distances numbers : List ℕ) : Type 0 where
   pub distances_are : distances ≡ map (λ p. p.distance) pairs

@@ -3,8 +3,10 @@ use Rattle.std.specs.Prelude.{◌≡◌, ℕ, ℤ, ◌/◌, List, [], length, Op
 use Rattle.std.specs.Option.{is_some}
 use Rattle.std.specs.Global.{Box}
 use Rattle.std.specs.Arc.{arc_value}
+use Rattle.series_core.specs.Answer.{within}
 use Rattle.series_core.specs.Collection.{Collection}
 use Rattle.series_core.specs.Flat.{rows_of}
+use Rattle.series_core.specs.declared.pair.Pair.{Pair}
 use Rattle.subtree_build.specs.declared.settings.Settings.{Settings}
 use Rattle.subtree_build.specs.Fits.{IsTreeOf}
 use Rattle.isearch_c.specs.declared.held.Held.{Held}
@@ -18,6 +20,10 @@ kept_in (Some b) = Some b.value
 abbrev pub searched : Option Held → Collection
 searched None = record { points = 0; series = [] }
 searched (Some h) = (arc_value h.searchable).rows
+
+-- what is searched for within a radius of a query
+abbrev pub near_in : Option Held → List ℤ → ℕ → List Pair
+near_in held query radius = within (searched held) query radius
 
 -- rows of so many values that lie one behind another
 abbrev pub rows_in : ℕ → List ℤ → Collection

@@ -1,4 +1,5 @@
-//! Building an index of rows in a handle, sharing it with another, and freeing it.
+//! Building an index of rows in a handle, sharing it with another, and freeing it. Its one rule: a call that does not do it leaves each handle
+//! what it had.
 ghost use Rattle.std.specs.Prelude.{◌≡◌, ◌≢◌, true, IfOk, length, pos, None};
 ghost use Rattle.isearch_c.specs.Faults.{build_fault, rows_fit, settings_fit, settings_of, share_fault};
 ghost use Rattle.isearch_c.specs.Kept.{HasHeld, Keeps, SameKept, rows_in};
@@ -13,7 +14,7 @@ use series_core::{Flat, MAX_COUNT, MAX_LENGTH, MAX_VALUES};
 use std::alloc::Global;
 
 /// Whether so many values are some rows of `length` values, within the limits.
-fn rows_fit(length: u32, values: usize) -> bool
+pub fn rows_fit(length: u32, values: usize) -> bool
     ensures { result ≡ rows_fit length values }
 {
     0 < values

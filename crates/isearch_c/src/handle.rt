@@ -6,7 +6,7 @@ ghost use Rattle.isearch_c.specs.declared.held.Held.{Held};
 ghost use Rattle.isearch_c.specs.Handles.{IsFull, held_at};
 
 use crate::held::Held;
-use crate::loose::Loose;
+use crate::pieces::Pieces;
 use std::alloc::Global;
 use std::marker::Model;
 use std::ptr::null_mut;
@@ -43,11 +43,11 @@ impl Handle {
         Handle::none_at(at, alloc)
     }
 
-    /// What owns a box owns it here.
-    fn of_loose(loose: Loose<Held, Global>) -> Handle
-        ensures { result.held ≡ Some loose.value }
+    /// What the pieces of a box own is owned here.
+    fn of_pieces(pieces: Pieces<Held, Global>) -> Handle
+        ensures { result.held ≡ Some pieces.value }
     {
-        let Loose { at, alloc } = loose;
+        let Pieces { at, alloc } = pieces;
         Handle {
             at: at as *mut u8,
             alloc,
@@ -55,12 +55,12 @@ impl Handle {
     }
 
     /// And there again.
-    fn into_loose(self) -> Loose<Held, Global>
+    fn into_pieces(self) -> Pieces<Held, Global>
         requires { IsFull self.held }
         ensures { self.held ≡ Some result.value }
     {
         let Handle { at, alloc } = self;
-        Loose {
+        Pieces {
             at: at as *mut Held,
             alloc,
         }
@@ -70,7 +70,7 @@ impl Handle {
     pub fn of(value: Box<Held>) -> Handle
         ensures { result.held ≡ Some value.value }
     {
-        Handle::of_loose(Loose::of(value))
+        Handle::of_pieces(Pieces::of_box(value))
     }
 
     /// The box again.
@@ -78,6 +78,6 @@ impl Handle {
         requires { IsFull self.held }
         ensures { self.held ≡ Some result.value }
     {
-        self.into_loose().into_box()
+        self.into_pieces().into_box()
     }
 }

@@ -1,15 +1,17 @@
-//! What a handle keeps: a collection with its index, shared by all handles that were made from one.
-ghost use Rattle.std.specs.Prelude.{◌≡◌, IfOk};
+//! What a handle keeps: a collection with its index, shared by all handles that were made from one. Its one rule: an index that is kept fits
+//! its collection and has a text.
+ghost use Rattle.std.specs.Prelude.{◌≡◌, IfOk, length};
 ghost use Rattle.std.specs.Arc.{arc_value};
-ghost use Rattle.subtree_build.specs.Fits.{Fits, IsTreeOf};
+ghost use Rattle.subtree_build.specs.Fits.{Fits};
+ghost use Rattle.saved_index.specs.IndexText.{CanSave};
 
 use outside::NoMemory;
-use series_core::{Flat, Rows};
+use series_core::Flat;
 use std::alloc::Global;
 use std::sync::Arc;
-use subtree_build::{Index, Settings, build_alone};
+use subtree_build::{Index, Settings};
 
-/// A collection with its index, which fits it.
+/// A collection with its index, which fits it and has a text.
 #[derive(Drop)]
 pub struct Searchable {
     /// The series.
@@ -20,23 +22,7 @@ pub struct Searchable {
     pub index: Index,
     ghost points: { rows.points ≡ settings.layout.cuts.row_length },
     ghost fits: { ∥ Fits rows settings.layout index ∥₁ },
-}
-
-impl Searchable {
-    /// The collection with its index, which one worker builds in this thread.
-    pub fn of_rows(alloc: Global, rows: Flat, settings: &Settings) -> Result<Searchable, NoMemory>
-        requires length { rows.points ≡ settings.now.layout.cuts.row_length }
-        ensures rows { IfOk result (λ s. s.rows ≡ rows) }
-        ensures settings { IfOk result (λ s. s.settings ≡ settings.now) }
-        ensures tree { IfOk result (λ s. IsTreeOf rows settings.now.layout settings.now.leaf_size s.index) }
-    {
-        let index = build_alone(alloc, &rows, settings)?;
-        Ok(Searchable {
-            rows,
-            settings: *settings,
-            index,
-        })
-    }
+    ghost saves: { ∥ CanSave settings (length rows.series) index ∥₁ },
 }
 
 /// A share of a collection with its index.

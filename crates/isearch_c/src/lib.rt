@@ -6,11 +6,13 @@ mod answers;
 mod building;
 mod handle;
 mod held;
-mod loose;
+mod making;
+mod pieces;
 mod searching;
 mod settings;
 mod slot;
 mod status;
 #[cfg(test)]
 mod tests;
+mod texts;
 mod windows;

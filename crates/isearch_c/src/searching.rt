@@ -1,12 +1,10 @@
-//! Searching the index of a handle.
-ghost use Rattle.std.specs.Prelude.{◌≡◌, ◌≢◌, ◌⊎◌, IfOk, length, pos, None};
+//! Searching the index of a handle. Its one rule: the index is taken out of the handle for the search, and put back whatever came of it.
+ghost use Rattle.std.specs.Prelude.{◌≡◌, ◌≢◌, ◌⊎◌, IfOk, length, pos};
 ghost use Rattle.series_core.specs.Answer.{within};
-ghost use Rattle.isearch_c.specs.Faults.{first_fault, has_room, nearest_fault, nearest_tests, within_fault, within_tests};
-ghost use Rattle.isearch_c.specs.Found.{Hold, HoldFirst, answers, queries_in};
-ghost use Rattle.isearch_c.specs.Kept.{searched};
-ghost use Rattle.isearch_c.specs.declared.answers.Asked.{Asked};
-ghost use Rattle.isearch_c.specs.Statuses.{EndsBy, EndsThen};
-ghost use Rattle.isearch_c.specs.declared.status.Status.TheVariants.{WrongPlaces};
+ghost use Rattle.isearch_c.specs.Faults.{EndsWithin, first_fault, has_room, nearest_fault, nearest_tests, query_fault, within_fault};
+ghost use Rattle.isearch_c.specs.Found.{Hold, HoldFirst, all_nearest};
+ghost use Rattle.isearch_c.specs.Kept.{near_in, searched};
+ghost use Rattle.isearch_c.specs.Statuses.{EndsBy};
 
 use crate::answers::{Asked, Ground, count_fits, places_fit, queries_fit, write};
 use crate::held::Searchable;
@@ -33,9 +31,8 @@ pub extern "C" fn isearch_nearest(
     ensures ends { let held = index.old.handle.held in
         EndsBy (nearest_fault held (length queries.now) k (length distances.old) (length numbers.old)) result }
     ensures same { index.new.handle.held ≡ index.old.handle.held }
-    ensures answers { result ≡ pos 0 → let c = searched index.old.handle.held in
-        let asked : Asked = record { k = k; apart = None } in
-        Hold (answers asked c (queries_in c.points queries.now)) distances.new numbers.new }
+    ensures answers { result ≡ pos 0 →
+        Hold (all_nearest k (searched index.old.handle.held) queries.now) distances.new numbers.new }
     ensures kept { result ≢ pos 0 → (distances.new ≡ distances.old) × (numbers.new ≡ numbers.old) }
 {
     let Some(held) = index.take(alloc) else {
@@ -49,7 +46,7 @@ pub extern "C" fn isearch_nearest(
 /// All rows whose squared distance to a query is at most the radius: nearer ones first, of two as near the one with the smaller number, and
 /// how many there are.
 /// 0: they stand at the first places. 1: there is no index. 5: the query is not as long as a row. 7: there are fewer places than rows, whose
-/// number is told, and nothing else is written. 9: memory ran out, and nothing is written.
+/// number is told, and nothing else is written. 9: memory ran out. But for 0 and 7 nothing is written.
 #[unsafe(no_mangle)]
 pub extern "C" fn isearch_within(
     index: &mut IsearchIndex,
@@ -60,14 +57,14 @@ pub extern "C" fn isearch_within(
     numbers: &mut [u32],
     found: &mut usize,
 ) -> i32
-    ensures ends { let held = index.old.handle.held in let near = within (searched held) query.now radius in
-        let room = has_room (length near) (length distances.old) (length numbers.old) in
-        EndsThen (within_fault held (length query.now)) room WrongPlaces result }
+    ensures ends { let held = index.old.handle.held in
+        EndsWithin (within_fault held (length query.now)) (near_in held query.now radius) distances.old numbers.old result }
     ensures same { index.new.handle.held ≡ index.old.handle.held }
-    ensures all { result ≡ pos 0 → let near = within (searched index.old.handle.held) query.now radius in
-        HoldFirst near distances.old distances.new numbers.old numbers.new }
+    ensures all { result ≡ pos 0 →
+        HoldFirst (near_in index.old.handle.held query.now radius) distances.old distances.new numbers.old numbers.new }
     ensures kept { result ≢ pos 0 → (distances.new ≡ distances.old) × (numbers.new ≡ numbers.old) }
-    ensures told { (result ≡ pos 0) ⊎ (result ≡ pos 7) → found.new ≡ length (within (searched index.old.handle.held) query.now radius) }
+    ensures told { (result ≡ pos 0) ⊎ (result ≡ pos 7) → found.new ≡ length (near_in index.old.handle.held query.now radius) }
+    ensures untold { result ≢ pos 0 → result ≢ pos 7 → found.new ≡ found.old }
 {
     let Some(held) = index.take(alloc) else {
         return Status::NoIndex.code();
@@ -95,13 +92,13 @@ fn within(
     numbers: &mut [u32],
     found: &mut usize,
 ) -> i32
-    ensures ends { let near = within searchable.now.rows query.now radius in
-        let room = has_room (length near) (length distances.old) (length numbers.old) in
-        EndsThen (first_fault (within_tests searchable.now.rows.points (length query.now))) room WrongPlaces result }
-    ensures all { result ≡ pos 0 → let near = within searchable.now.rows query.now radius in
-        HoldFirst near distances.old distances.new numbers.old numbers.new }
+    ensures ends { let c = searchable.now.rows in
+        EndsWithin (query_fault c.points (length query.now)) (within c query.now radius) distances.old numbers.old result }
+    ensures all { result ≡ pos 0 →
+        HoldFirst (within searchable.now.rows query.now radius) distances.old distances.new numbers.old numbers.new }
     ensures kept { result ≢ pos 0 → (distances.new ≡ distances.old) × (numbers.new ≡ numbers.old) }
     ensures told { (result ≡ pos 0) ⊎ (result ≡ pos 7) → found.new ≡ length (within searchable.now.rows query.now radius) }
+    ensures untold { result ≢ pos 0 → result ≢ pos 7 → found.new ≡ found.old }
 {
     if query.len() != searchable.rows.length() as usize {
         return Status::WrongQueries.code();
@@ -160,9 +157,8 @@ fn nearest(
 ) -> i32
     ensures ends { let n = searchable.now.rows.points in
         EndsBy (first_fault (nearest_tests n (length queries.now) k (length distances.old) (length numbers.old))) result }
-    ensures answers { result ≡ pos 0 → let c = searchable.now.rows in
-        let asked : Asked = record { k = k; apart = None } in
-        Hold (answers asked c (queries_in c.points queries.now)) distances.new numbers.new }
+    ensures answers { result ≡ pos 0 →
+        Hold (all_nearest k searchable.now.rows queries.now) distances.new numbers.new }
     ensures kept { result ≢ pos 0 → (distances.new ≡ distances.old) × (numbers.new ≡ numbers.old) }
 {
     // for the fact that the rows are a collection

@@ -1,4 +1,4 @@
-//! What C says of rows, and the tests of it.
+//! What C says of rows, and the tests of it. Its one rule: nothing that C says is taken for an index's settings before it was tested.
 ghost use Rattle.std.specs.Prelude.{◌≡◌, true};
 ghost use Rattle.isearch_c.specs.Faults.{settings_fit, settings_of};
 

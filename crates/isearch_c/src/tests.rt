@@ -1,8 +1,10 @@
-//! Calls as C makes them: worked rows against the nearest that a hand finds, shares, each refusal in its order, and what is freed.
+//! Calls as C makes them: worked rows against the nearest that a hand finds, shares, texts, each refusal in its order, and what is freed.
 use crate::building::{isearch_build, isearch_free, isearch_share};
-use crate::searching::isearch_nearest;
+use crate::searching::{isearch_nearest, isearch_within};
 use crate::settings::IsearchSettings;
 use crate::slot::IsearchIndex;
+use crate::texts::{isearch_load, isearch_save};
+use crate::windows::isearch_windows;
 use std::alloc::Global;
 use std::test::*;
 
@@ -168,6 +170,141 @@ fn each_refusal_of_rows(rt: HostRuntime) -> Result<(), Fail> {
             bent: false,
         };
         let status = isearch_build(&mut index, rows, &settings, alloc);
+        assert_eq!(rt; status, want, "{name}");
+        assert!(rt; !index.is_full(), "{name}: the handle has none");
+    }
+    Ok(())
+}
+
+#[test]
+fn rows_within_a_radius(rt: HostRuntime) -> Result<(), Fail> {
+    let alloc = rt.alloc();
+    let mut index = IsearchIndex::empty(alloc);
+    assert_eq!(rt;
+        isearch_build(&mut index, &ROWS, &SETTINGS, alloc),
+        0,
+        "build"
+    );
+    let mut distances = [7; 3];
+    let mut numbers = [7; 3];
+    // the radius, how many places there are, and what is told: status, how many are found, distances and numbers
+    let cases: [(u64, usize, i32, usize, [u64; 3], [u32; 3]); 4] = [
+        (163, 3, 0, 1, [4, 7, 7], [0, 7, 7]),
+        (164, 3, 0, 2, [4, 164, 7], [0, 3, 7]),
+        (324, 2, 7, 3, [7; 3], [7; 3]),
+        (324, 3, 0, 3, [4, 164, 324], [0, 3, 1]),
+    ];
+    for (radius, places, want, count, near, rows) in cases {
+        let mut found = 99;
+        distances = [7; 3];
+        numbers = [7; 3];
+        let status = isearch_within(
+            &mut index,
+            alloc,
+            &[1; 4],
+            radius,
+            &mut distances[..places],
+            &mut numbers[..places],
+            &mut found,
+        );
+        assert_eq!(rt; (status, found), (want, count), "within {radius}");
+        assert_eq!(rt; (distances, numbers), (near, rows), "within {radius}");
+    }
+    isearch_free(&mut index, alloc);
+    Ok(())
+}
+
+#[test]
+fn windows_that_lie_apart(rt: HostRuntime) -> Result<(), Fail> {
+    let alloc = rt.alloc();
+    let mut distances = [7; 3];
+    let mut numbers = [7; 3];
+    let status = isearch_windows(
+        alloc,
+        &ROWS[..9],
+        &[1; 4],
+        &SETTINGS,
+        3,
+        3,
+        &mut distances,
+        &mut numbers,
+    );
+    assert_eq!(rt; status, 0, "windows");
+    assert_eq!(rt; distances, [4, 244, NO_DISTANCE], "distances");
+    assert_eq!(rt; numbers, [0, 3, NO_NUMBER], "numbers");
+    Ok(())
+}
+
+/// The text of an index, where there are so many places.
+fn text(alloc: Global, index: &mut IsearchIndex, places: usize) -> Result<(i32, Vec<u8>), Fail> {
+    let mut bytes = vec![in alloc; 7u8; places]?;
+    let mut found = 99;
+    let status = isearch_save(index, alloc, bytes.as_mut_slice(), &mut found);
+    bytes.truncate(found);
+    Ok((status, bytes))
+}
+
+/// A handle with the index of the rows, and its text.
+fn saved(alloc: Global) -> Result<(IsearchIndex, Vec<u8>), Fail> {
+    let mut index = IsearchIndex::empty(alloc);
+    if isearch_build(&mut index, &ROWS, &SETTINGS, alloc) != 0 {
+        return Err(Fail::new("build"));
+    }
+    let (status, bytes) = text(alloc, &mut index, 200)?;
+    if status != 0 {
+        return Err(Fail::new("save"));
+    }
+    Ok((index, bytes))
+}
+
+#[test]
+fn a_text_is_loaded_and_saved_again(rt: HostRuntime) -> Result<(), Fail> {
+    let alloc = rt.alloc();
+    let (mut built, first) = saved(alloc)?;
+    let head = [73u8, 83, 69, 88, 1, 0, 4, 1];
+    assert!(rt; first.starts_with(&head), "head");
+    assert_eq!(rt; text(alloc, &mut built, 23)?.0, 7, "few places");
+    isearch_free(&mut built, alloc);
+    assert_eq!(rt; text(alloc, &mut built, 9)?.0, 1, "no index");
+    let mut index = IsearchIndex::empty(alloc);
+    let status = isearch_load(&mut index, &ROWS, 4, &first, alloc);
+    assert_eq!(rt; status, 0, "load");
+    let status = isearch_load(&mut index, &ROWS, 4, &first, alloc);
+    assert_eq!(rt; status, 2, "load twice");
+    let (status, distances, numbers) = nearest(alloc, &mut index, &[9; 4], 2, 2)?;
+    assert_eq!(rt; status, 0, "nearest");
+    assert_eq!(rt; distances.as_slice(), &[4u64, 164][..], "distances");
+    assert_eq!(rt; numbers.as_slice(), &[1u32, 3][..], "numbers");
+    let (status, again) = text(alloc, &mut index, 200)?;
+    assert_eq!(rt;
+        (status, again.as_slice()),
+        (0, first.as_slice()),
+        "saved again"
+    );
+    isearch_free(&mut index, alloc);
+    Ok(())
+}
+
+#[test]
+fn each_refusal_of_a_text(rt: HostRuntime) -> Result<(), Fail> {
+    let alloc = rt.alloc();
+    let (mut index, bytes) = saved(alloc)?;
+    isearch_free(&mut index, alloc);
+    let whole = bytes.as_slice();
+    let Some((_, part)) = whole.split_last() else {
+        return Err(Fail::new("no text"));
+    };
+    let cases: [(&str, &[i16], u32, &[u8], i32); 7] = [
+        ("no rows", &[], 4, whole, 3),
+        ("a part of a row", &ROWS[..15], 4, whole, 3),
+        ("no text", &ROWS, 4, &[], 8),
+        ("a part", &ROWS, 4, part, 8),
+        ("another length", &ROWS, 8, whole, 8),
+        ("a row less", &ROWS[..12], 4, whole, 8),
+        ("other rows", &[9; 16], 4, whole, 8),
+    ];
+    for (name, rows, points, text, want) in cases {
+        let status = isearch_load(&mut index, rows, points, text, alloc);
         assert_eq!(rt; status, want, "{name}");
         assert!(rt; !index.is_full(), "{name}: the handle has none");
     }

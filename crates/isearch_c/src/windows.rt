@@ -1,11 +1,11 @@
-//! The windows of one long series that are nearest and lie apart, with an index that lasts as long as the call.
-ghost use Rattle.std.specs.Prelude.{◌≡◌, ◌≢◌, ◌≤◌, ◌*◌, ◌/◌, true, IfOk, IfSome, length, pos, Some};
+//! The windows of one long series that are nearest and lie apart, with an index that lasts as long as the call. Its one rule: no window is
+//! copied.
+ghost use Rattle.std.specs.Prelude.{◌≡◌, ◌≢◌, ◌≤◌, ◌*◌, ◌/◌, true, IfOk, IfSome, length, pos};
 ghost use Rattle.window_rows.specs.Windows.{collection_of};
-ghost use Rattle.isearch_c.specs.Faults.{choice_fits, first_fault, settings_fit, windows_fit, windows_tests};
+ghost use Rattle.isearch_c.specs.Faults.{choice_fits, settings_fit, windows_fault, windows_fit};
 ghost use Rattle.window_rows.specs.Choice.{enough};
-ghost use Rattle.isearch_c.specs.Found.{Hold, answers, queries_in};
+ghost use Rattle.isearch_c.specs.Found.{Hold, all_apart, answers, queries_in};
 ghost use Rattle.isearch_c.specs.Statuses.{EndsBy};
-ghost use Rattle.isearch_c.specs.declared.answers.Asked.{Asked};
 
 use crate::answers::{Asked, Ground, places_fit, queries_fit, write};
 use crate::settings::IsearchSettings;
@@ -53,11 +53,10 @@ pub extern "C" fn isearch_windows(
     distances: &mut [u64],
     numbers: &mut [u32],
 ) -> i32
-    ensures ends { let tests = windows_tests settings.now (length series.now) (length queries.now) k apart in
-        EndsBy (first_fault (tests (length distances.old) (length numbers.old))) result }
+    ensures ends { let fault = windows_fault settings.now (length series.now) (length queries.now) k apart in
+        EndsBy (fault (length distances.old) (length numbers.old)) result }
     ensures answers { result ≡ pos 0 → let c = collection_of series.now settings.now.length 1 in
-        let asked : Asked = record { k = k; apart = Some apart } in
-        Hold (answers asked c (queries_in c.points queries.now)) distances.new numbers.new }
+        Hold (all_apart k apart c queries.now) distances.new numbers.new }
     ensures kept { result ≢ pos 0 → (distances.new ≡ distances.old) × (numbers.new ≡ numbers.old) }
 {
     let length = settings.length;

@@ -1,7 +1,6 @@
 -- There are as many places as pairs, and the index fits.
-use Rattle.std.proofs.Common.{◌≡◌, ℕ, ◌*◌, ◌/◌, length, ap, sym, ◌∙◌, List, None}
+use Rattle.std.proofs.Common.{◌≡◌, ◌*◌, ◌/◌, length, ap, sym, ◌∙◌, List, None}
 use Rattle.series_core.specs.declared.pair.Pair.{Pair}
-use Rattle.series_core.specs.Flat.{rows_of}
 use Rattle.isearch_c.specs.declared.answers.Asked.{Asked}
 use Rattle.isearch_c.specs.Found.{answers, queries_in, wanted_of}
 use Rattle.isearch_c.proofs.Filling.{few_wanted, length_filled_all, places_are}

@@ -1,5 +1,5 @@
 -- One query more is answered.
-use Rattle.std.proofs.Common.{◌≡◌, ℕ, ℤ, ◌+◌, ◌-◌, ◌*◌, ◌/◌, ◌++◌, ◌≤◌, List, suc, length, take, drop, ap, sym, ◌∙◌, subst, arith}
+use Rattle.std.proofs.Common.{◌≡◌, ◌+◌, ◌-◌, ◌/◌, ◌++◌, ◌≤◌, List, suc, length, take, drop, ap, sym, ◌∙◌, subst, arith}
 use Rattle.series_core.specs.declared.pair.Pair.{Pair}
 use Rattle.isearch_c.specs.Found.{filled, wanted_of}
 use Rattle.isearch_c.proofs.Filling.{few_wanted, next_query, shorter}
