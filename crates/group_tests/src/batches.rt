@@ -77,8 +77,8 @@ fn batches_of_each_size(rt: HostRuntime) -> Result<(), Fail> {
 fn three_thousand_queries(rt: HostRuntime) -> Result<(), Fail> {
     let alloc = rt.alloc();
     let mut rng = SplitMix64::seed_from_u64(22);
-    let rows = drawn_series(alloc, &mut rng, &MIXED, 200, 100)?;
-    let queries = drawn_series(alloc, &mut rng, &MIXED, 3000, 100)?;
+    let rows = drawn_series(alloc, &mut rng, &MIXED, 200, 256)?;
+    let queries = drawn_series(alloc, &mut rng, &MIXED, 3000, 256)?;
     assert!(rt; agree(&rt, alloc, &rows, &queries, 3)?);
     Ok(())
 }

@@ -1,8 +1,10 @@
 //! The tables, a module for each subject, and in `fixture` what they share.
 
+mod batches;
 mod certifying;
 mod commands;
 mod converting;
+mod drawn_files;
 mod failing;
 mod fixture;
 mod indexes;

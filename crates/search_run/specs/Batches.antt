@@ -1,11 +1,12 @@
 -- A batch of queries: what they are asked of, the answers that are found ahead, and teams that search one query together.
-use Rattle.std.specs.Prelude.{◌≡◌, ℕ, ℤ, ◌<◌, ◌≤◌, ⊤, List, [], length, get_or, Option, None, Result, IfOk, IfSome}
+use Rattle.std.specs.Prelude.{◌≡◌, ℕ, ℤ, ◌+◌, ◌*◌, ◌<◌, ◌≤◌, ⊤, List, [], length, get_or, Option, None, Result, IfOk, IfSome}
 use Rattle.std.specs.Borrow.{Bor}
 use Rattle.std.specs.List.{All}
 use Rattle.outside.specs.declared.faults.NoMemory.{NoMemory}
 use Rattle.command_words.specs.declared.limits.TheConstants.{MOST_QUEUES, MOST_WORKERS}
 use Rattle.command_words.specs.declared.options.Options.{Options}
 use Rattle.claim_word.specs.Passes.{Claim, fresh_pass}
+use Rattle.group_answer.specs.declared.asked.Answered.{Answered}
 use Rattle.series_core.specs.Answer.{answer}
 use Rattle.series_core.specs.Collection.{Collection}
 use Rattle.series_core.specs.declared.best.TheConstants.{MAX_BEST}
@@ -17,7 +18,7 @@ use Rattle.search_run.specs.Finding.{IsTreeFor, asked_of}
 use Rattle.search_run.specs.declared.tree.Tree.{Tree}
 use Rattle.search_run.specs.declared.finding.Asking.{Asking}
 use Rattle.search_run.specs.declared.batch.Batch.{Batch}
-use Rattle.search_run.specs.declared.batch.Found.{Found}
+use Rattle.search_run.specs.declared.dealing.Deal.{Deal}
 use Rattle.search_run.specs.declared.dealing.Share.{Share}
 use Rattle.search_run.specs.declared.answers.Telling.{Telling}
 use Rattle.search_run.specs.declared.answers.Telling.TheVariants.{Nearest, Apart}
@@ -48,13 +49,20 @@ pub record IsBatch {R : Type 0} (collection : R → Collection) (b : Batch R) : 
   pub asking : IsAsking b.asking
 
 -- what was found for a query is the answer to it
-abbrev pub AreRight : {R : Type 0} → (R → Collection) → Batch R → List Found → Type 0
-AreRight collection b = All (λ f. IfSome f.pairs (λ pairs. pairs ≡ answer_to collection b f.number))
+abbrev pub AreRight : {R : Type 0} → (R → Collection) → Batch R → List Answered → Type 0
+AreRight collection b = All (λ f. f.pairs ≡ answer_to collection b f.number)
 
 -- a worker that has drawn no query of these and found nothing
 pub record IsFresh (claims : Claim) (share : Share) : Type 0 where
   pub pass : share.pass ≡ fresh_pass claims
   pub found : share.found.items ≡ []
+
+-- so many draws of some queries each, and each of them has a query of those that are dealt
+pub record IsDeal (d : Deal) (draws queries : ℕ) : Type 0 where
+  pub some : 1 ≤ d.each
+  pub few : d.each ≤ 16
+  pub end : d.end ≤ queries
+  pub real : (n : ℕ) → n < draws → d.first + n * d.each < d.end
 
 -- the k nearest may be asked for: the tree is one of the collection, and the query is as long as its series
 pub record CanAsk (c : Collection) (tree : Tree) (query : List ℤ) (a : Asking) : Type 0 where

@@ -5,10 +5,11 @@ ghost use Rattle.std.specs.Prelude.{◌≡◌, ◌<◌, ◌≤◌, IfErr, IfOk, 
 ghost use Rattle.search_run.specs.Stops.{Stops};
 ghost use Rattle.search_run.specs.Traffic.{wrote_to};
 
-use crate::batch::{Batch, Found};
+use crate::batch::Batch;
 use crate::crew::Crew;
 use crate::output::text::query_text;
 use crate::status::Status;
+use group_answer::Answered;
 use outside::{Gate, NoMemory, Sink, write_whole};
 use series_core::{LabelList, PairList, Rows};
 use std::alloc::Global;
@@ -75,7 +76,7 @@ impl<R: Rows + Sync> Batch<'_, R> {
         &self,
         crew: &Crew<'_, T, G>,
         i: u32,
-        ahead: &mut Vec<Found>,
+        ahead: &mut Vec<Answered>,
     ) -> Result<PairList, NoMemory>
         requires batch { IsBatch R.collection self.now }
         requires below { i < length self.now.queries.now.series }
@@ -87,7 +88,7 @@ impl<R: Rows + Sync> Batch<'_, R> {
             return Ok(pairs);
         }
         match self.way(i) {
-            Way::Alone => self.alone(crew.alloc, i),
+            Way::Alone => self.next(crew.alloc, i, self.queries.count(), ahead),
             Way::Team => self.by_team(crew, i),
             Way::SideBySide => {
                 *ahead = self.side_by_side(crew, i)?;

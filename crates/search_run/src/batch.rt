@@ -1,13 +1,15 @@
-//! The queries of a run and what they are asked of: each is answered by one worker or by all.
+//! The queries of a run and what they are asked of: each is answered by one worker, alone or with others, or by all.
 //! Its one rule: what is found ahead stands beside the number of its query, and is the answer to that query.
 
-ghost use Rattle.std.specs.Prelude.{◌≡◌, ◌<◌, IfOk, IfSome, length};
+ghost use Rattle.std.specs.Prelude.{◌≡◌, ◌<◌, ◌≤◌, ℕ, IfOk, IfSome, length};
+ghost use Rattle.group_answer.specs.Asking.{IsAsked, answer_to as answer_in_group};
 ghost use Rattle.search_run.specs.Batches.{AreRight, IsBatch, answer_to};
 
 use crate::crew::Crew;
-use crate::finding::{Asking, nearest, nearest_shared};
+use crate::finding::{Asking, nearest_shared};
 use crate::row::row_of;
 use crate::tree::Tree;
+use group_answer::{Answered, Asked, next_answer};
 use outside::{Gate, NoMemory};
 use series_core::{Flat, PairList, Rows};
 use std::alloc::Global;
@@ -26,36 +28,52 @@ pub struct Batch<'a, R> {
     pub asking: Asking,
 }
 
-/// A query, and the pairs that were found for it.
-#[derive(Drop)]
-pub struct Found {
-    /// The number of the query.
-    pub number: u32,
-    /// What was found: None where memory did not suffice.
-    pub pairs: Option<PairList>,
-}
-
 impl<R: Rows> Batch<'_, R> {
     /// Takes the pairs of query i, where they stand next among those that were found ahead.
-    pub fn take(&self, ahead: &mut Vec<Found>, i: u32) -> Option<PairList>
+    pub fn take(&self, ahead: &mut Vec<Answered>, i: u32) -> Option<PairList>
         requires ahead { AreRight R.collection self.now ahead.old.items }
         ensures right { IfSome result (λ pairs. pairs ≡ answer_to R.collection self.now i) }
         ensures ahead { AreRight R.collection self.now ahead.new.items }
     {
-        let Some(found) = ahead.pop() else {
+        if ahead.last()?.number != i {
             return None;
-        };
-        if found.number == i { found.pairs } else { None }
+        }
+        let found = ahead.pop()?;
+        Some(found.pairs)
     }
 
-    /// The answer to query i, by one worker.
-    pub fn alone(&self, alloc: Global, i: u32) -> Result<PairList, NoMemory>
+    /// The answer to query i, by one worker: alone, or with others before query `end`, whose answers are then ahead.
+    pub fn next(
+        &self,
+        alloc: Global,
+        i: u32,
+        end: u32,
+        ahead: &mut Vec<Answered>,
+    ) -> Result<PairList, NoMemory>
         requires batch { IsBatch R.collection self.now }
-        requires below { i < length self.now.queries.now.series }
-        ensures { IfOk result (λ pairs. pairs ≡ answer_to R.collection self.now i) }
+        requires below { i < end }
+        requires end { end ≤ length self.now.queries.now.series }
+        requires ahead { AreRight R.collection self.now ahead.old.items }
+        ensures right { IfOk result (λ pairs. pairs ≡ answer_to R.collection self.now i) }
+        ensures ahead { AreRight R.collection self.now ahead.new.items }
     {
-        let query = row_of(self.queries, i);
-        nearest(alloc, self.rows, self.tree, query, self.asking.k)
+        next_answer(alloc, &self.asked(), i, end, ahead)
+    }
+
+    // The queries, as a group of them is asked.
+    fn asked(&self) -> Asked<'_, R>
+        requires batch { IsBatch R.collection self.now }
+        ensures asked { IsAsked R.collection result }
+        ensures queries { result.queries.now ≡ self.now.queries.now }
+        ensures answers { (i : ℕ) → answer_in_group R.collection result i ≡ answer_to R.collection self.now i }
+    {
+        Asked {
+            rows: self.rows,
+            queries: self.queries,
+            k: self.asking.k,
+            layout: &self.tree.settings.layout,
+            index: &self.tree.index,
+        }
     }
 }
 

@@ -1,9 +1,8 @@
 //! What finds the answers to a query: a search of the tree for the k nearest, by one worker or by a team, or for all within a
 //! radius.
 
-ghost use Rattle.std.specs.Prelude.{◌≡◌, ◌<◌, ◌≤◌, length, IfOk};
+ghost use Rattle.std.specs.Prelude.{◌≡◌, ◌≤◌, length, IfOk};
 ghost use Rattle.series_core.specs.Answer.{answer, within};
-ghost use Rattle.series_core.specs.declared.best.TheConstants.{MAX_BEST};
 ghost use Rattle.command_words.specs.Limits.{OptionsKeepLimits};
 ghost use Rattle.command_words.specs.declared.limits.TheConstants.{MOST_WORKERS};
 ghost use Rattle.search_run.specs.Batches.{CanAsk, HasRightOutcome, IsAsking, asking_of};
@@ -13,7 +12,7 @@ use crate::crew::Crew;
 use crate::tree::Tree;
 use command_words::Options;
 use live_query::nearest_sealed;
-use nearest_answer::{answer_by_team, one_worker_answer};
+use nearest_answer::answer_by_team;
 use outside::{Gate, NoMemory};
 use query_core::{Outcome, Task, one_worker};
 use range_query::within;
@@ -46,25 +45,7 @@ pub fn asking_of(options: &Options) -> Asking
     }
 }
 
-/// The k series nearest to a query of their length, by one worker.
-pub fn nearest<R: Rows>(
-    alloc: Global,
-    rows: &R,
-    tree: &Tree,
-    query: &[i16],
-    k: u32,
-) -> Result<PairList, NoMemory>
-    requires tree { IsTreeFor (R.collection rows.now) tree.now }
-    requires length { length query.now ≡ (R.collection rows.now).points }
-    requires some { 0 < k }
-    requires limit { k ≤ MAX_BEST }
-    ensures { IfOk result (λ pairs. pairs ≡ answer (R.collection rows.now) query.now k) }
-{
-    let task = Task::new(rows, query, k, &tree.settings.layout);
-    one_worker_answer(alloc, &task, &tree.index)
-}
-
-/// The same by all workers, who share what is left to scan where that is much.
+/// The k series nearest to a query of their length, by all workers, who share what is left to scan where that is much.
 pub fn nearest_shared<T: Threads + Sync, R: Rows + Sync, G: Gate + Sync>(
     crew: &Crew<'_, T, G>,
     rows: &R,

@@ -1,6 +1,26 @@
 //! The numbers that decide how the queries of a run are shared out. Each says what it decides, in what unit, and what it was measured
 //! to save. No answer depends on them.
+ghost use Rattle.std.specs.Prelude.{◌≤◌};
 
 /// How many queries are answered ahead at most, side by side. So forks are few, few workers wait for the last query of a round,
 /// and no more lists of pairs than these wait to be written.
 pub const QUERIES_AHEAD: u32 = 2048;
+
+/// How many are at first: then as many as have been answered before. So the first texts are soon written.
+pub const FIRST_QUERIES_AHEAD: u32 = 64;
+
+/// How many queries a worker draws at a time, where so many would be its share. Those of a draw that are swept go through the codes of the
+/// rows in fours, in two thirds of the time; with fewer draws than two a worker, one would wait for another.
+pub fn queries_of_draw(share: u32) -> u32
+    ensures { (1 ≤ result) × (result ≤ 16) }
+{
+    if share < 8 {
+        1
+    } else if share < 16 {
+        4
+    } else if share < 32 {
+        8
+    } else {
+        16
+    }
+}

@@ -1,12 +1,12 @@
 //! Two workers over noise that is great enough to be shared: for one query both draw of its stretches, and for two each answers one. They
 //! run at once, and write what a plain sort finds.
 
+use crate::tests::drawn_files::{plain_text, raw};
 use crate::tests::fixture::{Meeting, Outside, words_of};
 use outside::NoMemory;
-use plain_search::{Source, plain_nearest};
-use run_traffic::push_line;
+use plain_search::Source;
 use search_run::{Status, run};
-use series_core::{Flat, Rows};
+use series_core::Flat;
 use std::alloc::Global;
 use std::test::*;
 
@@ -21,30 +21,6 @@ fn noise(alloc: Global, seed: u64, series: u32) -> Result<Flat, NoMemory> {
     let mut source = Source::new(seed, 20000);
     let values = source.values(alloc, series.min(SERIES) * LENGTH)?;
     Ok(Flat::from_values(LENGTH, values))
-}
-
-/// A file of these series without a header.
-fn raw(alloc: Global, rows: &Flat) -> Result<Vec<u8>, NoMemory> {
-    let mut bytes = Vec::new(alloc);
-    for value in rows.values() {
-        bytes.extend_from_slice(&value.to_le_bytes())?;
-    }
-    Ok(bytes)
-}
-
-/// The text of the three series nearest to each query, by a plain sort.
-fn plain_text(alloc: Global, rows: &Flat, queries: &Flat) -> Result<Vec<u8>, NoMemory> {
-    let mut text = Vec::new(alloc);
-    for i in 0..queries.count() {
-        text.extend_from_slice(b"query ")?;
-        push_line(&mut text, u64::from(i), &[])?;
-        let mut rank = 0u64;
-        for (distance, number) in plain_nearest(alloc, rows, queries.row(i), 3)? {
-            rank = rank.saturating_add(1);
-            push_line(&mut text, rank, &[u64::from(number), distance])?;
-        }
-    }
-    Ok(text)
 }
 
 #[test]
@@ -62,7 +38,7 @@ fn two_workers_meet_over_one_query_and_over_two(rt: HostRuntime) -> Result<(), F
         let gate = Meeting::new();
         let status = run(&rt, alloc, &words, &mut files, &mut out, &mut err, &gate);
         assert_eq!(rt; status, Status::Done, "{count} queries");
-        let text = plain_text(alloc, &rows, &queries)?;
+        let text = plain_text(alloc, &rows, &queries, 3)?;
         assert_eq!(rt; out.written(), text.as_slice(), "{count} queries");
         assert_eq!(rt;
             gate.counts(),
