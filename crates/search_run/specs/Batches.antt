@@ -1,5 +1,5 @@
 -- A batch of queries: what they are asked of, the answers that are found ahead, and teams that search one query together.
-use Rattle.std.specs.Prelude.{◌≡◌, ℕ, ℤ, ◌+◌, ◌*◌, ◌<◌, ◌≤◌, ⊤, List, [], length, get_or, Option, None, Result, IfOk, IfSome}
+use Rattle.std.specs.Prelude.{◌≡◌, ℕ, ℤ, ◌+◌, ◌*◌, ◌<◌, ◌≤◌, ⊤, List, [], length, get_or, Option, None, Result, IfOk}
 use Rattle.std.specs.Borrow.{Bor}
 use Rattle.std.specs.List.{All}
 use Rattle.outside.specs.declared.faults.NoMemory.{NoMemory}

@@ -1,5 +1,5 @@
 -- What a share has found is right, and so is all of it in whatever order.
-use Rattle.std.proofs.Common.{◌≡◌, ◌∷◌, List, All, subst, sym}
+use Rattle.std.proofs.Common.{◌≡◌, List, All, subst, sym}
 use Rattle.std.specs.Vec.Iter.{into_iter_items}
 use Rattle.std.proofs.lemmas.List.Elements.{All-head, All-push, All-tail}
 use Rattle.std.proofs.lemmas.List.Sorted.{All-permutation}
