@@ -5,7 +5,7 @@ ghost use Rattle.group_answer.specs.Asking.{AreAnswers, IsAsked, answer_to};
 
 use crate::asked::{Answered, Asked};
 use crate::together::swept_together;
-use crate::tuning::GROUP;
+use crate::tuning::{GROUP, QUERIES_OF_LOOK};
 use nearest_answer::one_worker_answer;
 use outside::NoMemory;
 use series_core::{PairList, Rows};
@@ -31,8 +31,9 @@ pub fn answers<R: Rows>(
     Ok(all)
 }
 
-/// The answer to query i: the last of those found ahead, where it is that of this query; else where nothing is ahead and a sample chooses
-/// it to be swept, with others before query `end`, whose answers are then ahead, 64 at most; and else by one worker alone.
+/// The answer to query i: the last of those found ahead, where it is that of this query; else where nothing is ahead, i is a multiple of 4
+/// and a sample chooses it to be swept, with others before query `end`, whose answers are then ahead, 64 at most; and else by one worker
+/// alone.
 pub fn next_answer<R: Rows>(
     alloc: Global,
     asked: &Asked<'_, R>,
@@ -48,7 +49,7 @@ pub fn next_answer<R: Rows>(
     ensures ahead { AreAnswers R.collection asked.now ahead.new.items }
     ensures few { length ahead.new.items ≤ max (length ahead.old.items) 64 }
 {
-    if ahead.is_empty() {
+    if ahead.is_empty() && i % QUERIES_OF_LOOK == 0 {
         *ahead = swept_together(alloc, asked, i, end.min(i.saturating_add(GROUP)))?;
     }
     if let Some(pairs) = take(asked, ahead, i) {

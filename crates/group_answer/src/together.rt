@@ -1,4 +1,4 @@
-//! Queries that are swept together, and their answers. Queries that make no whole four are left out: they begin the next group.
+//! Queries that are swept together, and their answers. Queries that make no whole four are left out.
 ghost use Rattle.std.specs.Prelude.{◌≡◌, ◌-◌, ◌*◌, ◌+◌, ◌≤◌, All, IfOk, OnOk, length};
 ghost use Rattle.group_answer.specs.Asking.{AreAnswers, IsAnswer, IsAsked};
 ghost use Rattle.group_answer.specs.Sweeping.{AreSwept, IsChosen, IsSwept, members_of};

@@ -40,3 +40,7 @@ pub(crate) const SHARE_BY_TREE: u64 = 6;
 
 /// How many of these codes may leave near for a query that is swept: each of the others is measured.
 pub(crate) const SHARE_TO_SWEEP: u64 = 8;
+
+/// One of how many queries is looked at for a group, where nothing is ahead. A look takes a tenth of the search of a walk by the tree, and is
+/// thrown away there.
+pub(crate) const QUERIES_OF_LOOK: u32 = 4;
