@@ -16,7 +16,9 @@ use crate::stretches::stretch_count;
 use crate::sweep::answer_by_codes;
 use crate::team::draw_together;
 use crate::telling::{ApartBy, what_tells};
-use crate::tuning::{FIRST_MEMBERS, LEAST_MEMBERS_TO_SHARE, LEAST_VALUES_TO_SHARE};
+use crate::tuning::{
+    FIRST_MEMBERS, LEAST_MEMBERS_TO_SHARE, LEAST_VALUES_TO_SHARE, MOST_RANKS_TO_SHARE,
+};
 use crate::way::first_way;
 use best_word::BestWord;
 use claim_word::Claims;
@@ -175,8 +177,12 @@ fn rest<T: Threads + Sync, R: Rows + Sync, G: Gate + Sync>(
     }
 }
 
-// Whether so many leaves have too few members to pay for the start of threads, as far as all leaves have as many.
+// Whether so many leaves have too few members to pay for the start of threads, as far as all leaves have as many; or whether k is too great
+// for workers with lists of their own.
 fn is_little<R: Rows>(search: &Search<'_, R>, leaves: usize) -> bool {
+    if search.k() > MOST_RANKS_TO_SHARE {
+        return true;
+    }
     let count = u64::from(search.task().count());
     let all = u64::from(search.leaf_count()).max(1);
     let members = (leaves as u64).saturating_mul(count) / all;

@@ -57,6 +57,10 @@ pub(crate) const SHARE_TO_SWEEP: u64 = 8;
 /// one worker takes twice as long at least for so many members.
 pub(crate) const LEAST_MEMBERS_TO_SHARE: u64 = 8192;
 
+/// Up to which k these leaves are shared. Each worker has a list of its own, and before that holds k pairs no limit falls: four workers took
+/// nearly twice as long as one for three windows that lie 128 apart, for which the 511 nearest are found.
+pub(crate) const MOST_RANKS_TO_SHARE: u32 = 256;
+
 /// How many values all rows have, at least, to be shared where codes are swept or all rows are read.
 pub(crate) const LEAST_VALUES_TO_SHARE: u64 = 2_000_000;
 
