@@ -1,6 +1,6 @@
 // Scans of all series of a file in plain C for the nearest, with the last distance so far as the limit: the strongest that we
 // know, and the plain one by blocks. baseline NAME DATA QUERIES K prints microseconds over all queries, and a checksum.
-enum { ROUNDS = 3, MOST = 64 };
+enum { ROUNDS = 3, MOST = 1024 };
 #include <string.h>
 #ifndef POINTS
 #define POINTS 256
