@@ -122,9 +122,16 @@ fn passes<T: Threads + Wait + Sync>(
     Ok((status, gate.passes.load(Ordering::SeqCst)))
 }
 
-// Which write fails, and how often two workers have drawn queries by then, of 3000: before the first text they draw 64, 16 at a time, and each
-// once in vain; and once as many as are written are drawn where all of these are written, until no more are left.
-const AHEAD: [(u64, u64); 5] = [(1, 6), (64, 6), (65, 12), (129, 22), (2049, 202)];
+// Which write fails, and how often two workers have drawn queries by then, of 3000: before the first text they draw 32, eight at a time, and each
+// once in vain; and once as many as are written are drawn where all of these are written, 16 at a time from the 65th on, until no more are left.
+const AHEAD: [(u64, u64); 6] = [
+    (1, 6),
+    (32, 6),
+    (33, 12),
+    (65, 18),
+    (129, 28),
+    (2049, 208),
+];
 
 #[test]
 fn few_queries_are_ahead_of_the_text(rt: HostRuntime) -> Result<(), Fail> {
