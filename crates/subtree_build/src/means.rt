@@ -1,11 +1,12 @@
 //! The means of members and the codes of their rows, in the order of the members. Workers make them side by side, each for a
 //! stretch of members, and a row is fetched once for both: rows lie in another order, and building waits for them most.
-ghost use Rattle.std.specs.Prelude.{◌≡◌, ◌*◌, ◌^◌, ◌<◌, ◌≤◌, All, IfOk, length, vec_len};
+ghost use Rattle.std.specs.Prelude.{◌≡◌, ◌*◌, ◌^◌, ◌<◌, ◌≤◌, All, IfOk, length};
 ghost use Rattle.std.specs.Thread.{IsSync};
 ghost use Rattle.row_codes.specs.Rows.{block_count};
 ghost use Rattle.subtree_build.specs.Means.{AreFilled, HavePlaces, all_codes, all_means, all_values, coded_points};
 
 use crate::fetched::{FETCHED, fetch};
+use crate::room::{Room, room_for};
 use isax_word::{Layout, Member};
 use mean_bound::Means;
 use outside::NoMemory;
@@ -22,27 +23,11 @@ struct Source<'a, R> {
     coded: u32,
 }
 
-/// Room for the means and the codes of members, of whose rows so many values are coded.
-fn room_for(
-    alloc: Global,
-    members: &[Member],
-    coded: u32,
-) -> Result<(Vec<Means>, Vec<CodeBlock>), NoMemory>
-    requires short { coded ≤ 65536 }
-    requires few { length members.now < 2 ^ 32 }
-    ensures means { IfOk result (λ r. vec_len r.0 ≡ length members.now) }
-    ensures codes { IfOk result (λ r. vec_len r.1 ≡ length members.now * block_count coded) }
-{
-    let means = vec![in alloc; Means::zeros(); members.len()]?;
-    let places = members.len() * block_count(coded) as usize;
-    let codes = vec![in alloc; CodeBlock::zeros(); places]?;
-    Ok((means, codes))
-}
-
-/// The means of members, each of which is a series of the rows, and the codes of their rows, of which so many values are coded.
+/// The means of members, each of which is a series of the rows, and the codes of their rows, of which so many values are coded, in
+/// this room and what it lacks.
 pub(crate) fn means_of_all<H: Threads + Sync, R: Rows + Sync>(
     rt: &H,
-    alloc: Global,
+    room: Room,
     rows: &R,
     layout: &Layout,
     coded: u32,
@@ -57,7 +42,13 @@ pub(crate) fn means_of_all<H: Threads + Sync, R: Rows + Sync>(
     ensures means { IfOk result (λ r. r.0.items ≡ all_means (R.collection rows.now) layout.now members.now) }
     ensures codes { IfOk result (λ r. r.1.items ≡ all_codes (R.collection rows.now) members.now) }
 {
-    let (mut means, mut codes) = room_for(alloc, members, coded)?;
+    let mut room = room;
+    room.fit(members.len(), coded)?;
+    let Room {
+        mut means,
+        mut codes,
+        ..
+    } = room;
     let source = Source {
         rows,
         layout,
@@ -90,7 +81,11 @@ pub(crate) fn means_alone<R: Rows>(
     ensures means { IfOk result (λ r. r.0.items ≡ all_means (R.collection rows.now) layout.now members.now) }
     ensures codes { IfOk result (λ r. r.1.items ≡ all_codes (R.collection rows.now) members.now) }
 {
-    let (mut means, mut codes) = room_for(alloc, members, coded)?;
+    let Room {
+        mut means,
+        mut codes,
+        ..
+    } = room_for(alloc, members.len(), coded)?;
     let source = Source {
         rows,
         layout,
