@@ -91,7 +91,14 @@ pub(crate) fn means_alone<R: Rows>(
         layout,
         coded,
     };
-    fill_in_turn(&source, members, means.as_mut_slice(), codes.as_mut_slice());
+    let mut block = [0; FETCHED];
+    fill_in_turn(
+        &source,
+        members,
+        &mut block,
+        means.as_mut_slice(),
+        codes.as_mut_slice(),
+    );
     Ok((means, codes))
 }
 
@@ -110,7 +117,8 @@ fn fill<H: Threads + Sync, R: Rows + Sync>(
     ensures { AreFilled (R.collection source.now.rows.now) source.now.layout.now members.now means.new codes.new }
 {
     if workers < 2 {
-        fill_in_turn(source, members, means, codes);
+        let mut block = [0; FETCHED];
+        fill_in_turn(source, members, &mut block, means, codes);
         return;
     }
     let half = workers / 2;
@@ -135,10 +143,11 @@ fn fill<H: Threads + Sync, R: Rows + Sync>(
 }
 
 /// Puts the means and the codes of members at their places, by halves until the rows of the members fit a block: what is
-/// fetched together is waited for once.
+/// fetched together is waited for once. The block is lent for that, so that it is cleared once and not for each fetch.
 fn fill_in_turn<R: Rows>(
     source: &Source<'_, R>,
     members: &[Member],
+    block: &mut [i16; FETCHED],
     means: &mut [Means],
     codes: &mut [CodeBlock],
 )
@@ -158,7 +167,6 @@ fn fill_in_turn<R: Rows>(
         _ => {
             let values = members.len() * source.rows.length() as usize;
             if values <= FETCHED {
-                let mut block = [0; FETCHED];
                 fetch(source.rows, members, &mut block[..values]);
                 fill_from(source, &block[..values], members, means, codes);
                 return;
@@ -169,8 +177,8 @@ fn fill_in_turn<R: Rows>(
             let (low_codes, high_codes) = codes.split_at_mut(
                 mid * block_count(source.coded) as usize,
             );
-            fill_in_turn(source, low, low_means, low_codes);
-            fill_in_turn(source, high, high_means, high_codes);
+            fill_in_turn(source, low, block, low_means, low_codes);
+            fill_in_turn(source, high, block, high_means, high_codes);
         }
     }
 }
