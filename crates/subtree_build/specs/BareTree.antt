@@ -33,3 +33,9 @@ IsBareTreeOf c settings t = IsTreeOf c settings.layout settings.leaf_size (bare_
 -- each of its members is a series of the collection
 abbrev pub HasSeries : Collection → BareTree → Type 0
 HasSeries c t = All (λ m. m.number < length c.series) t.members.items
+
+-- it is the tree of the collection, each thing lies at its place, and its members are series of the collection
+pub record IsTreeBuilt (c : Collection) (settings : Settings) (t : BareTree) : Type 0 where
+  pub tree : IsBareTreeOf c settings t
+  pub bare : IsBare t
+  pub series : HasSeries c t

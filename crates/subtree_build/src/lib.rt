@@ -15,6 +15,7 @@ mod next_bits;
 mod node;
 mod part;
 mod phases;
+mod room;
 mod settings;
 mod splicing;
 mod split;

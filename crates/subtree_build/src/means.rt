@@ -1,11 +1,12 @@
 //! The means of members and the codes of their rows, in the order of the members. Workers make them side by side, each for a
 //! stretch of members, and a row is fetched once for both: rows lie in another order, and building waits for them most.
-ghost use Rattle.std.specs.Prelude.{◌≡◌, ◌*◌, ◌^◌, ◌<◌, ◌≤◌, All, IfOk, length, vec_len};
+ghost use Rattle.std.specs.Prelude.{◌≡◌, ◌*◌, ◌^◌, ◌<◌, ◌≤◌, All, IfOk, length};
 ghost use Rattle.std.specs.Thread.{IsSync};
 ghost use Rattle.row_codes.specs.Rows.{block_count};
 ghost use Rattle.subtree_build.specs.Means.{AreFilled, HavePlaces, all_codes, all_means, all_values, coded_points};
 
 use crate::fetched::{FETCHED, fetch};
+use crate::room::{Room, room_for};
 use isax_word::{Layout, Member};
 use mean_bound::Means;
 use outside::NoMemory;
@@ -22,27 +23,11 @@ struct Source<'a, R> {
     coded: u32,
 }
 
-/// Room for the means and the codes of members, of whose rows so many values are coded.
-fn room_for(
-    alloc: Global,
-    members: &[Member],
-    coded: u32,
-) -> Result<(Vec<Means>, Vec<CodeBlock>), NoMemory>
-    requires short { coded ≤ 65536 }
-    requires few { length members.now < 2 ^ 32 }
-    ensures means { IfOk result (λ r. vec_len r.0 ≡ length members.now) }
-    ensures codes { IfOk result (λ r. vec_len r.1 ≡ length members.now * block_count coded) }
-{
-    let means = vec![in alloc; Means::zeros(); members.len()]?;
-    let places = members.len() * block_count(coded) as usize;
-    let codes = vec![in alloc; CodeBlock::zeros(); places]?;
-    Ok((means, codes))
-}
-
-/// The means of members, each of which is a series of the rows, and the codes of their rows, of which so many values are coded.
+/// The means of members, each of which is a series of the rows, and the codes of their rows, of which so many values are coded, in
+/// this room and what it lacks.
 pub(crate) fn means_of_all<H: Threads + Sync, R: Rows + Sync>(
     rt: &H,
-    alloc: Global,
+    room: Room,
     rows: &R,
     layout: &Layout,
     coded: u32,
@@ -57,7 +42,13 @@ pub(crate) fn means_of_all<H: Threads + Sync, R: Rows + Sync>(
     ensures means { IfOk result (λ r. r.0.items ≡ all_means (R.collection rows.now) layout.now members.now) }
     ensures codes { IfOk result (λ r. r.1.items ≡ all_codes (R.collection rows.now) members.now) }
 {
-    let (mut means, mut codes) = room_for(alloc, members, coded)?;
+    let mut room = room;
+    room.fit(members.len(), coded)?;
+    let Room {
+        mut means,
+        mut codes,
+        ..
+    } = room;
     let source = Source {
         rows,
         layout,
@@ -90,13 +81,24 @@ pub(crate) fn means_alone<R: Rows>(
     ensures means { IfOk result (λ r. r.0.items ≡ all_means (R.collection rows.now) layout.now members.now) }
     ensures codes { IfOk result (λ r. r.1.items ≡ all_codes (R.collection rows.now) members.now) }
 {
-    let (mut means, mut codes) = room_for(alloc, members, coded)?;
+    let Room {
+        mut means,
+        mut codes,
+        ..
+    } = room_for(alloc, members.len(), coded)?;
     let source = Source {
         rows,
         layout,
         coded,
     };
-    fill_in_turn(&source, members, means.as_mut_slice(), codes.as_mut_slice());
+    let mut block = [0; FETCHED];
+    fill_in_turn(
+        &source,
+        members,
+        &mut block,
+        means.as_mut_slice(),
+        codes.as_mut_slice(),
+    );
     Ok((means, codes))
 }
 
@@ -115,7 +117,8 @@ fn fill<H: Threads + Sync, R: Rows + Sync>(
     ensures { AreFilled (R.collection source.now.rows.now) source.now.layout.now members.now means.new codes.new }
 {
     if workers < 2 {
-        fill_in_turn(source, members, means, codes);
+        let mut block = [0; FETCHED];
+        fill_in_turn(source, members, &mut block, means, codes);
         return;
     }
     let half = workers / 2;
@@ -140,10 +143,11 @@ fn fill<H: Threads + Sync, R: Rows + Sync>(
 }
 
 /// Puts the means and the codes of members at their places, by halves until the rows of the members fit a block: what is
-/// fetched together is waited for once.
+/// fetched together is waited for once. The block is lent for that, so that it is cleared once and not for each fetch.
 fn fill_in_turn<R: Rows>(
     source: &Source<'_, R>,
     members: &[Member],
+    block: &mut [i16; FETCHED],
     means: &mut [Means],
     codes: &mut [CodeBlock],
 )
@@ -163,7 +167,6 @@ fn fill_in_turn<R: Rows>(
         _ => {
             let values = members.len() * source.rows.length() as usize;
             if values <= FETCHED {
-                let mut block = [0; FETCHED];
                 fetch(source.rows, members, &mut block[..values]);
                 fill_from(source, &block[..values], members, means, codes);
                 return;
@@ -174,8 +177,8 @@ fn fill_in_turn<R: Rows>(
             let (low_codes, high_codes) = codes.split_at_mut(
                 mid * block_count(source.coded) as usize,
             );
-            fill_in_turn(source, low, low_means, low_codes);
-            fill_in_turn(source, high, high_means, high_codes);
+            fill_in_turn(source, low, block, low_means, low_codes);
+            fill_in_turn(source, high, block, high_means, high_codes);
         }
     }
 }

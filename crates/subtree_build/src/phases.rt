@@ -1,22 +1,26 @@
 //! The tree of a collection, built by workers in two phases, or by one worker alone in the caller's thread.
-ghost use Rattle.std.specs.Prelude.{◌≡◌, ◌≤◌, IfOk, vec_len};
+ghost use Rattle.std.specs.Prelude.{◌≡◌, ◌^◌, ◌<◌, ◌≤◌, IfOk, length, vec_len};
+ghost use Rattle.std.specs.Thread.{IsSync};
 ghost use Rattle.series_core.specs.Collection.{IsCollection};
 ghost use Rattle.subtree_build.specs.Fits.{Fits, IsTreeOf};
+ghost use Rattle.subtree_build.specs.BareTree.{IsTreeBuilt};
 ghost use Rattle.subtree_build.specs.Building.{HoldsRoots};
 ghost use Rattle.subtree_build.specs.Summaries.{HoldAllMembers};
 
 use crate::bare_tree::BareTree;
 use crate::building::{build_parts, build_parts_alone};
 use crate::index::Index;
+use crate::means::coded_length;
+use crate::room::{Room, room_for};
 use crate::settings::Settings;
 use crate::splicing::{RootLists, splice};
 use crate::summaries::{Summaries, root_numbers, summarise_all, summarise_alone};
-use crate::tables::{tables_alone, tables_of};
+use crate::tables::{tables_alone, tables_in};
 use isax_word::Layout;
 use outside::{Gate, NoMemory};
 use series_core::Rows;
 use std::alloc::Global;
-use std::thread::Threads;
+use std::thread::{Threads, join};
 
 /// Builds the tree of a collection with 1 to 64 workers: the one that the settings define, whatever the number of
 /// workers and whatever each of them draws. A worker alone starts no thread, and none waits for another within a
@@ -35,22 +39,72 @@ pub fn build<H: Threads + Sync, R: Rows + Sync, G: Gate + Sync>(
     ensures tree { IfOk result (IsTreeOf (R.collection rows.now) settings.now.layout settings.now.leaf_size) }
     ensures fits { IfOk result (Fits (R.collection rows.now) settings.now.layout) }
 {
-    let layout = &settings.layout;
-    let summaries = summarise_all(rt, alloc, rows, layout, workers, gate)?;
-    let (found, turns) = roots_in(alloc, rows, layout, summaries)?;
-    let parts = build_parts(rt, alloc, settings, &found, turns.as_slice(), gate)?;
-    let bare = BareTree::of_parts(alloc, rows, settings, found, parts)?;
+    let (bare, room) = tree_and_room(rt, alloc, rows, settings, workers, gate)?;
     let members = bare.members.as_slice();
-    let tables = tables_of(
+    let tables = tables_in(
         rt,
-        alloc,
+        room,
         rows,
-        layout,
+        &settings.layout,
         members,
         bare.leaves.as_slice(),
         workers,
     )?;
     Ok(Index::of_tree(rows, settings, bare, tables))
+}
+
+/// The tree without its tables, and room for these, which one thread more takes beside the workers: so nobody waits for it. A worker
+/// alone leaves the room to be taken behind the tree.
+fn tree_and_room<H: Threads + Sync, R: Rows + Sync, G: Gate + Sync>(
+    rt: &H,
+    alloc: Global,
+    rows: &R,
+    settings: &Settings,
+    workers: u32,
+    gate: &G,
+) -> Result<(BareTree, Room), NoMemory>
+    requires length { settings.now.layout.cuts.row_length ≡ (R.collection rows.now).points }
+    requires workers { (1 ≤ workers) × (workers ≤ 64) }
+    ensures { IfOk result (λ r. IsTreeBuilt (R.collection rows.now) settings.now r.0) }
+{
+    if workers < 2 {
+        let bare = bare_tree(rt, alloc, rows, settings, workers, gate)?;
+        return Ok((bare, Room::none(alloc)));
+    }
+    let count = rows.count() as usize;
+    let coded = coded_length(rows);
+    let (room, bare) = join(
+        rt,
+        || -> Result<Room, NoMemory>
+            requires { (coded ≤ 65536) × (count < 2 ^ 32) }
+        { room_for(alloc, count, coded) },
+        || -> Result<BareTree, NoMemory>
+            requires { IsSync H.row × IsSync R.row × IsSync G.row
+                × (settings.now.layout.cuts.row_length ≡ (R.collection rows.now).points) × (1 ≤ workers) × (workers ≤ 64) }
+            ensures { IfOk result (IsTreeBuilt (R.collection rows.entry.now) settings.entry.now) }
+        { bare_tree(rt, alloc, rows, settings, workers, gate) },
+    );
+    Ok((bare?, room?))
+}
+
+/// The tree without its tables.
+fn bare_tree<H: Threads + Sync, R: Rows + Sync, G: Gate + Sync>(
+    rt: &H,
+    alloc: Global,
+    rows: &R,
+    settings: &Settings,
+    workers: u32,
+    gate: &G,
+) -> Result<BareTree, NoMemory>
+    requires length { settings.now.layout.cuts.row_length ≡ (R.collection rows.now).points }
+    requires workers { (1 ≤ workers) × (workers ≤ 64) }
+    ensures { IfOk result (IsTreeBuilt (R.collection rows.now) settings.now) }
+{
+    let layout = &settings.layout;
+    let summaries = summarise_all(rt, alloc, rows, layout, workers, gate)?;
+    let (found, turns) = roots_in(alloc, rows, layout, summaries)?;
+    let parts = build_parts(rt, alloc, settings, &found, turns.as_slice(), gate)?;
+    BareTree::of_parts(alloc, rows, settings, found, parts)
 }
 
 /// Builds the same tree by one worker, in the caller's thread: it wants no leave to start threads, and passes no gate.

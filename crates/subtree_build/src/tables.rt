@@ -5,6 +5,7 @@ ghost use Rattle.subtree_build.specs.Places.{AreBoxes, AreTables, AreTablesOf, I
 use crate::boxes::{Boxes, boxes_of};
 use crate::leaf::LeafPlace;
 use crate::means::{coded_length, means_alone, means_of_all};
+use crate::room::Room;
 use isax_word::{Layout, Member};
 use mean_bound::Means;
 use outside::NoMemory;
@@ -62,8 +63,37 @@ pub(crate) fn tables_of<H: Threads + Sync, R: Rows + Sync>(
     requires some { 1 ≤ workers }
     ensures { IfOk result (AreTablesOf (R.collection rows.now) layout.now members.now places.now) }
 {
+    tables_in(
+        rt,
+        Room::none(alloc),
+        rows,
+        layout,
+        members,
+        places,
+        workers,
+    )
+}
+
+/// The same in this room, and what it lacks.
+pub(crate) fn tables_in<H: Threads + Sync, R: Rows + Sync>(
+    rt: &H,
+    room: Room,
+    rows: &R,
+    layout: &Layout,
+    members: &[Member],
+    places: &[LeafPlace],
+    workers: u32,
+) -> Result<Tables, NoMemory>
+    requires length { layout.now.cuts.row_length ≡ (R.collection rows.now).points }
+    requires series { All (λ m. m.number < length (R.collection rows.now).series) members.now }
+    requires few { length members.now < 2 ^ 32 }
+    requires places { All (IsPlace (length members.now)) places.now }
+    requires some { 1 ≤ workers }
+    ensures { IfOk result (AreTablesOf (R.collection rows.now) layout.now members.now places.now) }
+{
+    let alloc = room.alloc;
     let coded = coded_length(rows);
-    let (means, codes) = means_of_all(rt, alloc, rows, layout, coded, members, workers)?;
+    let (means, codes) = means_of_all(rt, room, rows, layout, coded, members, workers)?;
     with_boxes(alloc, means, block_count(coded), codes, places)
 }
 
