@@ -1,8 +1,8 @@
 //! The tree of a collection, built by workers in two phases, or by one worker alone in the caller's thread.
-ghost use Rattle.std.specs.Prelude.{◌≡◌, ◌≤◌, IfOk, vec_len};
+ghost use Rattle.std.specs.Prelude.{◌≡◌, ◌≤◌, IfOk, length, vec_len};
 ghost use Rattle.series_core.specs.Collection.{IsCollection};
 ghost use Rattle.subtree_build.specs.Fits.{Fits, IsTreeOf};
-ghost use Rattle.subtree_build.specs.Building.{HoldsRoots};
+ghost use Rattle.subtree_build.specs.Building.{CanBuild, HoldsRoots};
 ghost use Rattle.subtree_build.specs.Summaries.{HoldAllMembers};
 
 use crate::bare_tree::BareTree;
@@ -12,7 +12,6 @@ use crate::settings::Settings;
 use crate::splicing::{RootLists, splice};
 use crate::summaries::{Summaries, root_numbers, summarise_all, summarise_alone};
 use crate::tables::{tables_alone, tables_of};
-use isax_word::Layout;
 use outside::{Gate, NoMemory};
 use series_core::Rows;
 use std::alloc::Global;
@@ -37,19 +36,10 @@ pub fn build<H: Threads + Sync, R: Rows + Sync, G: Gate + Sync>(
 {
     let layout = &settings.layout;
     let summaries = summarise_all(rt, alloc, rows, layout, workers, gate)?;
-    let (found, turns) = roots_in(alloc, rows, layout, summaries)?;
+    let (found, turns) = roots_in(alloc, rows, settings, summaries)?;
     let parts = build_parts(rt, alloc, settings, &found, turns.as_slice(), gate)?;
     let bare = BareTree::of_parts(alloc, rows, settings, found, parts)?;
-    let members = bare.members.as_slice();
-    let tables = tables_of(
-        rt,
-        alloc,
-        rows,
-        layout,
-        members,
-        bare.leaves.as_slice(),
-        workers,
-    )?;
+    let tables = tables_of(rt, alloc, rows, layout, &bare, workers)?;
     Ok(Index::of_tree(rows, settings, bare, tables))
 }
 
@@ -61,11 +51,10 @@ pub fn build_alone<R: Rows>(alloc: Global, rows: &R, settings: &Settings) -> Res
 {
     let layout = &settings.layout;
     let summaries = summarise_alone(alloc, rows, layout)?;
-    let (found, _turns) = roots_in(alloc, rows, layout, summaries)?;
+    let (found, _turns) = roots_in(alloc, rows, settings, summaries)?;
     let parts = build_parts_alone(alloc, settings, &found)?;
     let bare = BareTree::of_parts(alloc, rows, settings, found, parts)?;
-    let members = bare.members.as_slice();
-    let tables = tables_alone(alloc, rows, layout, members, bare.leaves.as_slice())?;
+    let tables = tables_alone(alloc, rows, layout, &bare)?;
     Ok(Index::of_tree(rows, settings, bare, tables))
 }
 
@@ -73,16 +62,18 @@ pub fn build_alone<R: Rows>(alloc: Global, rows: &R, settings: &Settings) -> Res
 fn roots_in<R: Rows>(
     alloc: Global,
     rows: &R,
-    layout: &Layout,
+    settings: &Settings,
     summaries: Summaries,
 ) -> Result<(RootLists, Vec<u64>), NoMemory>
     requires sound { IsCollection (R.collection rows.now) }
-    requires members { HoldAllMembers layout.now (R.collection rows.now) summaries.buffers.items }
-    ensures roots { IfOk result (λ r. HoldsRoots layout.now (R.collection rows.now) r.0) }
+    requires members { HoldAllMembers settings.now.layout (R.collection rows.now) summaries.buffers.items }
+    ensures roots { IfOk result (λ r. HoldsRoots settings.now.layout (R.collection rows.now) r.0) }
+    ensures can { IfOk result (λ r. CanBuild settings.now r.0) }
+    ensures few { IfOk result (λ r. length r.0.roots.items ≤ 65536) }
     ensures turns { IfOk result (λ r. vec_len r.1 ≡ vec_len summaries.turns) }
 {
     let _ = rows;
-    let roots = root_numbers(layout);
+    let roots = root_numbers(&settings.layout);
     let Summaries { mut buffers, turns } = summaries;
     let found = splice(alloc, roots, buffers.as_mut_slice())?;
     Ok((found, turns))
