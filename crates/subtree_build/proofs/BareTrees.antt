@@ -10,7 +10,6 @@ use Rattle.series_core.specs.Collection.{Collection, IsCollection}
 use Rattle.isax_word.specs.declared.layout.Layout.{Layout}
 use Rattle.isax_word.specs.declared.member.Member.{Member}
 use Rattle.subtree_build.specs.declared.bare_tree.BareTree.{BareTree}
-use Rattle.subtree_build.specs.declared.leaf.GrownLeaf.{GrownLeaf}
 use Rattle.subtree_build.specs.declared.leaf.LeafPlace.{LeafPlace}
 use Rattle.subtree_build.specs.declared.leaf.TreeLeaf.{TreeLeaf}
 use Rattle.subtree_build.specs.declared.part.Joined.{Joined}

@@ -18,10 +18,6 @@ pub record IsDivided (p : Member → Bool) (all now waiting : List Member) (low 
   pub long : length now ≡ length all
   pub count : low + length waiting ≡ i
 
--- nothing is divided
-pub none_divided : (p : Member → Bool) (all : List Member) → IsDivided p all all [] 0 0
-none_divided p all = record { front = refl; others = refl; rest = refl; long = refl; count = refl }
-
 module _ (p : Member → Bool) (all now waiting : List Member) (low i : ℕ) (was : IsDivided p all now waiting low i)
     (m : Member) (is : m ≡ get_or now i m) (inside : i < length all) where
   -- the next member is the one that stood there

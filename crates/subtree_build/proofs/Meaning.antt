@@ -1,8 +1,8 @@
 -- Means in the order of all members: cut by the places of leaves they are those of the leaves (`means_are_own`), what holds of
 -- the members of all leaves holds of all members (`all_cut`), and one more stands behind (`map_push`); the means of a leaf
--- of an index that fits are those of its members (`means_of_leaf`), one by one (`means_of_one`).
-use Rattle.std.proofs.Common.{◌≡◌, ℕ, ◌+◌, ◌-◌, ◌*◌, ◌<◌, List, [], ◌∷◌, ◌++◌, length, take, drop, map, get_or, refl, sym, ap, ◌∙◌, subst, arith, All}
-use Rattle.std.proofs.lemmas.List.{length-map, take-append-drop, take-map, drop-map, map-append, take_more, take_all, take-append-le, length-drop, length-take-le, get_or-map, ext_get_or}
+-- of an index that fits are those of its members (`means_of_leaf`).
+use Rattle.std.proofs.Common.{◌≡◌, ℕ, ◌+◌, ◌-◌, ◌<◌, List, [], ◌∷◌, ◌++◌, length, take, drop, map, get_or, refl, sym, ap, ◌∙◌, subst, arith, All}
+use Rattle.std.proofs.lemmas.List.{take-append-drop, take-map, drop-map, map-append, take_more, take_all, take-append-le, length-drop, get_or-map, ext_get_or}
 use Rattle.std.proofs.lemmas.List.Elements.{All-nil, All-append, All-head, All-tail}
 use Rattle.series_core.specs.Collection.{Collection}
 use Rattle.isax_word.specs.declared.layout.Layout.{Layout}
@@ -64,16 +64,6 @@ pub means_of_leaf : (c : Collection) (layout : Layout) (ix : IndexParts) (l : �
 means_of_leaf c layout ix l fits real =
     ap (λ (ms : List (List (List ℕ))). means_at ms l) fits.own_means
     ∙ get_or-map (leaf_means c layout) ix.leaves l no_leaf [] real
-
--- and so for each of them
-pub means_of_one : (c : Collection) (layout : Layout) (members : List Member) (means : List (List ℕ)) (i : ℕ)
-    (m : Member) (own d : List ℕ) → means ≡ all_means c layout members → i < length members → m ≡ get_or members i m
-    → own ≡ get_or means i d → own ≡ means_of c layout m
-means_of_one c layout members means i m own d are inside item is =
-    is
-    ∙ ap (λ (ms : List (List ℕ)). get_or ms i d) are
-    ∙ get_or-map (means_of c layout) members i m d inside
-    ∙ ap (means_of c layout) (sym item)
 
 -- a list that was written over place by place with another one of its length is that one
 pub written_over : {X : Type 0} (d : X) (new old wanted : List X) (n : ℕ) → n ≡ length old → length new ≡ length old

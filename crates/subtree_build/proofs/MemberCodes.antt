@@ -1,7 +1,7 @@
 -- The codes of members in one row: no more values are coded than a series has (`coded_few`), each member has as many blocks (`length_codes`),
 -- cut by the places of leaves the codes are those of the leaves (`codes_are_own`), and those of a leaf of an index that fits are those of its
 -- members (`codes_of_leaf`), one by one (`codes_of_one`); so tables of members are tables (`tables_are`).
-use Rattle.std.proofs.Common.{◌≡◌, ℕ, ◌+◌, ◌-◌, ◌*◌, ◌/◌, ◌<◌, ◌≤◌, Bool, true, false, cond, ℤ, List, [], ◌∷◌, ◌++◌, length, take, drop, map, get_or, refl, sym, ap, ◌∙◌, subst, arith, All}
+use Rattle.std.proofs.Common.{◌≡◌, ℕ, ◌+◌, ◌-◌, ◌*◌, ◌<◌, ◌≤◌, Bool, true, false, cond, ℤ, List, [], ◌∷◌, ◌++◌, length, take, drop, map, get_or, refl, sym, ap, ◌∙◌, subst, arith, All}
 use Rattle.std.specs.Prelude.{ltb}
 use Rattle.std.proofs.lemmas.List.{get_or-map, length-map, length-take-le}
 use Rattle.std.proofs.lemmas.List.Elements.{All-drop, All-get_or}
@@ -12,7 +12,6 @@ use Rattle.row_codes.proofs.Below.{have_squares}
 use Rattle.isax_word.specs.declared.layout.Layout.{Layout}
 use Rattle.isax_word.specs.declared.member.Member.{Member}
 use Rattle.subtree_build.specs.declared.leaf.LeafPlace.{LeafPlace}
-use Rattle.subtree_build.specs.declared.leaf.TreeLeaf.{TreeLeaf}
 use Rattle.subtree_build.specs.declared.tables.Tables.{Tables}
 use Rattle.subtree_build.specs.Fits.{Fits}
 use Rattle.subtree_build.specs.Index.{IndexParts, leaf_at, no_leaf}

@@ -1,5 +1,5 @@
 //! Whether parts make an index. Nothing is believed of them: each fact that every index keeps is tested.
-ghost use Rattle.std.specs.Prelude.{◌≡◌, ℕ, ◌+◌, ◌^◌, ◌<◌, ◌≤◌, ◌↔◌, IsTrue, IsSome, IfSome, length};
+ghost use Rattle.std.specs.Prelude.{◌≡◌, ◌+◌, ◌^◌, ◌<◌, ◌≤◌, ◌↔◌, IsTrue, IsSome, IfSome, length};
 ghost use Rattle.std.specs.List.{All, range_with_len, flat_map};
 ghost use Rattle.subtree_build.specs.Assembly.{AllStand, AreNumbered, AreRoots, CanStand, MakeIndex};
 ghost use Rattle.subtree_build.specs.Outline.{outline, leaf_numbers};

@@ -1,8 +1,9 @@
 //! A tree but for the tables beside its members: what an index is made of before it has means and codes.
-ghost use Rattle.std.specs.Prelude.{◌≡◌, All, IfOk, length, map};
+ghost use Rattle.std.specs.Prelude.{◌≡◌, ◌^◌, ◌<◌, All, IfOk, length, map};
 ghost use Rattle.std.specs.List.{range_with_len};
 ghost use Rattle.subtree_build.specs.BareTree.{HasSeries, IsBare, IsBareTreeOf};
 ghost use Rattle.subtree_build.specs.Building.{HoldsRoots, IsPartAt};
+ghost use Rattle.subtree_build.specs.Places.{IsPlace};
 
 use crate::leaf::LeafPlace;
 use crate::node::Node;
@@ -40,6 +41,8 @@ impl BareTree {
         requires built { All (IsPartAt settings.now found) parts.items }
         ensures tree { IfOk result (IsBareTreeOf (R.collection rows.now) settings.now) }
         ensures bare { IfOk result IsBare }
+        ensures few { IfOk result (λ t. length t.members.items < 2 ^ 32) }
+        ensures places { IfOk result (λ t. All (IsPlace (length t.members.items)) t.leaves.items) }
         ensures series { IfOk result (HasSeries (R.collection rows.now)) }
     {
         let segments = settings.layout.cuts.segments();

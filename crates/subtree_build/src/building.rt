@@ -11,9 +11,8 @@ use crate::splicing::RootLists;
 use claim_word::Claims;
 use outside::{Gate, NoGate, NoMemory};
 use std::alloc::Global;
-use std::thread;
 use std::thread::Threads;
-use worker_team::{TeamWorker, dismiss, hire, joined};
+use worker_team::{TeamWorker, dismiss, for_each_mut, hire, joined};
 
 /// Draws root children until none is left, and builds each.
 fn built<G: Gate>(
@@ -60,33 +59,11 @@ fn run<H: Threads + Sync, G: Gate + Sync>(
     ensures own { All (λ w. w.pass.claims ≡ claims.now) team.new.items }
     ensures done { All (λ w. IfSome w.made (λ parts. HasBuilt settings.now found.now w.pass parts.items)) team.new.items }
 {
-    let workers = team.len();
-    thread::for_each_mut(
+    for_each_mut(
         rt,
         team.as_mut_slice(),
-        workers,
         &|_, worker| worker.made = built(alloc, settings, found, claims, gate, worker).ok(),
     );
-}
-
-/// A worker alone builds in this thread, and keeps what it made.
-fn run_alone(
-    alloc: Global,
-    settings: &Settings,
-    found: &RootLists,
-    claims: &Claims,
-    team: &mut Vec<TeamWorker<Vec<Part>>>,
-)
-    requires count { claims.now.count ≡ length found.now.roots.items }
-    requires found { CanBuild settings.now found.now }
-    requires one { vec_len team.old ≡ 1 }
-    requires fresh { All (λ w. w.pass ≡ fresh_pass claims.now) team.old.items }
-    ensures len { vec_len team.new ≡ vec_len team.old }
-    ensures own { All (λ w. w.pass.claims ≡ claims.now) team.new.items }
-    ensures done { All (λ w. IfSome w.made (λ parts. HasBuilt settings.now found.now w.pass parts.items)) team.new.items }
-{
-    let worker = &mut team[0];
-    worker.made = built(alloc, settings, found, claims, &NoGate, worker).ok();
 }
 
 /// The parts in the order of their places.
@@ -175,6 +152,7 @@ pub(crate) fn build_parts_alone(
     ensures built { IfOk result (λ parts. All (IsPartAt settings.now found.now) parts.items) }
 {
     let (claims, mut team) = begin(alloc, found, &[0])?;
-    run_alone(alloc, settings, found, &claims, &mut team);
+    let worker = &mut team[0];
+    worker.made = built(alloc, settings, found, &claims, &NoGate, worker).ok();
     end(alloc, settings, found, claims, team)
 }

@@ -8,7 +8,7 @@ ghost use Rattle.subtree_build.specs.BareTree.{HasSeries, IsBare, IsBareTreeOf, 
 ghost use Rattle.subtree_build.specs.Fits.{Fits, IsTreeOf};
 ghost use Rattle.subtree_build.specs.Index.{IsIndex, leaf_at, root_word_at};
 ghost use Rattle.subtree_build.specs.Means.{codes_at, means_at};
-ghost use Rattle.subtree_build.specs.Places.{AreTablesOf, IsRange};
+ghost use Rattle.subtree_build.specs.Places.{AreTablesOf, IsPlace, IsRange};
 ghost use Rattle.subtree_build.specs.Start.{node_at};
 ghost use Rattle.subtree_build.specs.declared.assembly.Assembly.TheVariants.{Parts};
 
@@ -124,9 +124,13 @@ impl Index {
         Index::of_bare(rows, &settings.layout, bare, tables)
     }
 
-    /// The tree of this index, without its tables.
-    fn into_bare(self) -> BareTree
+    /// The tree of this index, whose members are series of the rows, without its tables.
+    fn into_bare<R: Rows>(self, rows: &R) -> BareTree
+        requires { All (λ x. All (λ m. m.number < length (R.collection rows.now).series) x.members) self.leaves }
         ensures bare { IsBare result }
+        ensures few { length result.members.items < 2 ^ 32 }
+        ensures places { All (IsPlace (length result.members.items)) result.leaves.items }
+        ensures series { HasSeries (R.collection rows.now) result }
         ensures same { bare_parts result ≡ record self { means = []; codes = [] } }
     {
         let Index {
@@ -139,6 +143,7 @@ impl Index {
             tables,
         } = self;
         drop(tables);
+        let _ = rows;
         BareTree {
             segments,
             roots,
@@ -224,17 +229,8 @@ impl Index {
         requires some { 1 ≤ workers }
         ensures { IfOk result (HasMeansOf (R.collection rows.now) layout.now self) }
     {
-        let bare = self.into_bare();
-        let members = bare.members.as_slice();
-        let tables = tables_of(
-            rt,
-            alloc,
-            rows,
-            layout,
-            members,
-            bare.leaves.as_slice(),
-            workers,
-        )?;
+        let bare = self.into_bare(rows);
+        let tables = tables_of(rt, alloc, rows, layout, &bare, workers)?;
         Ok(Index::of_bare(rows, layout, bare, tables))
     }
 
@@ -249,9 +245,8 @@ impl Index {
         requires series { All (λ x. All (λ m. m.number < length (R.collection rows.now).series) x.members) self.leaves }
         ensures { IfOk result (HasMeansOf (R.collection rows.now) layout.now self) }
     {
-        let bare = self.into_bare();
-        let members = bare.members.as_slice();
-        let tables = tables_alone(alloc, rows, layout, members, bare.leaves.as_slice())?;
+        let bare = self.into_bare(rows);
+        let tables = tables_alone(alloc, rows, layout, &bare)?;
         Ok(Index::of_bare(rows, layout, bare, tables))
     }
 

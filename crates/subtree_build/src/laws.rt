@@ -1,6 +1,5 @@
 //! Laws of trees that searches rest on. Each is proved of the definitions alone.
 ghost use Rattle.std.specs.Prelude.{◌≡◌, ◌<◌, ◌≤◌, length, All};
-ghost use Rattle.isax_word.specs.Word.{word_contains};
 ghost use Rattle.lower_bound.specs.Bound.{view_of, word_bound};
 ghost use Rattle.subtree_build.specs.Fits.{Fits, IsNoNearerThan};
 ghost use Rattle.subtree_build.specs.Index.{StandsUnder, leaf_at};

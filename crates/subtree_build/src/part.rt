@@ -1,5 +1,5 @@
 //! The parts of the tree: a root child with all below it, as one worker builds it, and how parts are put together.
-ghost use Rattle.std.specs.Prelude.{◌≡◌, ℕ, ◌+◌, ◌^◌, ◌<◌, All, length, map, flat_map, IfOk, IsPermutation};
+ghost use Rattle.std.specs.Prelude.{◌≡◌, ◌+◌, ◌^◌, ◌<◌, All, length, map, flat_map, IfOk, IsPermutation};
 ghost use Rattle.list_totals.specs.Totals.{total};
 ghost use Rattle.subtree_build.specs.Building.{CanBuild, IsPartAt};
 ghost use Rattle.subtree_build.specs.Grown.{members_in};

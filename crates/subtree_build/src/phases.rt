@@ -4,7 +4,7 @@ ghost use Rattle.std.specs.Thread.{IsSync};
 ghost use Rattle.series_core.specs.Collection.{IsCollection};
 ghost use Rattle.subtree_build.specs.Fits.{Fits, IsTreeOf};
 ghost use Rattle.subtree_build.specs.BareTree.{IsTreeBuilt};
-ghost use Rattle.subtree_build.specs.Building.{HoldsRoots};
+ghost use Rattle.subtree_build.specs.Building.{CanBuild, HoldsRoots};
 ghost use Rattle.subtree_build.specs.Summaries.{HoldAllMembers};
 
 use crate::bare_tree::BareTree;
@@ -16,7 +16,6 @@ use crate::settings::Settings;
 use crate::splicing::{RootLists, splice};
 use crate::summaries::{Summaries, root_numbers, summarise_all, summarise_alone};
 use crate::tables::{tables_alone, tables_in};
-use isax_word::Layout;
 use outside::{Gate, NoMemory};
 use series_core::Rows;
 use std::alloc::Global;
@@ -40,16 +39,7 @@ pub fn build<H: Threads + Sync, R: Rows + Sync, G: Gate + Sync>(
     ensures fits { IfOk result (Fits (R.collection rows.now) settings.now.layout) }
 {
     let (bare, room) = tree_and_room(rt, alloc, rows, settings, workers, gate)?;
-    let members = bare.members.as_slice();
-    let tables = tables_in(
-        rt,
-        room,
-        rows,
-        &settings.layout,
-        members,
-        bare.leaves.as_slice(),
-        workers,
-    )?;
+    let tables = tables_in(rt, room, rows, &settings.layout, &bare, workers)?;
     Ok(Index::of_tree(rows, settings, bare, tables))
 }
 
@@ -100,9 +90,8 @@ fn bare_tree<H: Threads + Sync, R: Rows + Sync, G: Gate + Sync>(
     requires workers { (1 ≤ workers) × (workers ≤ 64) }
     ensures { IfOk result (IsTreeBuilt (R.collection rows.now) settings.now) }
 {
-    let layout = &settings.layout;
-    let summaries = summarise_all(rt, alloc, rows, layout, workers, gate)?;
-    let (found, turns) = roots_in(alloc, rows, layout, summaries)?;
+    let summaries = summarise_all(rt, alloc, rows, &settings.layout, workers, gate)?;
+    let (found, turns) = roots_in(alloc, rows, settings, summaries)?;
     let parts = build_parts(rt, alloc, settings, &found, turns.as_slice(), gate)?;
     BareTree::of_parts(alloc, rows, settings, found, parts)
 }
@@ -115,11 +104,10 @@ pub fn build_alone<R: Rows>(alloc: Global, rows: &R, settings: &Settings) -> Res
 {
     let layout = &settings.layout;
     let summaries = summarise_alone(alloc, rows, layout)?;
-    let (found, _turns) = roots_in(alloc, rows, layout, summaries)?;
+    let (found, _turns) = roots_in(alloc, rows, settings, summaries)?;
     let parts = build_parts_alone(alloc, settings, &found)?;
     let bare = BareTree::of_parts(alloc, rows, settings, found, parts)?;
-    let members = bare.members.as_slice();
-    let tables = tables_alone(alloc, rows, layout, members, bare.leaves.as_slice())?;
+    let tables = tables_alone(alloc, rows, layout, &bare)?;
     Ok(Index::of_tree(rows, settings, bare, tables))
 }
 
@@ -127,16 +115,18 @@ pub fn build_alone<R: Rows>(alloc: Global, rows: &R, settings: &Settings) -> Res
 fn roots_in<R: Rows>(
     alloc: Global,
     rows: &R,
-    layout: &Layout,
+    settings: &Settings,
     summaries: Summaries,
 ) -> Result<(RootLists, Vec<u64>), NoMemory>
     requires sound { IsCollection (R.collection rows.now) }
-    requires members { HoldAllMembers layout.now (R.collection rows.now) summaries.buffers.items }
-    ensures roots { IfOk result (λ r. HoldsRoots layout.now (R.collection rows.now) r.0) }
+    requires members { HoldAllMembers settings.now.layout (R.collection rows.now) summaries.buffers.items }
+    ensures roots { IfOk result (λ r. HoldsRoots settings.now.layout (R.collection rows.now) r.0) }
+    ensures can { IfOk result (λ r. CanBuild settings.now r.0) }
+    ensures few { IfOk result (λ r. length r.0.roots.items ≤ 65536) }
     ensures turns { IfOk result (λ r. vec_len r.1 ≡ vec_len summaries.turns) }
 {
     let _ = rows;
-    let roots = root_numbers(layout);
+    let roots = root_numbers(&settings.layout);
     let Summaries { mut buffers, turns } = summaries;
     let found = splice(alloc, roots, buffers.as_mut_slice())?;
     Ok((found, turns))

@@ -1,6 +1,6 @@
 //! A whole subtree: the members under a word are divided in place, until those of each leaf lie side by side in the order of
 //! the leaves. Members that ascend by number still do so in each leaf.
-ghost use Rattle.std.specs.Prelude.{◌≡◌, ℕ, ◌+◌, ◌*◌, ◌^◌, ◌<◌, ◌≤◌, ◌++◌, ◌⊎◌, length, vec_len, filter, count_by, IfOk, IfSome, IfNone};
+ghost use Rattle.std.specs.Prelude.{◌≡◌, ◌+◌, ◌*◌, ◌^◌, ◌<◌, ◌≤◌, ◌++◌, ◌⊎◌, length, vec_len, filter, count_by, IfOk, IfSome, IfNone};
 ghost use Rattle.subtree_build.specs.Division.{node_of, bits_left};
 ghost use Rattle.subtree_build.specs.Grown.{IsGrown, IsPut, grown_leaf};
 ghost use Rattle.subtree_build.specs.Members.{HaveSegments};

@@ -1,5 +1,5 @@
 //! The first phase: workers summarise the collection side by side, or one alone in this thread, each into buffers of its own.
-ghost use Rattle.std.specs.Prelude.{◌≡◌, ◌^◌, ◌<◌, ◌≤◌, None, All, IfOk, IfSome, length, vec_len};
+ghost use Rattle.std.specs.Prelude.{◌≡◌, ◌^◌, ◌<◌, ◌≤◌, All, IfOk, IfSome, length, vec_len};
 ghost use Rattle.claim_word.specs.Passes.{fresh_pass};
 ghost use Rattle.segment_sums.specs.Division.{IsDivision};
 ghost use Rattle.series_core.specs.Collection.{IsCollection};
@@ -11,10 +11,9 @@ use isax_word::Layout;
 use outside::{Gate, NoGate, NoMemory};
 use series_core::Rows;
 use std::alloc::Global;
-use std::thread;
 use std::thread::Threads;
 use summary_phase::{Buffers, chunks, summarise};
-use worker_team::{TeamWorker, dismiss, hire};
+use worker_team::{TeamWorker, dismiss, for_each_mut, hire};
 
 /// What all workers made: buffers for each, and how many turns each took.
 #[derive(Drop)]
@@ -80,33 +79,11 @@ fn run<H: Threads + Sync, R: Rows + Sync, G: Gate + Sync>(
     ensures own { All (λ w. w.pass.claims ≡ claims.now) team.new.items }
     ensures done { All (λ w. IfSome w.made (HasSummarised layout.now (R.collection rows.now) w.pass)) team.new.items }
 {
-    let workers = team.len();
-    thread::for_each_mut(
+    for_each_mut(
         rt,
         team.as_mut_slice(),
-        workers,
         &|_, worker| worker.made = summarised(alloc, rows, layout, claims, gate, worker).ok(),
     );
-}
-
-/// A worker alone summarises in this thread, and keeps what it made.
-fn run_alone<R: Rows>(
-    alloc: Global,
-    rows: &R,
-    layout: &Layout,
-    claims: &Claims,
-    team: &mut Vec<TeamWorker<Buffers>>,
-)
-    requires length { layout.now.cuts.row_length ≡ (R.collection rows.now).points }
-    requires chunks { claims.now.count ≡ chunk_count (length (R.collection rows.now).series) }
-    requires one { vec_len team.old ≡ 1 }
-    requires fresh { All (λ w. w.pass ≡ fresh_pass claims.now) team.old.items }
-    ensures len { vec_len team.new ≡ vec_len team.old }
-    ensures own { All (λ w. w.pass.claims ≡ claims.now) team.new.items }
-    ensures done { All (λ w. IfSome w.made (HasSummarised layout.now (R.collection rows.now) w.pass)) team.new.items }
-{
-    let worker = &mut team[0];
-    worker.made = summarised(alloc, rows, layout, claims, &NoGate, worker).ok();
 }
 
 /// How many turns each worker took.
@@ -194,6 +171,7 @@ pub(crate) fn summarise_alone<R: Rows>(
     ensures sound { IsCollection (R.collection rows.now) }
 {
     let (claims, mut team) = begin(alloc, rows, 1)?;
-    run_alone(alloc, rows, layout, &claims, &mut team);
+    let worker = &mut team[0];
+    worker.made = summarised(alloc, rows, layout, &claims, &NoGate, worker).ok();
     end(alloc, rows, layout, claims, team)
 }

@@ -1,7 +1,9 @@
 //! The tables beside the members of an index: their means, the codes of their rows, and the boxes of the leaves' means.
 ghost use Rattle.std.specs.Prelude.{◌≡◌, ◌<◌, ◌≤◌, ◌^◌, All, IfOk, length};
+ghost use Rattle.subtree_build.specs.BareTree.{HasSeries};
 ghost use Rattle.subtree_build.specs.Places.{AreBoxes, AreTables, AreTablesOf, IsPlace};
 
+use crate::bare_tree::BareTree;
 use crate::boxes::{Boxes, boxes_of};
 use crate::leaf::LeafPlace;
 use crate::means::{coded_length, means_alone, means_of_all};
@@ -46,32 +48,23 @@ fn with_boxes(
     })
 }
 
-/// The tables of members, each of which is a series of the rows, and of the places of leaves among them.
+/// The tables of a bare tree, each of whose members is a series of the rows.
 pub(crate) fn tables_of<H: Threads + Sync, R: Rows + Sync>(
     rt: &H,
     alloc: Global,
     rows: &R,
     layout: &Layout,
-    members: &[Member],
-    places: &[LeafPlace],
+    bare: &BareTree,
     workers: u32,
 ) -> Result<Tables, NoMemory>
     requires length { layout.now.cuts.row_length ≡ (R.collection rows.now).points }
-    requires series { All (λ m. m.number < length (R.collection rows.now).series) members.now }
-    requires few { length members.now < 2 ^ 32 }
-    requires places { All (IsPlace (length members.now)) places.now }
+    requires series { HasSeries (R.collection rows.now) bare.now }
+    requires few { length bare.now.members.items < 2 ^ 32 }
+    requires places { All (IsPlace (length bare.now.members.items)) bare.now.leaves.items }
     requires some { 1 ≤ workers }
-    ensures { IfOk result (AreTablesOf (R.collection rows.now) layout.now members.now places.now) }
+    ensures { IfOk result (AreTablesOf (R.collection rows.now) layout.now bare.now.members.items bare.now.leaves.items) }
 {
-    tables_in(
-        rt,
-        Room::none(alloc),
-        rows,
-        layout,
-        members,
-        places,
-        workers,
-    )
+    tables_in(rt, Room::none(alloc), rows, layout, bare, workers)
 }
 
 /// The same in this room, and what it lacks.
@@ -80,21 +73,34 @@ pub(crate) fn tables_in<H: Threads + Sync, R: Rows + Sync>(
     room: Room,
     rows: &R,
     layout: &Layout,
-    members: &[Member],
-    places: &[LeafPlace],
+    bare: &BareTree,
     workers: u32,
 ) -> Result<Tables, NoMemory>
     requires length { layout.now.cuts.row_length ≡ (R.collection rows.now).points }
-    requires series { All (λ m. m.number < length (R.collection rows.now).series) members.now }
-    requires few { length members.now < 2 ^ 32 }
-    requires places { All (IsPlace (length members.now)) places.now }
+    requires series { HasSeries (R.collection rows.now) bare.now }
+    requires few { length bare.now.members.items < 2 ^ 32 }
+    requires places { All (IsPlace (length bare.now.members.items)) bare.now.leaves.items }
     requires some { 1 ≤ workers }
-    ensures { IfOk result (AreTablesOf (R.collection rows.now) layout.now members.now places.now) }
+    ensures { IfOk result (AreTablesOf (R.collection rows.now) layout.now bare.now.members.items bare.now.leaves.items) }
 {
     let alloc = room.alloc;
     let coded = coded_length(rows);
-    let (means, codes) = means_of_all(rt, room, rows, layout, coded, members, workers)?;
-    with_boxes(alloc, means, block_count(coded), codes, places)
+    let (means, codes) = means_of_all(
+        rt,
+        room,
+        rows,
+        layout,
+        coded,
+        bare.members.as_slice(),
+        workers,
+    )?;
+    with_boxes(
+        alloc,
+        means,
+        block_count(coded),
+        codes,
+        bare.leaves.as_slice(),
+    )
 }
 
 /// The same by a worker alone, in this thread.
@@ -102,18 +108,24 @@ pub(crate) fn tables_alone<R: Rows>(
     alloc: Global,
     rows: &R,
     layout: &Layout,
-    members: &[Member],
-    places: &[LeafPlace],
+    bare: &BareTree,
 ) -> Result<Tables, NoMemory>
     requires length { layout.now.cuts.row_length ≡ (R.collection rows.now).points }
-    requires series { All (λ m. m.number < length (R.collection rows.now).series) members.now }
-    requires few { length members.now < 2 ^ 32 }
-    requires places { All (IsPlace (length members.now)) places.now }
-    ensures { IfOk result (AreTablesOf (R.collection rows.now) layout.now members.now places.now) }
+    requires series { HasSeries (R.collection rows.now) bare.now }
+    requires few { length bare.now.members.items < 2 ^ 32 }
+    requires places { All (IsPlace (length bare.now.members.items)) bare.now.leaves.items }
+    ensures { IfOk result (AreTablesOf (R.collection rows.now) layout.now bare.now.members.items bare.now.leaves.items) }
 {
     let coded = coded_length(rows);
+    let members = bare.members.as_slice();
     let (means, codes) = means_alone(alloc, rows, layout, coded, members)?;
-    with_boxes(alloc, means, block_count(coded), codes, places)
+    with_boxes(
+        alloc,
+        means,
+        block_count(coded),
+        codes,
+        bare.leaves.as_slice(),
+    )
 }
 
 /// Tables of members and of the places of leaves among them, by no rows: every mean is 0, and there are no codes.

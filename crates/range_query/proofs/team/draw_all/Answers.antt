@@ -7,17 +7,15 @@ use Rattle.range_query.proofs.team.draw_all.Goals as goal
 
 pub loop-drawn-preserved : goal.loop-drawn-preserved
 loop-drawn-preserved g c =
-    let was = c.loop-drawn.invariant in
     let drawn = c.in-Some.ensures.drawn in
     let met = ap (λ (p : Pass). p.met) drawn in
-    let number = c.in-Some.ensures.number in
     record {
-      own = ap (λ (p : Pass). p.claims) drawn ∙ was.own;
-      goes_on = ap (λ (p : Pass). p.ended) drawn ∙ was.goes_on;
-      met = omega (arith, met);
+      own = ap (λ (p : Pass). p.claims) drawn ∙ c.loop-drawn.invariant.own;
+      goes_on = ap (λ (p : Pass). p.ended) drawn ∙ c.loop-drawn.invariant.goes_on;
+      met = omega (arith, met, c.in-Some.ensures.number.0);
       all_near =
           drawn_more (asked_of g.R.Rows.collection c.args.search.now) c.args.search.now.index.now
           c.args.search.now.size c.loop-drawn.worker.pass.draws c.draw.new.pass.draws c.in-Some.drawn
-          c.loop-drawn.found.items c.search_group.new.found.items was.all_near
+          c.loop-drawn.found.items c.search_group.new.found.items c.loop-drawn.invariant.all_near
           (ap (λ (p : Pass). p.draws) drawn) c.in_ok-search_group.ensures;
     }

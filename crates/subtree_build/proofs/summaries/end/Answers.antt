@@ -1,5 +1,5 @@
 -- All chunks were drawn, each once, so the buffers together hold all members.
-use Rattle.std.proofs.Common.{◌≡◌, ℕ, length, subst}
+use Rattle.std.proofs.Common.{◌≡◌, ℕ, subst}
 use Rattle.claim_word.specs.Passes.{EachDrawnOnce}
 use Rattle.worker_team.proofs.Deeds.{each_did}
 use Rattle.subtree_build.proofs.Passed.{passes_own, some_passes}

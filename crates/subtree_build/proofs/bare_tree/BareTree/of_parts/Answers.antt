@@ -17,7 +17,9 @@ use Rattle.subtree_build.proofs.Assembling.{within_all, few_parts, nodes_are, fi
 use Rattle.subtree_build.proofs.BareTrees.{IsJoined, few_joined, bare_of, series_of}
 use Rattle.subtree_build.proofs.Joining.{part_leaves, part_members}
 use Rattle.subtree_build.proofs.Placed.{tree_is_seen}
+use Rattle.subtree_build.proofs.bare_tree.BareTree.of_parts.Given as given
 use Rattle.subtree_build.proofs.bare_tree.BareTree.of_parts.Goals as goal
+use Rattle.subtree_build.proofs.bare_tree.BareTree.of_parts.Goals.{In_ok-joined}
 
 pub join_parts-requires-clause-within : goal.join_parts-requires-clause-within
 join_parts-requires-clause-within g c =
@@ -44,48 +46,45 @@ is_joined settings rows found parts joined holds places built nodes firsts leave
   whole = ap members_in leaves ∙ whole_all settings found parts built ∙ ap (λ (ms : List Member). length ms) (sym members);
 }
 
+-- and here they were put together
+own : (g : given.Over) (c : In_ok-joined g)
+    → IsJoined (g.R.Rows.collection c.args.rows.now) c.args.settings.now.layout c.args.settings.now.leaf_size c.in_ok-joined.joined
+own g c =
+    let is = c.in_ok-joined.ensures in
+    is_joined c.args.settings.now (g.R.Rows.collection c.args.rows.now) c.args.found c.args.parts.items c.in_ok-joined.joined
+    c.requires.roots c.requires.places c.requires.built is.nodes is.firsts is.leaves is.members
+
 pub placed-requires : goal.placed-requires
 placed-requires g c =
-    let rows = g.R.Rows.collection c.args.rows.now in
-    let settings = c.args.settings.now in
-    let joined = c.in_ok-joined.joined in
-    let own = c.in_ok-joined.ensures in
-    let is = is_joined settings rows c.args.found c.args.parts.items joined c.requires.roots c.requires.places c.requires.built
-    own.nodes own.firsts own.leaves own.members in
+    let layout = c.args.settings.now.layout in
     let P : List GrownLeaf → Type 0 = λ ls. members_in ls < 2 ^ 32 in
     subst P (sym c.as_slice.ensures.value)
-    (few_joined rows settings.layout settings.leaf_size joined c.segments-segments.ensures.divides c.requires.roots.sound is)
+    (few_joined (g.R.Rows.collection c.args.rows.now) layout c.args.settings.now.leaf_size c.in_ok-joined.joined
+    c.segments-segments.ensures.divides c.requires.roots.sound (own g (goal.at.placed-requires g c).In_ok-joined))
 
 pub returns-clause-tree : goal.returns-clause-tree
 returns-clause-tree g c =
-    let rows = g.R.Rows.collection c.args.rows.now in
+    let is = own g (goal.at.returns-clause-tree g c).In_ok-joined in
     let settings = c.args.settings.now in
-    let joined = c.in_ok-joined.joined in
-    let own = c.in_ok-joined.ensures in
-    let is = is_joined settings rows c.args.found c.args.parts.items joined c.requires.roots c.requires.places c.requires.built
-    own.nodes own.firsts own.leaves own.members in
-    tree_is_seen rows settings.layout settings.leaf_size c.segments-segments.result c.args.found.roots.items joined
-    c.in_ok-leaves.leaves.items [] [] c.segments-segments.ensures.value c.requires.roots.roots is.nodes is.leaves
-    (c.in_ok-leaves.ensures ∙ ap (places_from 0) c.as_slice.ensures.value)
+    tree_is_seen (g.R.Rows.collection c.args.rows.now) settings.layout settings.leaf_size c.segments-segments.result
+    c.args.found.roots.items c.in_ok-joined.joined c.in_ok-leaves.leaves.items [] [] c.segments-segments.ensures.value
+    c.requires.roots.roots is.nodes is.leaves (c.in_ok-leaves.ensures ∙ ap (places_from 0) c.as_slice.ensures.value)
 
 pub returns-clause-bare : goal.returns-clause-bare
 returns-clause-bare g c =
-    let rows = g.R.Rows.collection c.args.rows.now in
-    let settings = c.args.settings.now in
-    let joined = c.in_ok-joined.joined in
-    let own = c.in_ok-joined.ensures in
-    let is = is_joined settings rows c.args.found c.args.parts.items joined c.requires.roots c.requires.places c.requires.built
-    own.nodes own.firsts own.leaves own.members in
-    bare_of rows settings.layout settings.leaf_size c.segments-segments.result c.args.found.roots joined c.in_ok-leaves.leaves
+    let is = own g (goal.at.returns-clause-bare g c).In_ok-joined in
+    bare_of (g.R.Rows.collection c.args.rows.now) c.args.settings.now.layout c.args.settings.now.leaf_size
+    c.segments-segments.result c.args.found.roots c.in_ok-joined.joined c.in_ok-leaves.leaves
     c.segments-segments.ensures.divides c.requires.roots.sound is c.segments-segments.ensures.value c.requires.roots.roots
     (c.in_ok-leaves.ensures ∙ ap (places_from 0) c.as_slice.ensures.value)
 
+pub returns-clause-few : goal.returns-clause-few
+returns-clause-few g c = (returns-clause-bare g c).seen.few
+
+pub returns-clause-places : goal.returns-clause-places
+returns-clause-places g c = (returns-clause-bare g c).places
+
 pub returns-clause-series : goal.returns-clause-series
 returns-clause-series g c =
-    let rows = g.R.Rows.collection c.args.rows.now in
-    let settings = c.args.settings.now in
-    let joined = c.in_ok-joined.joined in
-    let own = c.in_ok-joined.ensures in
-    let is = is_joined settings rows c.args.found c.args.parts.items joined c.requires.roots c.requires.places c.requires.built
-    own.nodes own.firsts own.leaves own.members in
-    series_of rows settings.layout settings.leaf_size joined is
+    series_of (g.R.Rows.collection c.args.rows.now) c.args.settings.now.layout c.args.settings.now.leaf_size
+    c.in_ok-joined.joined (own g (goal.at.returns-clause-series g c).In_ok-joined)
