@@ -1,6 +1,6 @@
 -- What is found of queries, each filled up: one place more is filled (`fill_more`), one query more is answered (`next_query`), and all have
--- as many pairs as are wanted of each (`length_filled_all`).
-use Rattle.std.proofs.Common.{◌≡◌, ℕ, true, zero, suc, ◌+◌, ◌-◌, ◌*◌, ◌≤◌, ℤ, List, [], ◌∷◌, ◌++◌, length, take, drop, sym, ap, ◌∙◌, append_assoc, length-append, arith}
+-- as many pairs as are wanted of each (`length_filled_all`, `found_fill`).
+use Rattle.std.proofs.Common.{◌≡◌, ℕ, true, zero, suc, ◌+◌, ◌-◌, ◌*◌, ◌/◌, ◌≤◌, ℤ, List, [], ◌∷◌, ◌++◌, length, take, drop, sym, ap, ◌∙◌, append_assoc, length-append, arith}
 use Rattle.std.specs.Prelude.{replicate}
 use Rattle.std.specs.List.{flat_map}
 use Rattle.std.specs.Prelude.{Option, None, Some, find}
@@ -15,7 +15,7 @@ use Rattle.series_core.specs.Pairs.{ascending}
 use Rattle.series_core.proofs.Plain.{answer-smallest}
 use Rattle.window_rows.specs.Choice.{chosen_apart, is_apart_from}
 use Rattle.isearch_c.specs.declared.answers.Asked.{Asked}
-use Rattle.isearch_c.specs.Found.{filled, found_by, nothing, wanted_of}
+use Rattle.isearch_c.specs.Found.{answers, filled, found_by, nothing, queries_in, wanted_of}
 
 -- one place more
 pub fill_more : (had pairs found more : List Pair) (n m : ℕ) → m ≡ n + 1 → found ≡ had ++ (pairs ++ replicate n nothing)
@@ -52,7 +52,7 @@ module _ (f : List ℤ → List Pair) (k : ℕ) where
         omega (arith, no_more, length-append (f q) (replicate (k - length (f q)) nothing), length-replicate (k - length (f q)) nothing)
 
     -- of all
-    pub length_filled_all : (n count : ℕ) (values : List ℤ) → length (all_filled (rows_of n count values)) ≡ count * k
+    length_filled_all : (n count : ℕ) (values : List ℤ) → length (all_filled (rows_of n count values)) ≡ count * k
     length_filled_all n zero values = omega arith
     length_filled_all n (suc count) values =
         let here = length_filled (take n values) in
@@ -65,7 +65,7 @@ pub shorter : (n m left size : ℕ) → left ≡ suc m → size ≡ left * n →
 shorter n m left size next is = omega (arith, is, ap (λ k. k * n) next)
 
 -- as many places as are wanted
-pub places_are : (queries k distances numbers : ℕ) → true ≡ places_fit queries k distances numbers
+places_are : (queries k distances numbers : ℕ) → true ≡ places_fit queries k distances numbers
     → (distances ≡ queries * k) × (numbers ≡ queries * k)
 places_are queries k distances numbers fit = grind arith
 
@@ -97,3 +97,16 @@ few_found (Some far) k c q = few_chosen far (answer c q (length c.series)) k
 
 pub few_wanted : (asked : Asked) (c : Collection) (q : List ℤ) → length (wanted_of asked c q) ≤ asked.k
 few_wanted asked c q = few_found asked.apart asked.k c q
+
+-- where there are as many places as are wanted of all queries, there are as many as pairs that were found, as they are seen
+pub found_fill : (asked : Asked) (c : Collection) (n count : ℕ) (queries : List ℤ) (found seen : List Pair) (distances numbers : ℕ)
+    → true ≡ places_fit count asked.k distances numbers → count ≡ length queries / n
+    → found ≡ answers asked c (queries_in n queries) → seen ≡ found
+    → (distances ≡ length seen) × (numbers ≡ length seen)
+found_fill asked c n count queries found seen distances numbers fit whole is same =
+    let wanted = places_are count asked.k distances numbers fit in
+    let filled : count * asked.k ≡ length seen
+    = ap (λ m. m * asked.k) whole
+    ∙ sym (length_filled_all (wanted_of asked c) asked.k (few_wanted asked c) n (length queries / n) queries)
+    ∙ ap (λ (ps : List Pair). length ps) (sym is ∙ sym same) in
+    (wanted.0 ∙ filled, wanted.1 ∙ filled)

@@ -1,12 +1,12 @@
 //! The answers to many queries, as many pairs for each as are wanted. Its one rule: all of them stand in memory before any place of the
 //! caller's is written.
-ghost use Rattle.std.specs.Prelude.{◌≡◌, ◌<◌, ◌≤◌, ◌*◌, ◌/◌, ◌++◌, true, None, Some, IfOk, IfSome, OnOk, length, replicate};
+ghost use Rattle.std.specs.Prelude.{◌≡◌, ◌<◌, ◌≤◌, ◌*◌, ◌/◌, ◌++◌, None, Some, IfOk, IfSome, OnOk, length};
 ghost use Rattle.series_core.specs.declared.best.TheConstants.{MAX_BEST};
 ghost use Rattle.subtree_build.specs.Fits.{Fits};
 ghost use Rattle.series_core.specs.Answer.{answer};
 ghost use Rattle.window_rows.specs.Choice.{chosen_apart, enough};
 ghost use Rattle.isearch_c.specs.Faults.{count_fits, places_fit, queries_fit};
-ghost use Rattle.isearch_c.specs.Found.{Hold, answers, filled, nothing, queries_in, wanted_of};
+ghost use Rattle.isearch_c.specs.Found.{Hold, answers, filled, queries_in, wanted_of};
 
 use isax_word::Layout;
 use nearest_answer::one_worker_answer;
