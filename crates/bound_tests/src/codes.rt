@@ -1,5 +1,6 @@
 //! Worked rows, whose expected bounds were found by hand or by a small program apart from the crate; and rows of many lengths against a
 //! plain computation of their bounds, one value at a time and with a division for each.
+use crate::claims::assert_same;
 use crate::drawn::scattered;
 use row_codes::{
     CodeBlock, CodeLimit, CodeView, block_count, code_row, codes_have_squares, four_within,
@@ -25,24 +26,17 @@ fn compare(
     );
     let count = block_count(length as u32) as usize;
     let mut codes = vec![in alloc; CodeBlock::zeros(); count]?;
-    assert_eq!(rt; codes.len(), count);
+    assert!(rt; codes.len() == count, "{count} blocks");
     code_row(row, &mut codes);
     codes_have_squares(row);
     let view = CodeView::new(query);
-    assert!(rt;
-        view.is_within(&codes, &CodeLimit::new(bound)),
-        "{length} values within {bound}"
-    );
-    assert!(rt;
-        view.is_within(&codes, &CodeLimit::new(u64::MAX)),
-        "{length} values without a limit"
-    );
+    let within = view.is_within(&codes, &CodeLimit::new(bound));
+    assert_same!(rt; within, true, "{length} values within {bound}");
+    let within = view.is_within(&codes, &CodeLimit::new(u64::MAX));
+    assert_same!(rt; within, true, "{length} values without a limit");
     if bound > 0 {
-        let less = CodeLimit::new(bound - 1);
-        assert!(rt;
-            !view.is_within(&codes, &less),
-            "{length} values below {bound}"
-        );
+        let within = view.is_within(&codes, &CodeLimit::new(bound - 1));
+        assert_same!(rt; within, false, "{length} values below {bound}");
     }
     Ok(())
 }
@@ -202,7 +196,7 @@ fn compare_four(
     );
     let count = block_count(length as u32) as usize;
     let mut codes = vec![in alloc; CodeBlock::zeros(); count]?;
-    assert_eq!(rt; codes.len(), count);
+    assert!(rt; codes.len() == count, "{count} blocks");
     code_row(row, &mut codes);
     codes_have_squares(row);
     let (second, last) = (plain_bound(row, b), plain_bound(row, d));
@@ -219,7 +213,7 @@ fn compare_four(
         CodeView::new(d),
     );
     let found = four_within(&a, &b, &c, &d, &codes, &limits);
-    assert_eq!(rt;
+    assert_same!(rt;
         found,
         [true, second == 0, true, last == 0],
         "{length} values"

@@ -1,4 +1,5 @@
 //! Worked bounds by means, and bounds of scattered rows against a plain computation of the sums that a mean stands for.
+use crate::claims::assert_same;
 use crate::drawn::scattered;
 use mean_bound::{MeanBox, MeanView, Means};
 use segment_sums::Cuts;
@@ -32,7 +33,7 @@ fn worked_bounds(rt: HostRuntime) -> Result<(), Fail> {
         (&[32767; 16], &[-32768; 16], 16, 4294443024),
     ];
     for (series, query, w, expected) in rows {
-        assert_eq!(rt;
+        assert_same!(rt;
             bound(&rt, series, query, w),
             expected,
             "{w} segments of {series:?} for {query:?}"
@@ -100,7 +101,7 @@ fn compare_scattered(
 ) -> Result<(), Fail> {
     let series = scattered(alloc, seed, n, 2 + (seed % 15) as u32)?;
     let query = scattered(alloc, seed.wrapping_add(100), n, 16)?;
-    assert_eq!(rt;
+    assert_same!(rt;
         bound(rt, &series, &query, w),
         plain_bound(&series, &query, w as usize),
         "{w} segments of {n} values from {seed}"
@@ -123,7 +124,7 @@ fn means_of_pairs(rt: &impl Abort, alloc: Global, series: &[&[i16]]) -> Result<V
     let cuts = Cuts::new(2, 2);
     let mut means = Vec::new(alloc);
     for values in series {
-        assert_eq!(rt; values.len(), 2, "two values a series");
+        assert!(rt; values.len() == 2, "two values a series");
         means.push(Means::of(&cuts, values))?;
     }
     Ok(means)
@@ -141,7 +142,7 @@ fn a_box_bounds_what_lies_in_it(rt: HostRuntime) -> Result<(), Fail> {
     ];
     for (series, query, expected) in rows {
         let cuts = Cuts::new(2, 2);
-        assert_eq!(rt; query.len(), 2, "two values a query");
+        assert!(rt; query.len() == 2, "two values a query");
         let view = MeanView::new(&cuts, query);
         let means = means_of_pairs(&rt, rt.alloc(), series)?;
         let mut boxes = Vec::new(rt.alloc());
@@ -149,9 +150,9 @@ fn a_box_bounds_what_lies_in_it(rt: HostRuntime) -> Result<(), Fail> {
             boxes.push(MeanBox::around(&[*own]))?;
         }
         let around = view.bound_box(&MeanBox::around(&means));
-        assert_eq!(rt; around, expected, "{series:?} for {query:?}");
+        assert_same!(rt; around, expected, "{series:?} for {query:?}");
         let around = view.bound_box(&MeanBox::around_boxes(&boxes));
-        assert_eq!(rt;
+        assert_same!(rt;
             around,
             expected,
             "a box for each of {series:?} for {query:?}"

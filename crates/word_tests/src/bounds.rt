@@ -3,6 +3,7 @@
 ghost use Rattle.std.specs.Prelude.{◌≡◌, ◌≤◌};
 ghost use Rattle.segment_sums.specs.Division.{division_of};
 
+use crate::claims::assert_same;
 use breakpoints::Table;
 use isax_word::{Full, Layout, Word};
 use lower_bound::QueryView;
@@ -49,7 +50,7 @@ fn bounds_of_rows(rt: HostRuntime) -> Result<(), Fail> {
         (&[0, 0], &[1, 3], &[1, 2], 268435456),
     ];
     for (query, prefixes, bits, bound) in rows {
-        assert_eq!(rt;
+        assert_same!(rt;
             flat_bound(&rt, query, prefixes, bits),
             bound,
             "{prefixes:?} at {bits:?} bits for {query:?}"
@@ -97,7 +98,7 @@ fn compare(rt: &impl Abort, table: Table, view: &QueryView, segment: (u32, i64),
     let (prefix, bits) = part;
     let is_part = bits <= 8 && u32::from(prefix) < 1 << bits;
     let word = Word::of_parts(&[prefix], &[bits]);
-    assert_eq!(rt;
+    assert_same!(rt;
         word.is_some(),
         is_part,
         "a word of {prefix} at {bits} bits"
@@ -105,12 +106,12 @@ fn compare(rt: &impl Abort, table: Table, view: &QueryView, segment: (u32, i64),
     let Some(word) = word else {
         return;
     };
-    assert_eq!(rt; view.segments(), word.segments(), "segments");
+    assert!(rt; view.segments() == word.segments(), "segments");
     if bits <= 8 {
         let place = 1u32 << (8 - bits);
         let first = u32::from(prefix) * place;
         let cost = plain_cost(plain_gap(table, length, sum, first, first + place), length);
-        assert_eq!(rt;
+        assert_same!(rt;
             view.bound_word(&word),
             cost,
             "{prefix} at {bits} bits for {sum} over {length} in {table:?}"
@@ -169,7 +170,7 @@ fn a_full_word_costs_its_symbols(rt: HostRuntime) -> Result<(), Fail> {
         ([-1, -1], 2),
     ];
     for (row, bound) in rows {
-        assert_eq!(rt;
+        assert_same!(rt;
             view.bound_full(&Full::of(&layout, &row)),
             bound,
             "the full word of {row:?}"
@@ -197,7 +198,7 @@ fn bounds_of_root_rows(rt: HostRuntime) -> Result<(), Fail> {
             "{root} is no root number of {segments} segments of {query:?}"
         );
         let layout = layout_of(query.len() as u32, segments, Table::Flat);
-        assert_eq!(rt;
+        assert_same!(rt;
             QueryView::new(&layout, query).bound_root(root),
             bound,
             "root {root} of {segments} segments for {query:?}"
@@ -222,7 +223,7 @@ fn compare_roots(rt: &impl Abort, table: Table, segments: u32) {
             "root {root} has a word of {} segments",
             word.segments()
         );
-        assert_eq!(rt;
+        assert_same!(rt;
             view.bound_root(root),
             view.bound_word(&word),
             "root {root} of {segments} segments in {table:?}"

@@ -3,6 +3,7 @@
 
 ghost use Rattle.std.specs.Prelude.{◌≤◌};
 
+use crate::claims::assert_same;
 use simd_distance::{distance, distance_within};
 use std::process::Abort;
 use std::test::Fail;
@@ -17,20 +18,20 @@ fn compare(rt: &impl Abort, x: &[i16], q: &[i16], expected: u64) {
         length == q.len() && length <= 65536,
         "{length} values are no row"
     );
-    assert_eq!(rt; distance(x, q), expected, "the distance of {length} values");
-    assert_eq!(rt;
+    assert_same!(rt; distance(x, q), expected, "the distance of {length} values");
+    assert_same!(rt;
         distance_within(x, q, expected),
         Some(expected),
         "{length} values within their distance {expected}"
     );
-    assert_eq!(rt;
+    assert_same!(rt;
         distance_within(x, q, expected.wrapping_add(1)),
         Some(expected),
         "{length} values within one more than {expected}"
     );
     if expected > 0 {
         let less = distance_within(x, q, expected - 1);
-        assert_eq!(rt;
+        assert_same!(rt;
             less,
             None,
             "{length} values within one less than {expected}"

@@ -1,4 +1,5 @@
 //! Cut points and sums of worked rows, and sums of equal segments against those of values added one by one.
+use crate::claims::assert_same;
 use segment_sums::Cuts;
 use std::test::Fail;
 
@@ -20,7 +21,7 @@ fn cut_points(rt: HostRuntime) -> Result<(), Fail> {
             "{n} {w} {j} is no row"
         );
         let cuts = Cuts::new(n, w);
-        assert_eq!(rt; cuts.cut(j), places, "segment {j} of {w} over {n}");
+        assert_same!(rt; cuts.cut(j), places, "segment {j} of {w} over {n}");
     }
     Ok(())
 }
@@ -41,8 +42,8 @@ fn sums_of_rows(rt: HostRuntime) -> Result<(), Fail> {
         assert!(rt; 1 <= w && w <= 3, "{w} is no number of segments");
         let mut into = [7; 16];
         Cuts::new(5, w).sums(&row, &mut into);
-        assert_eq!(rt; &into[..3], &sums[..], "{w} segments of {row:?}");
-        assert_eq!(rt; into[15], 0, "what lies past {w} segments");
+        assert_same!(rt; &into[..3], &sums[..], "{w} segments of {row:?}");
+        assert_same!(rt; into[15], 0, "what lies past {w} segments");
     }
     Ok(())
 }
@@ -90,7 +91,7 @@ fn sums_of_equal_segments(rt: HostRuntime) -> Result<(), Fail> {
         for j in 0..w {
             let (from, to) = cuts.cut(j);
             let sum = i64::from(into[j as usize]);
-            assert_eq!(rt; sum, plain_sum(from, to), "segment {j} of {w} over {n}");
+            assert_same!(rt; sum, plain_sum(from, to), "segment {j} of {w} over {n}");
         }
     }
     Ok(())

@@ -1,4 +1,5 @@
 //! Breakpoints of both tables at marked places.
+use crate::claims::assert_same;
 use breakpoints::Table;
 use std::test::Fail;
 
@@ -18,8 +19,8 @@ fn breakpoints_at_marked_places(rt: HostRuntime) -> Result<(), Fail> {
             1 <= place && place <= 255,
             "place {place} is none of a table"
         );
-        assert_eq!(rt; Table::Flat.at(place), flat, "flat at {place}");
-        assert_eq!(rt; Table::Bent.at(place), bent, "bent at {place}");
+        assert_same!(rt; Table::Flat.at(place), flat, "flat at {place}");
+        assert_same!(rt; Table::Bent.at(place), bent, "bent at {place}");
     }
     Ok(())
 }

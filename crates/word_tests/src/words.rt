@@ -1,4 +1,5 @@
 //! Worked rows of symbols, full words, roots and words. Expected values are worked by hand or counted plainly.
+use crate::claims::assert_same;
 use breakpoints::Table;
 use isax_word::{Full, Layout, Word, child, contains, root_of, symbol_of_sum};
 use segment_sums::Cuts;
@@ -10,7 +11,7 @@ fn symbols_at_the_ends_of_the_bent_table(rt: HostRuntime) -> Result<(), Fail> {
     let rows = [(24256, 254), (24257, 255), (-24257, 1), (-24258, 0)];
     for (sum, symbol) in rows {
         assert!(rt; -32768 <= sum && sum <= 32767, "{sum} is no value");
-        assert_eq!(rt;
+        assert_same!(rt;
             symbol_of_sum(Table::Bent, 1, sum),
             symbol,
             "the symbol of {sum}"
@@ -38,7 +39,7 @@ fn compare(rt: &impl Abort, table: Table, length: u32, sum: i32) {
         let most = 32767 * i64::from(length);
         if least <= i64::from(sum) && i64::from(sum) <= most {
             let symbol = symbol_of_sum(table, length, sum);
-            assert_eq!(rt;
+            assert_same!(rt;
                 symbol,
                 plain_count(table, length, sum),
                 "sum {sum} of {length} in {table:?}"
@@ -92,13 +93,13 @@ fn full_words_are_counts_in_each_segment(rt: HostRuntime) -> Result<(), Fail> {
                 table,
             };
             let full = Full::of(&layout, &values[..n as usize]);
-            assert_eq!(rt; full.segments(), w, "the segments of {n} by {w}");
+            assert!(rt; full.segments() == w, "the segments of {n} by {w}");
             let mut sums = [0; 16];
             layout.cuts.sums(&values[..n as usize], &mut sums);
             for j in 0..w {
                 let (from, to) = layout.cuts.cut(j);
                 let counted = plain_count(table, to - from, sums[j as usize]);
-                assert_eq!(rt;
+                assert_same!(rt;
                     full.symbol(j),
                     counted,
                     "segment {j} of {n} by {w} in {table:?}"
@@ -138,13 +139,13 @@ fn full_words_and_roots_of_rows(rt: HostRuntime) -> Result<(), Fail> {
             table: Table::Flat,
         };
         let full = Full::of(&layout, &row);
-        assert_eq!(rt; full.segments(), 2, "the segments of {row:?}");
-        assert_eq!(rt;
+        assert!(rt; full.segments() == 2, "the segments of {row:?}");
+        assert_same!(rt;
             (full.symbol(0), full.symbol(1)),
             symbols,
             "the symbols of {row:?}"
         );
-        assert_eq!(rt; root_of(&full), root, "the root number of {row:?}");
+        assert_same!(rt; root_of(&full), root, "the root number of {row:?}");
     }
     Ok(())
 }
@@ -162,7 +163,7 @@ fn words_of_parts(rt: HostRuntime) -> Result<(), Fail> {
     ];
     for (prefixes, bits, accepted) in rows {
         let word = Word::of_parts(prefixes, bits);
-        assert_eq!(rt; word.is_some(), accepted, "{prefixes:?} at {bits:?} bits");
+        assert_same!(rt; word.is_some(), accepted, "{prefixes:?} at {bits:?} bits");
     }
     Ok(())
 }
@@ -179,12 +180,12 @@ fn symbols_of_prefixes(rt: HostRuntime) -> Result<(), Fail> {
         let word = Word::of_parts(&prefixes, &bits);
         assert!(rt; word.is_some(), "{prefixes:?} at {bits:?} bits make a word");
         if let Some(word) = word {
-            assert_eq!(rt;
+            assert_same!(rt;
                 &word.first_symbols()[..3],
                 &firsts[..],
                 "the least of {prefixes:?} at {bits:?} bits"
             );
-            assert_eq!(rt;
+            assert_same!(rt;
                 &word.last_symbols()[..3],
                 &lasts[..],
                 "the greatest of {prefixes:?} at {bits:?} bits"
