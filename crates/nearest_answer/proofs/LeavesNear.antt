@@ -40,17 +40,19 @@ leaf_once_more es i d inside =
     let one = equal_counts l l refl in
     omega arith
 
--- leaves stand as often in entries in another order
-pub same_count : (es ds : List Entry) → IsPermutation es ds → (l : ℕ) → times l (leaves_in ds) ≡ times l (leaves_in es)
-same_count es ds moved l =
-    sym (total_is (leaves_in ds))
-    ∙ sum_by-IsPermutation (one_if_same l) (leaves_in es) (leaves_in ds)
-    (IsPermutation-map (λ (e : Entry). e.leaf) es ds moved)
-    ∙ total_is (leaves_in es)
+-- numbers stand as often in another order
+pub same_times : (ms ns : List ℕ) → IsPermutation ms ns → (l : ℕ) → times l ns ≡ times l ms
+same_times ms ns moved l =
+    sym (total_is ns) ∙ sum_by-IsPermutation (one_if_same l) ms ns moved ∙ total_is ms
   where
     total_is : (ls : List ℕ) → sum_by (one_if_same l) ls ≡ times l ls
     total_is [] = refl
     total_is (m ∷ ms) = sum_by-cons (one_if_same l) m ms ∙ ap (λ n. one_if_same l m + n) (total_is ms)
+
+-- and so do leaves in entries in another order
+pub same_count : (es ds : List Entry) → IsPermutation es ds → (l : ℕ) → times l (leaves_in ds) ≡ times l (leaves_in es)
+same_count es ds moved =
+    same_times (leaves_in es) (leaves_in ds) (IsPermutation-map (λ (e : Entry). e.leaf) es ds moved)
 
 -- the first entry is within the limit
 first_within : (v : ℕ) (e : Entry) (es : List Entry) → e.bound ≤ v → within_bound v (e ∷ es) ≡ e ∷ within_bound v es

@@ -1,8 +1,9 @@
 -- The lemmas of this crate.
 mod Nearest
 mod LeavesNear
-mod LeavesMet
+mod LeavesLeft
 mod Ranges
 mod StretchLeaves
 mod ItemsScanned
 mod TeamLists
+mod ListedLeaves

@@ -30,7 +30,7 @@ module _ (f : ℕ → List ℕ) where
       (cases_lt 0 (times s (f a)))
 
   -- and a series of one of them is of them
-  in_item : (n a i s : ℕ) → a ≤ i → i < a + n → 0 < times s (f i) → 0 < times s (flat_map f (range_with_len a n))
+  pub in_item : (n a i s : ℕ) → a ≤ i → i < a + n → 0 < times s (f i) → 0 < times s (flat_map f (range_with_len a n))
   in_item zero a i s low high some = absurd (omega arith)
   in_item (suc n) a i s low high some =
       let parts = times_append s (f a) (flat_map f (range_with_len (a + 1) n)) in

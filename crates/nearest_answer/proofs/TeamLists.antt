@@ -61,7 +61,7 @@ module _ (g : Ground) (fits : Fits g) where
     })
 
     -- joined are a list of the leaves of both
-    joined : ListSound g (ns ++ ms) (smallest g.k (ps ++ qs))
+    pub joined : ListSound g (ns ++ ms) (smallest g.k (ps ++ qs))
     joined = record {
       ascending = best.known.ascending;
       known = best.known.known;

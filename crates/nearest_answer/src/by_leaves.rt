@@ -1,16 +1,16 @@
 //! The answer by the leaves that are near: those of least bound are scanned first, which tells a closer limit, and then the others in the
 //! order of their numbers. The list that the first gave is handed on; but where k is small and many leaves are left, these are listed
 //! anew by the closer limit.
-ghost use Rattle.std.specs.Prelude.{◌≡◌, ℕ, ◌≤◌, ◌++◌, List, [], IfOk, IsPermutation, length};
-ghost use Rattle.std.specs.List.{All};
-ghost use Rattle.list_totals.specs.Totals.{once_below, times};
+ghost use Rattle.std.specs.Prelude.{◌≡◌, ◌≤◌, ◌++◌, IfOk, IsPermutation, length};
+ghost use Rattle.list_totals.specs.Totals.{once_below};
 ghost use Rattle.series_core.specs.Answer.{answer};
-ghost use Rattle.search_machine.specs.Sound.{ListSound};
 ghost use Rattle.search_task.specs.Questions.{ground_of, last_of};
-ghost use Rattle.nearest_answer.specs.NearLeaves.{AreNear, IsLeafEntry, leaves_in, within_bound};
+ghost use Rattle.nearest_answer.specs.Begun.{IsBegun};
+ghost use Rattle.nearest_answer.specs.NearLeaves.{AreNear, within_bound};
 
 use crate::all_rows::answer_by_rows;
-use crate::near_leaves::{near_leaves, scan_entries, scan_entry};
+use crate::begun::Begun;
+use crate::near_leaves::{near_leaves, scan_entries};
 use crate::sweep::answer_by_codes;
 use crate::telling::{ApartBy, what_tells};
 use crate::tuning::{
@@ -41,113 +41,143 @@ pub(crate) fn nearest_by_leaves<R: Rows>(
     requires limit { last_of search.now.question ≤ first }
     ensures { let a = search.now.question in IfOk result (λ best. best.pairs ≡ answer a.collection a.query a.k) }
 {
-    let near = near_leaves(alloc, search, first)?;
-    answer_near(alloc, search, near, first)
+    let begun = begin_by_leaves(alloc, search, first)?;
+    if begun.left.is_empty() {
+        return Ok(finish(search, begun));
+    }
+    match what_tells(search, begun.limit) {
+        ApartBy::Means => finish_in_order(alloc, search, begun),
+        ApartBy::Codes => {
+            let empty = KBest::new(alloc, search.k())?;
+            Ok(answer_by_codes(search, begun.limit, empty))
+        }
+        ApartBy::Nothing => answer_by_rows(alloc, search, begun.limit),
+    }
 }
 
-/// The same by these leaves, which were looked for within the limit.
-pub(crate) fn answer_near<R: Rows>(
+/// The leaves that may have a member within the limit are listed, and those of least bound scanned for a closer one.
+pub(crate) fn begin_by_leaves<R: Rows>(
     alloc: Global,
     search: &Search<'_, R>,
-    mut near: Vec<Entry>,
     first: u64,
-) -> Result<KBest, NoMemory>
+) -> Result<Begun, NoMemory>
     requires limit { last_of search.now.question ≤ first }
-    requires near { AreNear (ground_of search.now) first (λ l. once_below l (length search.now.index.leaves)) near.items }
-    ensures { let a = search.now.question in IfOk result (λ best. best.pairs ≡ answer a.collection a.query a.k) }
+    ensures { IfOk result (λ b. IsBegun search.now b) }
 {
-    let k = search.k();
-    let mut list = KBest::new(alloc, k)?;
-    let count = closest_count(search);
-    if near.len() <= count {
-        scan_within(alloc, search, &near, Order::Bounds, first, &mut list)?;
-        return Ok(list);
-    }
-    let (closest, next, others) = near.select_nth_unstable_by_key(count, |entry| entry.bound);
-    let limit = scan_closest(alloc, search, closest, first, &mut list)?;
-    match what_tells(search, limit) {
-        ApartBy::Means => {}
-        ApartBy::Codes => {
-            let empty = KBest::new(alloc, k)?;
-            return Ok(answer_by_codes(search, limit, empty));
-        }
-        ApartBy::Nothing => return answer_by_rows(alloc, search, limit),
-    }
-    if others.len() > MOST_SORTED_ENTRIES && k <= MOST_RANKS_BY_SAMPLE {
-        return answer_in_order(alloc, search, limit);
-    }
-    scan_entry(search, next, limit, &mut list);
-    scan_within(alloc, search, others, Order::Numbers, limit, &mut list)?;
-    Ok(list)
+    // for the fact that the index can be searched for the question
+    let _k = search.k();
+    let listed = all_near(alloc, search, first)?;
+    let Begun {
+        mut list,
+        limit,
+        left,
+    } = listed;
+    let (closest, others) = split_closest(alloc, left, closest_count(search))?;
+    scan_entries(search, &closest, limit, &mut list);
+    narrowed(
+        alloc,
+        search,
+        Begun {
+            list,
+            limit,
+            left: others,
+        },
+    )
 }
 
-/// How many leaves of least bound are scanned for a closer limit.
-pub(crate) fn closest_count<R: Rows>(search: &Search<'_, R>) -> usize {
+/// Before any leaf is met: those that may have a member within the limit are left.
+pub(crate) fn all_near<R: Rows>(
+    alloc: Global,
+    search: &Search<'_, R>,
+    limit: u64,
+) -> Result<Begun, NoMemory>
+    requires limit { last_of search.now.question ≤ limit }
+    ensures { IfOk result (λ b. IsBegun search.now b) }
+{
+    let left = near_leaves(alloc, search, limit)?;
+    let list = KBest::new(alloc, search.k())?;
+    Ok(Begun { list, limit, left })
+}
+
+/// The list of the answer, from what is left.
+pub(crate) fn finish_in_order<R: Rows>(
+    alloc: Global,
+    search: &Search<'_, R>,
+    begun: Begun,
+) -> Result<KBest, NoMemory>
+    requires begun { IsBegun search.now begun }
+    ensures { let a = search.now.question in IfOk result (λ best. best.pairs ≡ answer a.collection a.query a.k) }
+{
+    if begun.left.len() > MOST_SORTED_ENTRIES && search.k() <= MOST_RANKS_BY_SAMPLE {
+        let again = all_near(alloc, search, begun.limit)?;
+        return Ok(finish(search, again));
+    }
+    let Begun { list, limit, left } = begun;
+    let left = ordered(left, Order::Numbers);
+    Ok(finish(search, Begun { list, limit, left }))
+}
+
+// The list of the answer, from what is left, in the order in which it is.
+fn finish<R: Rows>(search: &Search<'_, R>, begun: Begun) -> KBest
+    requires begun { IsBegun search.now begun }
+    ensures { let a = search.now.question in result.pairs ≡ answer a.collection a.query a.k }
+{
+    // for the fact that the index can be searched for the question
+    let _k = search.k();
+    let Begun {
+        mut list,
+        limit,
+        left,
+    } = begun;
+    scan_entries(search, &left, limit, &mut list);
+    list
+}
+
+// How many leaves of least bound are scanned for a closer limit.
+fn closest_count<R: Rows>(search: &Search<'_, R>) -> usize {
     let leaves = u64::from(search.index().leaf_count());
     let count = u64::from(search.task().count()).max(1);
     let members = CLOSEST_MEMBERS.max(CLOSEST_MEMBERS_EACH * u64::from(search.k()));
     (members * leaves / count).max(CLOSEST_LEAVES) as usize
 }
 
-/// Scans the closest leaves into an empty list, and tells the closer limit that they give.
-pub(crate) fn scan_closest<R: Rows>(
+/// So many entries of least bound and one, in the order of their bounds, and the others; all of them and none where there are no more.
+pub(crate) fn split_closest(
     alloc: Global,
-    search: &Search<'_, R>,
-    closest: &[Entry],
-    first: u64,
-    list: &mut KBest,
-) -> Result<u64, NoMemory>
-    requires limit { last_of search.now.question ≤ first }
-    requires leaves { All (IsLeafEntry (ground_of search.now)) closest.now }
-    requires once { (l : ℕ) → times l (leaves_in closest.now) ≤ 1 }
-    requires list { list.old ≡ record { k = search.now.question.k; pairs = [] } }
-    ensures limit { IfOk result (λ v. last_of search.now.question ≤ v) }
-    ensures list { let k = search.now.question.k in IfOk result (λ _. (list.new.k ≡ k) × (length list.new.pairs ≤ k)) }
-    ensures met { IfOk result (λ _. ListSound (ground_of search.now) (leaves_in closest.now) list.new.pairs) }
+    mut entries: Vec<Entry>,
+    count: usize,
+) -> Result<(Vec<Entry>, Vec<Entry>), NoMemory>
+    ensures { IfOk result (λ r. IsPermutation entries.items (r.0.items ++ r.1.items)) }
 {
-    scan_within(alloc, search, closest, Order::Bounds, first, list)?;
-    // for the fact that the index can be searched for the question
-    let _k = search.k();
-    Ok(distance_of_worst(list).min(first))
+    if entries.len() <= count {
+        return Ok((ordered(entries, Order::Bounds), Vec::new(alloc)));
+    }
+    let (closest, next, others) = entries.select_nth_unstable_by_key(count, |entry| entry.bound);
+    let mut first = closest.to_vec(alloc)?;
+    first.push(*next)?;
+    let behind = others.to_vec(alloc)?;
+    Ok((ordered(first, Order::Bounds), behind))
 }
 
-/// The list of the answer, by all leaves that may have a member within the limit, in the order of their numbers.
-pub(crate) fn answer_in_order<R: Rows>(
+/// The limit falls to the k-th pair of the list, and what is beyond it is left no more.
+pub(crate) fn narrowed<R: Rows>(
     alloc: Global,
     search: &Search<'_, R>,
-    limit: u64,
-) -> Result<KBest, NoMemory>
-    requires limit { last_of search.now.question ≤ limit }
-    ensures { let a = search.now.question in IfOk result (λ best. best.pairs ≡ answer a.collection a.query a.k) }
-{
-    let near = near_leaves(alloc, search, limit)?;
-    let mut list = KBest::new(alloc, search.k())?;
-    scan_entries(search, &near, limit, &mut list);
-    Ok(list)
-}
-
-// Scans the leaves of these entries into a list, in an order. What lies beyond the limit is left out.
-fn scan_within<R: Rows>(
-    alloc: Global,
-    search: &Search<'_, R>,
-    entries: &[Entry],
-    order: Order,
-    limit: u64,
-    list: &mut KBest,
-) -> Result<(), NoMemory>
-    requires limit { last_of search.now.question ≤ limit }
-    requires leaves { All (IsLeafEntry (ground_of search.now)) entries.now }
-    requires list { (list.old.k ≡ search.now.question.k) × (length list.old.pairs ≤ search.now.question.k) }
-    ensures list { let k = search.now.question.k in IfOk result (λ _. (list.new.k ≡ k) × (length list.new.pairs ≤ k)) }
-    ensures met { let g = ground_of search.now in IfOk result (λ _. (met : List ℕ)
-        → ((l : ℕ) → times l (met ++ leaves_in entries.now) ≤ 1) → ListSound g met list.old.pairs
-        → ListSound g (met ++ leaves_in entries.now) list.new.pairs) }
+    begun: Begun,
+) -> Result<Begun, NoMemory>
+    requires begun { IsBegun search.now begun }
+    ensures { IfOk result (λ b. IsBegun search.now b) }
 {
     // for the fact that the index can be searched for the question
     let _k = search.k();
-    let within = ordered(within_bound(alloc, entries, limit)?, order);
-    scan_entries(search, &within, limit, list);
-    Ok(())
+    let Begun { list, limit, left } = begun;
+    let closer = distance_of_worst(&list).min(limit);
+    let within = within_bound(alloc, &left, closer)?;
+    Ok(Begun {
+        list,
+        limit: closer,
+        left: within,
+    })
 }
 
 // The entries whose bound is not above the limit.

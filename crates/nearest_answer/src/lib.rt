@@ -5,10 +5,14 @@
 
 mod all_rows;
 mod answer;
+mod begun;
 mod by_leaves;
+mod crew;
 mod first_leaf;
 mod first_limit;
+mod listed;
 mod near_leaves;
+mod sharing;
 mod stretches;
 mod sweep;
 mod team;

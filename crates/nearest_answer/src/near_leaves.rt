@@ -13,8 +13,8 @@ use series_core::{Entry, KBest, Rows};
 use std::alloc::Global;
 use subtree_build::{GROUP, WIDE_GROUP};
 
-/// Scans the leaves of these entries into a list. One whose bound is above the k-th pair so far is passed over: it has nothing
-/// that the list would keep at the end.
+/// Scans the leaves of these entries into a list. One whose bound is above the limit or the k-th pair so far is passed over: it has
+/// nothing that the list would keep at the end.
 pub(crate) fn scan_entries<R: Rows>(
     search: &Search<'_, R>,
     entries: &[Entry],
@@ -34,7 +34,7 @@ pub(crate) fn scan_entries<R: Rows>(
     }
 }
 
-/// Scans the leaf of an entry where the entry's bound is not above the k-th pair so far.
+/// Scans the leaf of an entry where the entry's bound is above neither the limit nor the k-th pair so far.
 pub(crate) fn scan_entry<R: Rows>(
     search: &Search<'_, R>,
     entry: &Entry,
@@ -51,7 +51,7 @@ pub(crate) fn scan_entry<R: Rows>(
 {
     // for the fact that the index can be searched for the question
     let _k = search.k();
-    if entry.bound > distance_of_worst(list) {
+    if entry.bound > distance_of_worst(list).min(limit) {
         return;
     }
     search.scan_leaf(entry.leaf, limit, list);

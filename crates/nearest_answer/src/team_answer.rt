@@ -1,43 +1,34 @@
 //! The answer alone by all workers: the caller finds a limit and the way as one worker does, and where enough is left to pay for the start
 //! of threads, all workers draw what is left.
-ghost use Rattle.std.specs.Prelude.{◌≡◌, ◌≤◌, ◌<◌, IfOk, length};
-ghost use Rattle.list_totals.specs.Totals.{once_below};
+ghost use Rattle.std.specs.Prelude.{◌≡◌, ◌≤◌, IfOk};
 ghost use Rattle.series_core.specs.Answer.{answer};
 ghost use Rattle.subtree_build.specs.Fits.{Fits as IndexFits};
-ghost use Rattle.search_task.specs.Questions.{ground_of, last_of};
-ghost use Rattle.nearest_answer.specs.NearLeaves.{AreNear};
+ghost use Rattle.search_task.specs.Questions.{last_of};
+ghost use Rattle.nearest_answer.specs.Begun.{IsBegun};
 
 use crate::all_rows::answer_by_rows;
 use crate::answer::one_worker_answer;
-use crate::by_leaves::{answer_in_order, answer_near, closest_count, scan_closest};
+use crate::begun::Begun;
+use crate::by_leaves::{begin_by_leaves, finish_in_order, narrowed, split_closest};
+use crate::crew::Crew;
 use crate::first_limit::first_limit;
-use crate::near_leaves::near_leaves;
+use crate::listed::scan_together;
+use crate::sharing::{hired_for_leaves, hired_for_rows, is_little, shared_first, value_count};
 use crate::stretches::stretch_count;
 use crate::sweep::answer_by_codes;
 use crate::team::draw_together;
 use crate::telling::{ApartBy, what_tells};
-use crate::tuning::{
-    FIRST_MEMBERS, LEAST_MEMBERS_TO_SHARE, LEAST_VALUES_TO_SHARE, MOST_RANKS_TO_SHARE,
-};
+use crate::tuning::{FIRST_MEMBERS, LEAST_VALUES_TO_SHARE, MOST_RANKS_AT_ONCE};
 use crate::way::first_way;
 use best_word::BestWord;
 use claim_word::Claims;
 use list_team::{dismiss, hire};
 use outside::{Gate, NoMemory};
 use search_task::{Search, Task};
-use series_core::{Entry, KBest, PairList, Rows};
+use series_core::{KBest, PairList, Rows};
 use std::alloc::Global;
 use std::thread::Threads;
 use subtree_build::Index;
-
-// What each part of a search by a team needs beside the search: threads, memory, how many workers, and the gate.
-#[derive(Drop)]
-struct Crew<'a, T, G> {
-    rt: &'a T,
-    alloc: Global,
-    workers: u32,
-    gate: &'a G,
-}
 
 /// The k nearest rows by one worker, as `one_worker_answer` finds them, or where much is left to scan by this many, from 1 to 64, each in
 /// a thread of its own: the same pairs whatever the number of workers and whichever stretches each of them draws.
@@ -113,43 +104,83 @@ fn by_near_leaves<T: Threads + Sync, R: Rows + Sync, G: Gate + Sync>(
     requires workers { (1 ≤ crew.now.workers) × (crew.now.workers ≤ 64) }
     ensures { let a = search.now.question in IfOk result (λ best. best.pairs ≡ answer a.collection a.query a.k) }
 {
-    let near = near_leaves(crew.alloc, search, first)?;
-    let count = closest_count(search);
-    if near.len() <= count || is_little(search, near.len()) {
-        return answer_near(crew.alloc, search, near, first);
+    let begun = begin_by_leaves(crew.alloc, search, first)?;
+    if begun.left.is_empty() {
+        return finish_in_order(crew.alloc, search, begun);
     }
-    let (limit, left) = closer_limit(crew.alloc, search, near, count, first)?;
-    let by = what_tells(search, limit);
-    match by {
-        ApartBy::Means if is_little(search, left) => answer_in_order(crew.alloc, search, limit),
-        ApartBy::Means => side_by_side(crew, search, by, limit),
-        ApartBy::Codes | ApartBy::Nothing => rest(crew, search, by, limit),
+    match what_tells(search, begun.limit) {
+        ApartBy::Means if is_little(search, begun.left.len()) => {
+            finish_in_order(crew.alloc, search, begun)
+        }
+        ApartBy::Means => finish_together(crew, search, begun),
+        by => rest(crew, search, by, begun.limit),
     }
 }
 
-// A limit that is told by so many leaves of least bound, and how many of the others lie within it.
-fn closer_limit<R: Rows>(
-    alloc: Global,
+// The list of the answer from what is left, by all workers. Where k is great, what is left is shared in two parts.
+fn finish_together<T: Threads + Sync, R: Rows + Sync, G: Gate + Sync>(
+    crew: &Crew<'_, T, G>,
     search: &Search<'_, R>,
-    mut near: Vec<Entry>,
-    count: usize,
-    first: u64,
-) -> Result<(u64, usize), NoMemory>
-    requires limit { last_of search.now.question ≤ first }
-    requires near { AreNear (ground_of search.now) first (λ l. once_below l (length search.now.index.leaves)) near.items }
-    requires count { count < length near.items }
-    ensures { IfOk result (λ r. last_of search.now.question ≤ r.0) }
+    begun: Begun,
+) -> Result<KBest, NoMemory>
+    requires begun { IsBegun search.now begun }
+    requires workers { (1 ≤ crew.now.workers) × (crew.now.workers ≤ 64) }
+    ensures { let a = search.now.question in IfOk result (λ best. best.pairs ≡ answer a.collection a.query a.k) }
 {
-    let mut list = KBest::new(alloc, search.k())?;
-    let (closest, _, others) = near.select_nth_unstable_by_key(count, |entry| entry.bound);
-    let limit = scan_closest(alloc, search, closest, first, &mut list)?;
-    let mut left = 0usize;
-    for entry in others.iter() {
-        if entry.bound <= limit {
-            left = left.saturating_add(1);
-        }
+    let hired = crew.of(hired_for_leaves(search, begun.left.len(), crew.workers));
+    if search.k() <= MOST_RANKS_AT_ONCE {
+        return finish_at_once(&hired, search, begun);
     }
-    Ok((limit, left))
+    let closer = closer_together(&hired, search, begun)?;
+    finish_at_once(&hired, search, closer)
+}
+
+// Those of least bound are scanned by all workers, which tells a closer limit for the others.
+fn closer_together<T: Threads + Sync, R: Rows + Sync, G: Gate + Sync>(
+    crew: &Crew<'_, T, G>,
+    search: &Search<'_, R>,
+    begun: Begun,
+) -> Result<Begun, NoMemory>
+    requires begun { IsBegun search.now begun }
+    requires workers { (1 ≤ crew.now.workers) × (crew.now.workers ≤ 64) }
+    ensures { IfOk result (λ b. IsBegun search.now b) }
+{
+    // for the fact that the index can be searched for the question
+    let _k = search.k();
+    let Begun {
+        mut list,
+        limit,
+        left,
+    } = begun;
+    let (closest, others) = split_closest(crew.alloc, left, shared_first(search))?;
+    scan_together(crew, search, &closest, limit, &mut list)?;
+    let scanned = Begun {
+        list,
+        limit,
+        left: others,
+    };
+    narrowed(crew.alloc, search, scanned)
+}
+
+// All that is left is scanned by all workers.
+fn finish_at_once<T: Threads + Sync, R: Rows + Sync, G: Gate + Sync>(
+    crew: &Crew<'_, T, G>,
+    search: &Search<'_, R>,
+    begun: Begun,
+) -> Result<KBest, NoMemory>
+    requires begun { IsBegun search.now begun }
+    requires workers { (1 ≤ crew.now.workers) × (crew.now.workers ≤ 64) }
+    ensures { let a = search.now.question in IfOk result (λ best. best.pairs ≡ answer a.collection a.query a.k) }
+{
+    // for the fact that the index can be searched for the question
+    let _k = search.k();
+    let Begun {
+        mut list,
+        limit,
+        left,
+    } = begun;
+    scan_together(crew, search, &left, limit, &mut list)?;
+    Ok(list)
 }
 
 // The list of the answer by the codes of all members' rows, or by all rows: shared where these have many values.
@@ -163,8 +194,7 @@ fn rest<T: Threads + Sync, R: Rows + Sync, G: Gate + Sync>(
     requires workers { (1 ≤ crew.now.workers) × (crew.now.workers ≤ 64) }
     ensures { let a = search.now.question in IfOk result (λ best. best.pairs ≡ answer a.collection a.query a.k) }
 {
-    let task = search.task();
-    let values = u64::from(task.count()).saturating_mul(task.row_length() as u64);
+    let values = value_count(search.task());
     match by {
         ApartBy::Codes if values < LEAST_VALUES_TO_SHARE => {
             let empty = KBest::new(crew.alloc, search.k())?;
@@ -173,20 +203,11 @@ fn rest<T: Threads + Sync, R: Rows + Sync, G: Gate + Sync>(
         ApartBy::Nothing if values < LEAST_VALUES_TO_SHARE => {
             answer_by_rows(crew.alloc, search, limit)
         }
-        _ => side_by_side(crew, search, by, limit),
+        _ => {
+            let hired = crew.of(hired_for_rows(search.task(), crew.workers));
+            side_by_side(&hired, search, by, limit)
+        }
     }
-}
-
-// Whether so many leaves have too few members to pay for the start of threads, as far as all leaves have as many; or whether k is too great
-// for workers with lists of their own.
-fn is_little<R: Rows>(search: &Search<'_, R>, leaves: usize) -> bool {
-    if search.k() > MOST_RANKS_TO_SHARE {
-        return true;
-    }
-    let count = u64::from(search.task().count());
-    let all = u64::from(search.leaf_count()).max(1);
-    let members = (leaves as u64).saturating_mul(count) / all;
-    members < LEAST_MEMBERS_TO_SHARE
 }
 
 // The list of the answer by all workers, who draw the stretches side by side.

@@ -57,16 +57,28 @@ pub(crate) const SHARE_TO_SWEEP: u64 = 8;
 /// one worker takes twice as long at least for so many members.
 pub(crate) const LEAST_MEMBERS_TO_SHARE: u64 = 8192;
 
-/// Up to which k these leaves are shared. Each worker has a list of its own, and before that holds k pairs no limit falls: four workers took
-/// nearly twice as long as one for three windows that lie 128 apart, for which the 511 nearest are found.
-pub(crate) const MOST_RANKS_TO_SHARE: u32 = 256;
+/// How many of these members there are to be for each worker that is hired: a thread costs the one who starts it some 20 microseconds.
+pub(crate) const MEMBERS_OF_WORKER: u64 = 2048;
+
+/// Up to which k all leaves that are left are shared at once. Each worker has a list of its own, and before that holds k pairs no limit
+/// falls; so for a greater k those of least bound are shared first, and the lists merged tell a limit for the others.
+pub(crate) const MOST_RANKS_AT_ONCE: u32 = 32;
+
+/// How many members the leaves that are shared first are to have for each of the k.
+pub(crate) const SHARED_FIRST_EACH: u64 = 16;
 
 /// How many values all rows have, at least, to be shared where codes are swept or all rows are read.
 pub(crate) const LEAST_VALUES_TO_SHARE: u64 = 2_000_000;
 
-/// How many leaves a worker draws at a time. Of noise leaves have two members each, and sixteen of them are swept in a microsecond, as are
-/// sixteen that are all too far: workers that draw so often wait for each other's draws.
-pub(crate) const LEAVES_OF_STRETCH: u32 = 256;
+/// How many values there are to be for each worker that is hired for them.
+pub(crate) const VALUES_OF_WORKER: u64 = 1_500_000;
+
+/// How many of the leaves that are listed a worker draws at a time.
+pub(crate) const ENTRIES_OF_STRETCH: usize = 16;
+
+/// How many leaves a worker draws at a time. Of noise leaves have two members each, and sixteen of them are swept in a microsecond: workers
+/// that draw so often wait for each other's draws. Of other data leaves have twenty or more, and of 256 of them the last are long waited for.
+pub(crate) const LEAVES_OF_STRETCH: u32 = 64;
 
 /// How many rows a worker draws at a time where all rows are read.
 pub(crate) const ROWS_OF_STRETCH: u32 = 64;

@@ -9,8 +9,8 @@ use Rattle.nearest_answer.proofs.Nearest.{next_passed, next_scanned, scan_size, 
 use Rattle.search_task.proofs.Grounds.{ground_fits, ground_last}
 use Rattle.nearest_answer.proofs.near_leaves.scan_entry.Goals as goal
 
-pub returns-then-entry-distance_of_worst-clause-met : goal.returns-then-entry-distance_of_worst-clause-met
-returns-then-entry-distance_of_worst-clause-met g c met unmet sound =
+pub returns-then-entry-min-clause-met : goal.returns-then-entry-min-clause-met
+returns-then-entry-min-clause-met g c met unmet sound =
     let ground = ground_of c.args.search.now in
     let fits = ground_fits c.args.search.now c.k-k.ensures.searched in
     let list = c.args.list.now in
@@ -18,7 +18,9 @@ returns-then-entry-distance_of_worst-clause-met g c met unmet sound =
     let least = worst_enough ground fits met list.pairs sound in
     let kth : c.distance_of_worst.result ≡ worst ground list.pairs
     = c.distance_of_worst.ensures ∙ ap (λ k. distance_at (k - 1) list.pairs) c.requires.k in
-    let far : last ground < entry.bound = omega (arith, least, kth, c.if-entry-distance_of_worst.true) in
+    let enough = ground_last c.args.search.now c.k-k.ensures.searched in
+    let far : last ground < entry.bound
+    = omega (arith, least, kth, enough, c.requires.limit, c.min.ensures, c.if-entry-min.true) in
     next_passed ground fits met entry.leaf entry.bound list.pairs c.requires.entry.low far sound
 
 pub returns-clause-size : goal.returns-clause-size
