@@ -4,8 +4,7 @@ use Rattle.std.specs.Prelude.{ℤ, min}
 use Rattle.std.proofs.lemmas.Bool.{cases_lt}
 use Rattle.std.proofs.lemmas.List.{take_all, take_more_set, length-drop, length-map, drop-drop, append_assoc, take_at}
 use Rattle.std.proofs.lemmas.List.FromFn.{length-map-range_with_len}
-use Rattle.series_core.specs.Distance.{squared_distance}
-use Rattle.row_codes.specs.Codes.{code_of, doubled, packed, pictured, step_of, word_of}
+use Rattle.row_codes.specs.Codes.{code_of, step_of, packed, word_of}
 use Rattle.row_codes.specs.Rows.{Block, block_codes, block_of, blocks_of, forgotten, row_codes, value_codes}
 
 -- what is cut out of a row for a block
@@ -53,13 +52,6 @@ pub own_are : (xs : List ℤ) (codes : List ℕ) → codes ≡ block_codes xs �
 own_are xs codes is =
     ap (take (length xs)) is
     ∙ take_at (value_codes xs) (replicate (256 - length xs) 8) (length xs) (length-map xs (code_of (step_of xs)))
-
--- and what they forget is what the block does
-pub forgotten_is : (xs : List ℤ) (codes : List ℕ) (s : ℕ) → s ≡ step_of xs → codes ≡ block_codes xs
-    → squared_distance (doubled xs) (pictured s (take (length xs) codes)) ≡ forgotten xs
-forgotten_is xs codes s step is =
-    ap (λ n. squared_distance (doubled xs) (pictured n (take (length xs) codes))) step
-    ∙ ap (λ cs. squared_distance (doubled xs) (pictured (step_of xs) cs)) (own_are xs codes is)
 
 -- there are 64 words
 pub length-packed : (cs : List ℕ) → length (packed cs) ≡ 64

@@ -1,6 +1,6 @@
 -- Codes by a reciprocal are exact (`by_reciprocal`); and what loops over the values of a block and their codes add (`reach_more`,
--- `code_more`, `places_more`, `forgotten_more`).
-use Rattle.std.proofs.Common.{◌≡◌, ℕ, zero, suc, ◌+◌, ◌-◌, ◌*◌, ◌/◌, ◌<◌, ◌≤◌, arith, ap, refl, sym, ◌∙◌, ◌⊎◌, inl, inr, ℤ, pos, negsuc, ◌+ℤ◌, ◌-ℤ◌, ◌*ℤ◌, add-one, replicate, List, [], ◌∷◌, ◌++◌, get_or, length, map, take, set, subst, to_z, of_z}
+-- `code_more`, `places_more`).
+use Rattle.std.proofs.Common.{◌≡◌, ℕ, zero, suc, ◌+◌, ◌-◌, ◌*◌, ◌/◌, ◌<◌, ◌≤◌, arith, ap, refl, sym, ◌∙◌, ◌⊎◌, inl, inr, ℤ, pos, negsuc, ◌+ℤ◌, replicate, List, [], ◌∷◌, ◌++◌, get_or, length, map, take, set, subst, to_z, of_z}
 use Rattle.std.specs.Prelude.{FitsSigned, max, unsigned_abs, ◌≤ℤ◌, ◌<ℤ◌}
 use Rattle.std.proofs.lemmas.Int.{ints, to_z-of_z}
 use Rattle.std.proofs.lemmas.Bool.{cases_lt}
@@ -8,10 +8,8 @@ use Rattle.std.proofs.lemmas.Nat.{mul-le}
 use Rattle.std.proofs.lemmas.List.{length-map, length-take-le, map-append, take_more}
 use Rattle.std.proofs.Math.Nat.{div-mul-le_self, lt-div-mul-add}
 use mir.Syntax.{w16}
-use Rattle.series_core.specs.Distance.{squared_difference, squared_distance}
 use Rattle.row_codes.specs.Roots.{square}
-use Rattle.row_codes.specs.Codes.{doubled, from_middle, pictured, place, places_squared, reach}
-use Rattle.row_codes.proofs.Pictures.{scaled}
+use Rattle.row_codes.specs.Codes.{from_middle, place, places_squared, reach}
 
 -- a value within a reach is not below it
 pub reached_low : (x : ℤ) (m : ℕ) → from_middle x < m → pos 0 ≤ℤ (x +ℤ pos m)
@@ -95,34 +93,6 @@ pub handed_near : (xs : List ℤ) (i s : ℕ) → FitsSigned w16 (get_or xs i (p
 handed_near xs i s fits inside near =
     let low = within_reach xs i (pos 0) inside in
     subst (λ z. from_middle z < 8 * s) (sym (to_z-of_z w16 (get_or xs i (pos 0)) fits)) (omega (arith, low, near))
-
--- twice a value and twice what a code stands for, both taken from the least value that is coded
-pub left_is : (x : ℤ) (s c n : ℕ) → pos 0 ≤ℤ (x +ℤ pos (8 * s)) → n ≡ unsigned_abs (x +ℤ pos (8 * s))
-    → unsigned_abs ((pos 2 *ℤ x) -ℤ (pos s *ℤ place c)) ≡ (2 * n - (2 * c + 1) * s) + ((2 * c + 1) * s - 2 * n)
-left_is x s c n low is =
-    let step : pos s *ℤ place c ≡ pos (s * (2 * c)) -ℤ pos (s * 15) = scaled s (place c) (2 * c) 15 refl in
-    of_step (pos s *ℤ place c) (s * (2 * c)) (s * 15) ((2 * c + 1) * s) step (omega arith)
-  where
-    of_step : (z : ℤ) (a b k : ℕ) → z ≡ pos a -ℤ pos b → k + b ≡ a + 16 * s
-        → unsigned_abs ((pos 2 *ℤ x) -ℤ z) ≡ (2 * n - k) + (k - 2 * n)
-    of_step z a b k is_z both = omega (arith, ints, low, is, is_z, both)
-
--- what the codes of values forget, with one value more
-pub forgotten_more : (s i : ℕ) (xs : List ℤ) (cs : List ℕ) (d : ℤ) → i < length xs → i < length cs
-    → squared_distance (doubled (take (i + 1) xs)) (pictured s (take (i + 1) cs))
-    ≡ squared_distance (doubled (take i xs)) (pictured s (take i cs))
-    + squared_difference (pos 2 *ℤ get_or xs i d) (pos s *ℤ place (get_or cs i 0))
-forgotten_more s i xs cs d in_x in_c =
-    ap (λ k. squared_distance (doubled (take k xs)) (pictured s (take k cs))) (add-one i) ∙ next i xs cs in_x in_c
-  where
-    next : (i : ℕ) (xs : List ℤ) (cs : List ℕ) → i < length xs → i < length cs
-        → squared_distance (doubled (take (suc i) xs)) (pictured s (take (suc i) cs))
-        ≡ squared_distance (doubled (take i xs)) (pictured s (take i cs))
-        + squared_difference (pos 2 *ℤ get_or xs i d) (pos s *ℤ place (get_or cs i 0))
-    next i [] cs in_x in_c = absurd (omega (arith, in_x))
-    next i (x ∷ xs) [] in_x in_c = absurd (omega (arith, in_c))
-    next zero (x ∷ xs) (c ∷ cs) in_x in_c = omega arith
-    next (suc i) (x ∷ xs) (c ∷ cs) in_x in_c = omega (arith, next i xs cs (omega (arith, in_x)) (omega (arith, in_c)))
 
 -- the squares of the places of one code more
 pub places_more : (cs : List ℕ) (i : ℕ) → i < length cs

@@ -12,6 +12,7 @@ pub mod RowLimits
 pub mod Blocks
 pub mod Lists
 pub mod OfBlocks
+pub mod Forgotten
 pub mod Below
 pub mod Totals
 pub mod Views

@@ -15,7 +15,7 @@ use Rattle.row_codes.proofs.Coded.{reached_high, reached_low}
 use Rattle.row_codes.proofs.Packed.{codes_packed}
 
 -- a value within the codes has one of the 16
-code_small : (s : ℕ) (x : ℤ) → from_middle x < 8 * s → code_of s x < 16
+pub code_small : (s : ℕ) (x : ℤ) → from_middle x < 8 * s → code_of s x < 16
 code_small s x near =
     let low = reached_low x (8 * s) near in
     let high = reached_high x (8 * s) near in

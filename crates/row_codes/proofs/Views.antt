@@ -23,11 +23,11 @@ whole_block query k inside =
     let none : 256 - length (values_at query k) ≡ 0 = omega (arith, long) in
     sym (append-nil (values_at query k)) ∙ ap (λ n. values_at query k ++ replicate n (pos 0)) (sym none)
 
--- a block that is not whole is the last
-pub last_block : (query : List ℤ) (k : ℕ) → 256 * k < length query → length query < 256 * k + 256
-    → filled (drop (256 * (length query / 256)) query) ≡ filled (values_at query k)
+-- a block behind which nothing stands is the last
+pub last_block : (query : List ℤ) (k : ℕ) → 256 * k ≤ length query - 1 → length query ≤ 256 * k + 256
+    → filled (drop (256 * ((length query - 1) / 256)) query) ≡ filled (values_at query k)
 last_block query k inside short =
-    let number : length query / 256 ≡ k = omega (arith, inside, short) in
+    let number : (length query - 1) / 256 ≡ k = omega (arith, inside, short) in
     ap (λ n. filled (drop (256 * n) query)) number
     ∙ ap filled (sym (take_all 256 (drop (256 * k) query) (omega (arith, length-drop (256 * k) query, short))))
 

@@ -1,5 +1,5 @@
--- What the view of a query keeps beside the query: for each block the sum of its values and that of their squares, and the last block
--- where it has fewer than 256 values.
+-- What the view of a query keeps beside the query: for each block the sum of its values and that of their squares, and the last block,
+-- with zeros behind where it has fewer than 256 values.
 use Rattle.std.specs.Prelude.{◌≡◌, ℕ, ℤ, pos, ◌+◌, ◌-◌, ◌*◌, ◌/◌, ◌≤◌, ◌+ℤ◌, ◌-ℤ◌, ◌*ℤ◌, List, [], ◌∷◌, ◌++◌, drop, length, map, replicate, take, unsigned_abs}
 use Rattle.std.specs.List.{range_with_len}
 use Rattle.std.specs.Simd.Lanes.{chunk}
@@ -35,7 +35,7 @@ filled xs = xs ++ replicate (256 - length xs) (pos 0)
 -- what a view keeps of a query
 pub record IsCodeView (query last : List ℤ) (sums : List Sums) : Type 0 where
   pub limit : length query ≤ 65536
-  pub behind : last ≡ filled (drop (256 * (length query / 256)) query)
+  pub behind : last ≡ filled (drop (256 * ((length query - 1) / 256)) query)
   pub places : length sums ≡ 256
   pub summed : take ((length query + 255) / 256) sums ≡ map (sums_at query) (range_with_len 0 ((length query + 255) / 256))
 

@@ -34,6 +34,12 @@ abbrev pub sixteens_dot : ℕ → List ℕ → List ℤ → ℤ
 sixteens_dot zero ws qs = pos 0
 sixteens_dot (suc n) ws qs = sixteens_dot n ws qs +ℤ words_dot (chunk (16 * n) 16 ws) (16 * n) qs
 
+-- eight lanes hold what so many sixteens of words add, up to multiples of 2^32
+pub record HoldSixteens (n : ℕ) (ws : List ℕ) (qs sums : List ℤ) : Type 0 where
+  pub value : wrapped (lane_total sums) ≡ wrapped (sixteens_dot n ws qs)
+  pub lanes : length sums ≡ 8
+  pub fits : All (FitsSigned w32) sums
+
 -- the values of a block: 256 of 16 bits
 pub record AreBlockValues (qs : List ℤ) : Type 0 where
   pub count : length qs ≡ 256

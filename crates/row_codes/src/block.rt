@@ -1,9 +1,13 @@
 //! What is kept of a row: blocks of 256 values each, in 4 bits a value. Each value has a code, and the last block may have fewer.
 ghost use Rattle.std.specs.Prelude.{◌≡◌, ◌+◌, ◌*◌, ◌≤◌, [], length, replicate};
-ghost use Rattle.row_codes.specs.Rows.{block_count, block_of, forgotten, row_codes};
+ghost use Rattle.row_codes.specs.Codes.{packed, places_squared, step_of};
+ghost use Rattle.row_codes.specs.Rows.{block_codes, block_count, block_of, forgotten, row_codes, value_codes};
 
-use crate::coding::{codes_of, forgotten_of, packed, squares_of, step_of};
+use crate::coding::{codes_of, packed, squares_of, step_of};
+use crate::lanes::dot;
 use crate::roots::root_up_of;
+use crate::sums::QuerySums;
+use crate::view::filled;
 use series_core::values_fit;
 use std::marker::Model;
 
@@ -57,16 +61,32 @@ impl CodeBlock {
     {
         let step = step_of(values);
         let codes = codes_of(values, step);
-        let own = &codes[..values.len()];
-        let after = before + forgotten_of(values, own, step);
+        let words = packed(&codes);
+        let squares = squares_of(&codes[..values.len()]);
+        let after = before + forgotten_of(values, &words, step, squares);
         let block = CodeBlock {
-            words: packed(&codes),
+            words,
             step,
-            squares: squares_of(own),
+            squares,
             rest: root_up_of(after) as u32,
         };
         (block, after)
     }
+}
+
+// What the codes of a block forget, multiplied out: so far the values lie from what their own codes stand for, as a query does.
+fn forgotten_of(values: &[i16], words: &[u16; 64], step: u16, squares: u16) -> u64
+    requires few { length values.now ≤ 256 }
+    requires words { words.now ≡ packed (block_codes values.now) }
+    requires step { step ≡ step_of values.now }
+    requires limit { step ≤ 4096 }
+    requires squares { squares ≡ places_squared (value_codes values.now) }
+    ensures value { result ≡ forgotten values.now }
+    ensures small { result ≤ length values.now * 17179869184 }
+{
+    let all = filled(values);
+    values_fit(&all);
+    QuerySums::of(values).distance(step, squares, dot(words, &all))
 }
 
 /// How many blocks are kept of a row of `n` values: one for each 256 of them and one for what is left.

@@ -1,4 +1,4 @@
-//! Codes of the values of one block, and what they forget. A code is found by a product with a reciprocal of the step in place of a
+//! Codes of the values of one block. A code is found by a product with a reciprocal of the step in place of a
 //! division; it is exact, since no value lies outside of the 16 codes.
 ghost use Rattle.std.specs.Prelude.{◌≡◌, ◌+◌, ◌-◌, ◌*◌, ◌/◌, ◌<◌, ◌≤◌, ◌+ℤ◌, ◌*ℤ◌, ◌++◌, pos, length, map, replicate, unsigned_abs};
 ghost use Rattle.std.specs.List.{All};
@@ -102,37 +102,6 @@ fn place_squared(code: u16) -> u16
 {
     let place = (2 * code).abs_diff(15);
     place * place
-}
-
-/// How far twice some values lie from twice what their codes stand for, squared.
-pub(crate) fn forgotten_of(values: &[i16], codes: &[u16], step: u16) -> u64
-    requires same { length codes.now ≡ length values.now }
-    requires few { length values.now ≤ 256 }
-    requires small { All (λ c. c < 16) codes.now }
-    requires step { step ≤ 4096 }
-    requires reached { reach values.now < 8 * step }
-    ensures value { result ≡ squared_distance (doubled values.now) (pictured step codes.now) }
-    ensures small { result ≤ length values.now * 17179869184 }
-{
-    let step = u32::from(step);
-    let mut sum = 0;
-    for i in 0..values.len() {
-        sum += left_squared(values[i], codes[i], step);
-    }
-    sum
-}
-
-/// How far twice a value lies from twice what a code stands for, squared. Both are taken from the least value that is coded.
-#[inline(always)]
-fn left_squared(value: i16, code: u16, step: u32) -> u64
-    requires small { code < 16 }
-    requires step { step ≤ 4096 }
-    requires reached { from_middle value < 8 * step }
-    ensures value { result ≡ squared_difference (pos 2 *ℤ value) (pos step *ℤ place code) }
-    ensures small { result ≤ 17179869184 }
-{
-    let left = (2 * above(value, step)).abs_diff((2 * u32::from(code) + 1) * step);
-    u64::from(left) * u64::from(left)
 }
 
 /// The words of 256 codes.

@@ -33,6 +33,59 @@ pub fn four_within(
     requires d { AreCodesFor (length d.now) codes.now }
     ensures { result ≡ each_within codes.now limits.now (a.now ∷ b.now ∷ c.now ∷ d.now ∷ []) }
 {
+    if let [code] = codes {
+        return four_within_only(a, b, c, d, code, limits);
+    }
+    four_within_all(a, b, c, d, codes, limits)
+}
+
+/// The same for a row of one block: nothing of a query is carried on, so the four tests need no branch. It stays a call, as that of one
+/// query does.
+#[inline(never)]
+fn four_within_only(
+    a: &CodeView,
+    b: &CodeView,
+    c: &CodeView,
+    d: &CodeView,
+    code: &CodeBlock,
+    limits: &[CodeLimit; 4],
+) -> [bool; 4]
+    requires a { AreCodesFor (length a.now) (code.now ∷ []) }
+    requires b { AreCodesFor (length b.now) (code.now ∷ []) }
+    requires c { AreCodesFor (length c.now) (code.now ∷ []) }
+    requires d { AreCodesFor (length d.now) (code.now ∷ []) }
+    ensures { result ≡ each_within (code.now ∷ []) limits.now (a.now ∷ b.now ∷ c.now ∷ d.now ∷ []) }
+{
+    let (dot_a, dot_b, dot_c, dot_d) = dots_of_four(
+        &code.words,
+        a.only_values(),
+        b.only_values(),
+        c.only_values(),
+        d.only_values(),
+    );
+    [
+        a.only_is_allowed(code, dot_a, &limits[0]),
+        b.only_is_allowed(code, dot_b, &limits[1]),
+        c.only_is_allowed(code, dot_c, &limits[2]),
+        d.only_is_allowed(code, dot_d, &limits[3]),
+    ]
+}
+
+/// The same, block by block.
+fn four_within_all(
+    a: &CodeView,
+    b: &CodeView,
+    c: &CodeView,
+    d: &CodeView,
+    codes: &[CodeBlock],
+    limits: &[CodeLimit; 4],
+) -> [bool; 4]
+    requires a { AreCodesFor (length a.now) codes.now }
+    requires b { AreCodesFor (length b.now) codes.now }
+    requires c { AreCodesFor (length c.now) codes.now }
+    requires d { AreCodesFor (length d.now) codes.now }
+    ensures { result ≡ each_within codes.now limits.now (a.now ∷ b.now ∷ c.now ∷ d.now ∷ []) }
+{
     let begin = Standing {
         squared: 0,
         within: true,

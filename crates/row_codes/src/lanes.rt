@@ -1,10 +1,10 @@
 //! The sum of the products of a block's codes and a query's values, in lanes: two products at a time are multiplied and added in one
 //! step. No bound on sums is needed on the way, since they are told up to multiples of 2^32, and the last takes 28 bits.
-ghost use Rattle.std.specs.Prelude.{◌≡◌, ◌+◌, ◌*◌, ◌/◌, ◌%◌, ◌+ℤ◌, ◌≤◌, length, map, FitsSigned};
+ghost use Rattle.std.specs.Prelude.{◌≡◌, ◌+◌, ◌*◌, ◌/◌, ◌%◌, ◌+ℤ◌, ◌<◌, ◌≤◌, length, map, FitsSigned};
 ghost use Rattle.std.specs.Simd.Lanes.{chunk};
 ghost use Rattle.std.specs.List.{All};
 ghost use mir.Syntax.{w16, w32};
-ghost use Rattle.row_codes.specs.Lanes.{AreBlockValues, AreFourValues, IsBlockDot, code_dot, lane_total, words_dot, wrapped};
+ghost use Rattle.row_codes.specs.Lanes.{AreBlockValues, AreFourValues, HoldSixteens, IsBlockDot, code_dot, lane_total, words_dot, wrapped};
 
 use std::simd::prelude::*;
 
@@ -17,13 +17,13 @@ pub(crate) fn dot(words: &[u16], query: &[i16]) -> i32
 {
     let mut sums = i32x8::splat(0);
     for sixteen in 0..4 {
-        let at = 16 * sixteen;
-        sums = added(sums, sums_of_words(sixteen_words(words, at), query, at));
+        sums = with_sixteen(sums, words, query, sixteen);
     }
     lane_sum(sums)
 }
 
-/// The same with the values of each of four queries: what the words hold is taken out once for all of them.
+/// The same with the values of each of four queries: what the words hold is taken out once for all of them. Written out without the loop
+/// it took longer, since the compiler then goes through one query after another.
 #[inline(always)]
 pub(crate) fn dots_of_four(
     words: &[u16],
@@ -42,12 +42,10 @@ pub(crate) fn dots_of_four(
     let none = i32x8::splat(0);
     let (mut to_a, mut to_b, mut to_c, mut to_d) = (none, none, none, none);
     for sixteen in 0..4 {
-        let at = 16 * sixteen;
-        let codes = sixteen_words(words, at);
-        to_a = added(to_a, sums_of_words(codes, a, at));
-        to_b = added(to_b, sums_of_words(codes, b, at));
-        to_c = added(to_c, sums_of_words(codes, c, at));
-        to_d = added(to_d, sums_of_words(codes, d, at));
+        to_a = with_sixteen(to_a, words, a, sixteen);
+        to_b = with_sixteen(to_b, words, b, sixteen);
+        to_c = with_sixteen(to_c, words, c, sixteen);
+        to_d = with_sixteen(to_d, words, d, sixteen);
     }
     (
         lane_sum(to_a),
@@ -55,6 +53,19 @@ pub(crate) fn dots_of_four(
         lane_sum(to_c),
         lane_sum(to_d),
     )
+}
+
+/// What lanes hold of so many sixteens of words, with one sixteen more.
+#[inline(always)]
+fn with_sixteen(sums: i32x8, words: &[u16], query: &[i16], sixteen: usize) -> i32x8
+    requires few { sixteen < 4 }
+    requires words { length words.now ≡ 64 }
+    requires query { AreBlockValues query.now }
+    requires held { HoldSixteens sixteen words.now query.now sums }
+    ensures { HoldSixteens (sixteen + 1) words.now query.now result }
+{
+    let at = 16 * sixteen;
+    added(sums, sums_of_words(sixteen_words(words, at), query, at))
 }
 
 /// What the codes of sixteen words add with the values at their places, of which the first are those from place `at` on.

@@ -38,18 +38,23 @@ impl QuerySums {
         }
     }
 
-    // The sums of at most 256 values.
+    // The sums of at most 256 values. The squares are added in two halves of 16 bits, whose sums take 32.
     pub(crate) fn of(values: &[i16]) -> QuerySums
         requires { length values.now ≤ 256 }
         ensures { result ≡ record { total = value_total values.now; squares = value_squares values.now } }
     {
-        let (mut total, mut squares) = (0i32, 0u64);
+        let (mut total, mut low, mut high) = (0i32, 0u32, 0u32);
         for i in 0..values.len() {
             let value = i32::from(values[i]);
+            let square = square_of(value);
             total += value;
-            squares += square_of(value);
+            low += square % 65536;
+            high += square / 65536;
         }
-        QuerySums { total, squares }
+        QuerySums {
+            total,
+            squares: u64::from(low) + 65536 * u64::from(high),
+        }
     }
 
     // How far twice the query lies from twice what codes stand for, squared: of their step, the squares of their places, and the sum of
@@ -81,11 +86,11 @@ impl QuerySums {
 
 /// The square of a value of 16 bits.
 #[inline(always)]
-fn square_of(value: i32) -> u64
+fn square_of(value: i32) -> u32
     requires { unsigned_abs value ≤ 32768 }
     ensures value { result ≡ unsigned_abs value * unsigned_abs value }
     ensures small { result ≤ 1073741824 }
 {
-    let size = u64::from(value.unsigned_abs());
+    let size = value.unsigned_abs();
     size * size
 }

@@ -1,6 +1,6 @@
 //! A query as bounds by codes see it, and the test whether a row may lie within a limit. The test stops behind the first block up to whose
 //! end the row is too far.
-ghost use Rattle.std.specs.Prelude.{◌≡◌, ◌+◌, ◌-◌, ◌*◌, ◌/◌, ◌<◌, ◌≤◌, drop, length, leb, slice_index_or, take};
+ghost use Rattle.std.specs.Prelude.{◌≡◌, ◌+◌, ◌-◌, ◌*◌, ◌/◌, ◌<◌, ◌≤◌, ◌∷◌, [], drop, length, leb, slice_index_or, take};
 ghost use Rattle.row_codes.specs.Codes.{codes_of, places_squared};
 ghost use Rattle.row_codes.specs.Bound.{AreCodesFor, block_distance, code_bound};
 ghost use Rattle.row_codes.specs.Lanes.{AreBlockValues, IsBlockDot};
@@ -13,8 +13,8 @@ use crate::sums::QuerySums;
 use series_core::values_fit;
 use std::marker::Model;
 
-/// A query, seen as its values: it is lent, and beside it stand the sums of each block and the last block where it has fewer than 256
-/// values.
+/// A query, seen as its values: it is lent, and beside it stand the sums of each block and the last block, with zeros behind where it has
+/// fewer than 256 values.
 #[derive(Drop)]
 pub struct CodeView<'a> {
     query: &'a [i16],
@@ -47,14 +47,37 @@ impl<'a> CodeView<'a> {
         }
         CodeView {
             query,
-            last: filled(&query[query.len() / BLOCK * BLOCK..]),
+            last: filled(&query[query.len().saturating_sub(1) / BLOCK * BLOCK..]),
             sums,
         }
     }
 
     /// Whether the lower bound of a row by its codes is at most a limit of the squared distance. The codes are those of a row as long as the
     /// query: a row that is not within is farther than the limit. A row of no values has no codes, and is always within.
+    #[inline(always)]
     pub fn is_within(&self, codes: &[CodeBlock], limit: &CodeLimit) -> bool
+        requires { AreCodesFor (length self.now) codes.now }
+        ensures { result ≡ leb (code_bound self.now codes.now) limit.now }
+    {
+        if let [code] = codes {
+            return self.is_only_within(code, limit);
+        }
+        self.are_within(codes, limit)
+    }
+
+    // The same for the only block of a row. It stays a call: in a loop over rows the query's values were widened before, and narrowed again
+    // for each row.
+    #[inline(never)]
+    fn is_only_within(&self, code: &CodeBlock, limit: &CodeLimit) -> bool
+        requires { AreCodesFor (length self.now) (code.now ∷ []) }
+        ensures { result ≡ leb (code_bound self.now (code.now ∷ [])) limit.now }
+    {
+        let dot = dot(&code.words, self.only_values());
+        self.only_is_allowed(code, dot, limit)
+    }
+
+    // The same, block by block.
+    fn are_within(&self, codes: &[CodeBlock], limit: &CodeLimit) -> bool
         requires { AreCodesFor (length self.now) codes.now }
         ensures { result ≡ leb (code_bound self.now codes.now) limit.now }
     {
@@ -67,6 +90,27 @@ impl<'a> CodeView<'a> {
             }
         }
         true
+    }
+
+    // The same where the sum of the products of its codes and the query's values is known.
+    #[inline(always)]
+    pub(crate) fn only_is_allowed(&self, code: &CodeBlock, dot: i32, limit: &CodeLimit) -> bool
+        requires codes { AreCodesFor (length self.now) (code.now ∷ []) }
+        requires dot { IsBlockDot code.now.words (filled (values_at self.now 0)) dot }
+        ensures { result ≡ leb (code_bound self.now (code.now ∷ [])) limit.now }
+    {
+        limit.allows(self.far_from(0, code, dot), code.rest)
+    }
+
+    // The values of the only block, with zeros behind them where there are fewer than 256.
+    #[inline(always)]
+    pub(crate) fn only_values(&self) -> &[i16]
+        requires { length self.now ≤ 256 }
+        ensures value { result.now ≡ filled (values_at self.now 0) }
+        ensures block { AreBlockValues result.now }
+    {
+        values_fit(&self.last);
+        &self.last
     }
 
     // The values of block `k`, with zeros behind them where there are fewer than 256.
@@ -107,13 +151,13 @@ fn sums_of(sums: &[QuerySums], k: usize) -> &QuerySums
 #[inline(always)]
 fn values_of<'a>(query: &'a [i16], last: &'a [i16], k: usize) -> &'a [i16]
     requires inside { 256 * k < length query.now }
-    requires last { last.now ≡ filled (drop (256 * (length query.now / 256)) query.now) }
+    requires last { last.now ≡ filled (drop (256 * ((length query.now - 1) / 256)) query.now) }
     ensures value { result.now ≡ filled (values_at query.now k) }
     ensures block { AreBlockValues result.now }
 {
     values_fit(query);
     let from = BLOCK * k;
-    if from + BLOCK <= query.len() {
+    if from + BLOCK < query.len() {
         &query[from..from + BLOCK]
     } else {
         values_fit(last);
@@ -122,7 +166,7 @@ fn values_of<'a>(query: &'a [i16], last: &'a [i16], k: usize) -> &'a [i16]
 }
 
 /// Some values with zeros behind them.
-fn filled(values: &[i16]) -> [i16; 256]
+pub(crate) fn filled(values: &[i16]) -> [i16; 256]
     requires { length values.now ≤ 256 }
     ensures { result ≡ filled values.now }
 {

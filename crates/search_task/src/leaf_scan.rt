@@ -185,6 +185,7 @@ impl<'a, R: Rows> Task<'a, R> {
     }
 
     /// Whether the member's codes do not lie above the limit. Where they do, so does its distance.
+    #[inline(always)]
     pub fn codes_may_be_within(
         &self,
         member: &Member,

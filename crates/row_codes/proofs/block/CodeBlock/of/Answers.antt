@@ -2,7 +2,7 @@
 use Rattle.std.proofs.Common.{◌∙◌, ◌+◌, ◌≤◌, ap, arith, length}
 use Rattle.row_codes.specs.Roots.{root_up}
 use Rattle.row_codes.specs.Codes.{packed, places_squared}
-use Rattle.row_codes.proofs.Blocks.{codes_are, forgotten_is, length-packed, own_are}
+use Rattle.row_codes.proofs.Blocks.{codes_are, length-packed, own_are}
 use Rattle.row_codes.proofs.RootLemmas.{root_up_small}
 use Rattle.row_codes.proofs.block.CodeBlock.of.Goals as goal
 use Rattle.row_codes.proofs.block.CodeBlock.of.Goals.{After-root_up_of}
@@ -17,27 +17,32 @@ short c =
           (omega (arith, c.requires.before, c.requires.few, c.forgotten_of.ensures.small)),
     )
 
+pub forgotten_of-requires-clause-words : goal.forgotten_of-requires-clause-words
+forgotten_of-requires-clause-words c =
+    c.packed-words.ensures
+    ∙ ap packed (codes_are c.args.values.now c.codes_of-codes.result c.step_of-step.result c.step_of-step.ensures.value
+    c.codes_of-codes.ensures.value)
+
+pub forgotten_of-requires-clause-squares : goal.forgotten_of-requires-clause-squares
+forgotten_of-requires-clause-squares c =
+    let xs = c.args.values.now in
+    c.squares_of-squares.ensures
+    ∙ ap places_squared (own_are xs c.codes_of-codes.result
+    (codes_are xs c.codes_of-codes.result c.step_of-step.result c.step_of-step.ensures.value c.codes_of-codes.ensures.value))
+
 pub overflow_cast-block : goal.overflow_cast-block
 overflow_cast-block c = record { fits = omega (arith, short c) }
 
 pub invariant_of-block : goal.invariant_of-block
 invariant_of-block c =
-    (ap length c.packed.ensures ∙ length-packed c.codes_of-codes.result, c.step_of-step.ensures.limit, short c)
-
-pub returns-clause-forgotten : goal.returns-clause-forgotten
-returns-clause-forgotten c =
-    let codes = codes_are c.args.values.now c.codes_of-codes.result c.step_of-step.result c.step_of-step.ensures.value
-    c.codes_of-codes.ensures.value in
-    ap (λ n. c.args.before + n) (c.forgotten_of.ensures.value
-    ∙ forgotten_is c.args.values.now c.codes_of-codes.result c.step_of-step.result c.step_of-step.ensures.value codes)
+    (ap length c.packed-words.ensures ∙ length-packed c.codes_of-codes.result, c.step_of-step.ensures.limit, short c)
 
 pub returns-clause-block : goal.returns-clause-block
 returns-clause-block c =
     let xs = c.args.values.now in
     let codes = codes_are xs c.codes_of-codes.result c.step_of-step.result c.step_of-step.ensures.value c.codes_of-codes.ensures.value in
-    let words = c.packed.ensures ∙ ap packed codes in
+    let words = c.packed-words.ensures ∙ ap packed codes in
     let step = c.step_of-step.ensures.value in
-    let squares = c.squares_of.ensures ∙ ap places_squared (own_are xs c.codes_of-codes.result codes) in
-    let left = c.root_up_of.ensures ∙ ap (λ n. root_up (c.args.before + n)) (c.forgotten_of.ensures.value
-    ∙ forgotten_is xs c.codes_of-codes.result c.step_of-step.result c.step_of-step.ensures.value codes) in
+    let squares = c.squares_of-squares.ensures ∙ ap places_squared (own_are xs c.codes_of-codes.result codes) in
+    let left = c.root_up_of.ensures ∙ ap (λ n. root_up (c.args.before + n)) c.forgotten_of.ensures.value in
     λ i. record { words = words i; step = step i; squares = squares i; rest = left i }

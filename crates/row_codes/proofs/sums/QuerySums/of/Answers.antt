@@ -15,7 +15,7 @@ loop-i-preserved c =
     let sum : to_z w32 (of_z w32 (to_z w32 c.loop-i.total-bits +ℤ to_z w32 (of_z w32 c.from-value.result)))
     ≡ to_z w32 c.loop-i.total-bits +ℤ x
     = omega (arith, ints, passed, fits, c.loop-i.invariant.small, c.loop-i.auto.i-end, c.requires) in
-    let square_is = c.square_of-squares.ensures.value ∙ ap (λ z. unsigned_abs z * unsigned_abs z) passed in
+    let square_is = c.square_of-square.ensures.value ∙ ap (λ z. unsigned_abs z * unsigned_abs z) passed in
     record {
       total = omega (arith, ints, sum, c.loop-i.invariant.total, total_more c.args.values.now c.loop-i.i (pos 0) c.loop-i-test.true);
       squares = omega (
@@ -25,5 +25,6 @@ loop-i-preserved c =
         squares_more c.args.values.now c.loop-i.i (pos 0) c.loop-i-test.true,
       );
       small = omega (arith, ints, sum, fits, c.loop-i.invariant.small);
-      few = omega (arith, c.loop-i.invariant.few, c.square_of-squares.ensures.small);
+      half = omega (arith, c.loop-i.invariant.half);
+      few = omega (arith, c.loop-i.invariant.few, c.square_of-square.ensures.small);
     }

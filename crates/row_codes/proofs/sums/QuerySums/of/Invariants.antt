@@ -1,5 +1,5 @@
 -- The sum of the values so far, and that of their squares.
-use Rattle.std.proofs.Common.{◌≡◌, ◌*◌, ◌≤◌, take}
+use Rattle.std.proofs.Common.{◌≡◌, ◌+◌, ◌*◌, ◌≤◌, take}
 use Rattle.std.specs.Prelude.{unsigned_abs}
 use Rattle.row_codes.specs.Kept.{value_squares, value_total}
 use Rattle.row_codes.proofs.sums.QuerySums.of.Given as goal
@@ -7,7 +7,8 @@ use Rattle.row_codes.proofs.sums.QuerySums.of.Given as goal
 abbrev pub invariant-loop-i : goal.invariant-loop-i
 invariant-loop-i l = record {
   total : l.total ≡ value_total (take l.i l.values);
-  squares : l.squares ≡ value_squares (take l.i l.values);
+  squares : l.low + 65536 * l.high ≡ value_squares (take l.i l.values);
   small : unsigned_abs l.total ≤ 32768 * l.i;
-  few : l.squares ≤ 1073741824 * l.i;
+  half : l.low ≤ 65535 * l.i;
+  few : l.low + 65536 * l.high ≤ 1073741824 * l.i;
 }

@@ -1,7 +1,7 @@
 -- Up to the blocks so far the row is not too far, so what is left decides.
 use Rattle.std.proofs.Common.{◌≡◌, ◌-◌, ◌*◌, ◌≤◌, leb, drop, length}
 use Rattle.row_codes.specs.Bound.{HaveSquares, bound_from, code_bound}
-use Rattle.row_codes.proofs.view.CodeView.is_within.Given as goal
+use Rattle.row_codes.proofs.view.CodeView.are_within.Given as goal
 
 abbrev pub invariant-loop-k : goal.invariant-loop-k
 invariant-loop-k l = record {

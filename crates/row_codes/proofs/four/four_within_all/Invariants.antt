@@ -1,7 +1,7 @@
 -- How each query stands behind the blocks so far.
 use Rattle.std.proofs.Common.{slice_index}
 use Rattle.row_codes.proofs.Standings.{Stands}
-use Rattle.row_codes.proofs.four.four_within.Given as goal
+use Rattle.row_codes.proofs.four.four_within_all.Given as goal
 
 abbrev pub invariant-loop-k : goal.invariant-loop-k
 invariant-loop-k l = record {

@@ -1,7 +1,7 @@
 -- Each query stands behind one block more; in the end, or where each is too far, that decides.
 use Rattle.std.proofs.Common.{◌+◌, ◌≤◌, ◌∷◌, [], arith, length, slice_index}
 use Rattle.row_codes.proofs.Standings.{not_within, stands_far, stands_first, stands_last, stands_next}
-use Rattle.row_codes.proofs.four.four_within.Goals as goal
+use Rattle.row_codes.proofs.four.four_within_all.Goals as goal
 
 pub loop-k-init : goal.loop-k-init
 loop-k-init c = record {

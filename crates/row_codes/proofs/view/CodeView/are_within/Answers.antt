@@ -4,7 +4,7 @@ use Rattle.std.proofs.lemmas.Bool.{leb-true}
 use Rattle.row_codes.specs.Rows.{Block}
 use Rattle.row_codes.specs.Bound.{bound_at}
 use Rattle.row_codes.proofs.Views.{squares_left, within_more}
-use Rattle.row_codes.proofs.view.CodeView.is_within.Goals as goal
+use Rattle.row_codes.proofs.view.CodeView.are_within.Goals as goal
 
 pub loop-k-preserved : goal.loop-k-preserved
 loop-k-preserved c =
