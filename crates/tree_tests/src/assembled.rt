@@ -1,6 +1,7 @@
 //! Indexes put together from parts: the worked one, and parts that make none.
 ghost use Rattle.std.specs.Prelude.{◌≤◌};
 
+use crate::claims::assert_same;
 use crate::worked::is_leaf;
 use breakpoints::Table;
 use isax_word::{Full, Layout, Member};
@@ -50,16 +51,10 @@ fn the_worked_parts(rt: HostRuntime) -> Result<(), Fail> {
     let Ok(index) = Index::assemble(alloc, 2, roots, nodes, leaves) else {
         return Err(Fail::new("the parts make an index"));
     };
-    assert_eq!(rt; index.leaf_count(), 2, "leaves");
-    assert_eq!(rt; index.root_count(), 2, "root children");
-    assert!(rt;
-        is_leaf(&index, 0, &[(0, 1), (0, 1)], &[2]),
-        "the first leaf"
-    );
-    assert!(rt;
-        is_leaf(&index, 1, &[(1, 1), (1, 1)], &[0, 1, 3]),
-        "the second leaf"
-    );
+    assert_same!(rt; index.leaf_count(), 2, "leaves");
+    assert_same!(rt; index.root_count(), 2, "root children");
+    assert_same!(rt; is_leaf(&index, 0, &[(0, 1), (0, 1)], &[2]), true, "the first leaf");
+    assert_same!(rt; is_leaf(&index, 1, &[(1, 1), (1, 1)], &[0, 1, 3]), true, "the second leaf");
     Ok(())
 }
 
@@ -117,17 +112,11 @@ fn childless() -> Node {
 fn parts_that_make_an_index(rt: HostRuntime) -> Result<(), Fail> {
     let alloc = rt.alloc();
     let none = are_refused(alloc, &[], Vec::new(alloc), 0)?;
-    assert!(rt; !none, "no root child");
+    assert_same!(rt; none, false, "no root child");
     let deep = vec![in alloc; chain(alloc, 1, 7)?]?;
-    assert!(rt;
-        !are_refused(alloc, &[3], deep, 1)?,
-        "eight bits in a segment"
-    );
+    assert_same!(rt; are_refused(alloc, &[3], deep, 1)?, false, "eight bits in a segment");
     let both = vec![in alloc; pair(alloc, 0, 1)?, Node::Leaf(2)]?;
-    assert!(rt;
-        !are_refused(alloc, &[0, 2], both, 3)?,
-        "two children and a leaf"
-    );
+    assert_same!(rt; are_refused(alloc, &[0, 2], both, 3)?, false, "two children and a leaf");
     Ok(())
 }
 
@@ -135,44 +124,26 @@ fn parts_that_make_an_index(rt: HostRuntime) -> Result<(), Fail> {
 fn parts_that_make_none(rt: HostRuntime) -> Result<(), Fail> {
     let alloc = rt.alloc();
     let two = vec![in alloc; Node::Leaf(0), Node::Leaf(1)]?;
-    assert!(rt; are_refused(alloc, &[1, 1], two, 2)?, "equal root numbers");
+    assert_same!(rt; are_refused(alloc, &[1, 1], two, 2)?, true, "equal root numbers");
     let two = vec![in alloc; Node::Leaf(0), Node::Leaf(1)]?;
-    assert!(rt;
-        are_refused(alloc, &[2, 1], two, 2)?,
-        "descending root numbers"
-    );
+    assert_same!(rt; are_refused(alloc, &[2, 1], two, 2)?, true, "descending root numbers");
     let one = vec![in alloc; Node::Leaf(0)]?;
-    assert!(rt;
-        are_refused(alloc, &[4], one, 1)?,
-        "a root number of three bits"
-    );
+    assert_same!(rt; are_refused(alloc, &[4], one, 1)?, true, "a root number of three bits");
     let one = vec![in alloc; Node::Leaf(0)]?;
-    assert!(rt;
-        are_refused(alloc, &[0, 1], one, 1)?,
-        "a root number without a node"
-    );
+    assert_same!(rt; are_refused(alloc, &[0, 1], one, 1)?, true, "a root number without a node");
     let deep = vec![in alloc; chain(alloc, 1, 8)?]?;
-    assert!(rt;
-        are_refused(alloc, &[3], deep, 1)?,
-        "nine bits in a segment"
-    );
+    assert_same!(rt; are_refused(alloc, &[3], deep, 1)?, true, "nine bits in a segment");
     let aside = vec![in alloc; chain(alloc, 2, 1)?]?;
-    assert!(rt;
-        are_refused(alloc, &[3], aside, 1)?,
-        "a segment past the last"
-    );
+    assert_same!(rt; are_refused(alloc, &[3], aside, 1)?, true, "a segment past the last");
     let empty = vec![in alloc; childless()]?;
-    assert!(rt;
-        are_refused(alloc, &[3], empty, 0)?,
-        "a split without child"
-    );
+    assert_same!(rt; are_refused(alloc, &[3], empty, 0)?, true, "a split without child");
     let turned = vec![in alloc; pair(alloc, 1, 0)?]?;
-    assert!(rt; are_refused(alloc, &[3], turned, 2)?, "leaves out of order");
+    assert_same!(rt; are_refused(alloc, &[3], turned, 2)?, true, "leaves out of order");
     let same = vec![in alloc; pair(alloc, 0, 0)?]?;
-    assert!(rt; are_refused(alloc, &[3], same, 1)?, "one leaf twice");
+    assert_same!(rt; are_refused(alloc, &[3], same, 1)?, true, "one leaf twice");
     let few = vec![in alloc; Node::Leaf(0)]?;
-    assert!(rt; are_refused(alloc, &[3], few, 2)?, "a leaf below no node");
+    assert_same!(rt; are_refused(alloc, &[3], few, 2)?, true, "a leaf below no node");
     let many = vec![in alloc; pair(alloc, 0, 1)?]?;
-    assert!(rt; are_refused(alloc, &[3], many, 1)?, "a node of no leaf");
+    assert_same!(rt; are_refused(alloc, &[3], many, 1)?, true, "a node of no leaf");
     Ok(())
 }

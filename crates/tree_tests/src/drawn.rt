@@ -2,6 +2,7 @@
 
 ghost use Rattle.std.specs.Prelude.{◌≡◌, IfOk};
 
+use crate::claims::assert_same;
 use crate::worked::{collection, is_leaf};
 use breakpoints::Table;
 use mean_bound::MeanView;
@@ -289,16 +290,10 @@ fn a_group_is_no_farther_than_its_leaves(rt: HostRuntime) -> Result<(), Fail> {
         let own = view.bound_box(index.leaf_box(l));
         let group = view.bound_box(index.group_box(l / GROUP));
         let wide = view.bound_box(index.wide_group_box(l / WIDE_GROUP));
-        assert!(rt;
-            wide <= group && group <= own,
-            "leaf {l}: {wide}, {group}, {own}"
-        );
+        assert_same!(rt; wide <= group && group <= own, true, "leaf {l}: {wide}, {group}, {own}");
         far = far.wrapping_add(u32::from(group > 0));
     }
-    assert!(rt;
-        index.leaf_count() > WIDE_GROUP,
-        "leaves of two wide groups"
-    );
-    assert!(rt; far > 0, "some group is far");
+    assert_same!(rt; index.leaf_count() > WIDE_GROUP, true, "leaves of two wide groups");
+    assert_same!(rt; far > 0, true, "some group is far");
     Ok(())
 }

@@ -5,6 +5,8 @@
 #[cfg(test)]
 mod assembled;
 #[cfg(test)]
+mod claims;
+#[cfg(test)]
 mod drawn;
 #[cfg(test)]
 mod worked;

@@ -1,6 +1,7 @@
 //! Worked trees, leaf for leaf, whatever the number of workers; and workers that must meet.
 ghost use Rattle.std.specs.Prelude.{◌≡◌, IfOk};
 
+use crate::claims::assert_same;
 use breakpoints::Table;
 use lower_bound::QueryView;
 use outside::{Gate, NoGate};
@@ -160,7 +161,7 @@ const KNOWN: [Known; 4] = [
 #[test]
 fn known_trees_grow(rt: HostRuntime) -> Result<(), Fail> {
     for tree in &KNOWN {
-        assert!(rt; grows(&rt, rt.alloc(), tree)?, "{}", tree.name);
+        assert_same!(rt; grows(&rt, rt.alloc(), tree)?, true, "{}", tree.name);
     }
     Ok(())
 }
@@ -172,9 +173,9 @@ fn no_series_has_no_tree(rt: HostRuntime) -> Result<(), Fail> {
     let Ok(index) = build(&rt, rt.alloc(), &rows, &settings, 3, &NoGate) else {
         return Err(Fail::new("no memory for the tree"));
     };
-    assert_eq!(rt; (index.root_count(), index.leaf_count()), (0, 0), "nothing");
+    assert_same!(rt; (index.root_count(), index.leaf_count()), (0, 0), "nothing");
     let view = QueryView::new(&settings.layout, &[0, 0, 0, 0]);
-    assert_eq!(rt; index.start_leaf(&view), None, "no start");
+    assert_same!(rt; index.start_leaf(&view), None, "no start");
     Ok(())
 }
 
@@ -222,8 +223,8 @@ fn two_workers_meet_at_the_gate(rt: HostRuntime) -> Result<(), Fail> {
         gate.first.load(Ordering::SeqCst),
         gate.second.load(Ordering::SeqCst),
     );
-    assert_eq!(rt; came, (1, 1), "each comes once at its turn 0");
-    assert!(rt; !gate.missed.load(Ordering::SeqCst), "the looks ran out");
+    assert_same!(rt; came, (1, 1), "each comes once at its turn 0");
+    assert_same!(rt; gate.missed.load(Ordering::SeqCst), false, "the looks ran out");
     Ok(())
 }
 
@@ -283,10 +284,10 @@ fn two_chunks_are_read_at_once(rt: HostRuntime) -> Result<(), Fail> {
     let Ok(index) = build(&rt, rt.alloc(), &watched, &settings, 2, &NoGate) else {
         return Err(Fail::new("no memory for the tree"));
     };
-    assert_eq!(rt; index.leaf_count(), 1, "one leaf");
+    assert_same!(rt; index.leaf_count(), 1, "one leaf");
     if index.leaf_count() == 1 {
-        assert_eq!(rt; index.leaf_members(0).len(), 512, "all series in it");
+        assert_same!(rt; index.leaf_members(0).len(), 512, "all series in it");
     }
-    assert!(rt; !watched.missed.load(Ordering::SeqCst), "the looks ran out");
+    assert_same!(rt; watched.missed.load(Ordering::SeqCst), false, "the looks ran out");
     Ok(())
 }
