@@ -10,6 +10,7 @@ pub mod Ascents
 pub mod Below
 pub mod Wording
 pub mod Weights
+mod Stretches
 pub mod Fitted
 pub mod Marks
 pub mod Loaded

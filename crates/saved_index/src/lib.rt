@@ -13,6 +13,7 @@ mod reading;
 mod roots;
 mod savable;
 mod saving;
+mod words;
 
 pub use error::IndexFault;
 pub use laws::{

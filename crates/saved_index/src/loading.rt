@@ -1,13 +1,18 @@
 //! Loading a saved index over a collection: nothing of its bytes is believed. What was read is tested against the rows, series by series,
 //! before it is handed out, and the first refusal in the order of `IndexFault` is given.
 ghost use Rattle.std.specs.Prelude.{◌≡◌, ◌≤◌, IfOk, IfErr, length};
+ghost use Rattle.saved_index.specs.Faults.{layout_for};
+ghost use Rattle.saved_index.specs.Fields.{header_of};
 ghost use Rattle.saved_index.specs.IndexText.{CanSave};
 ghost use Rattle.saved_index.specs.Loading.{Explains, IsIndexFor, IsSavedFor, IsTested, IsTextFor, Leaves, Loads, LoadsWhole, Refuses};
+ghost use Rattle.saved_index.specs.Membership.{words_of};
 
 use crate::error::IndexFault;
 use crate::fitting::first_unfit;
 use crate::members::assembled;
 use crate::reading::{Spelled, read_saved};
+use crate::words::{words_in_turn, words_side_by_side};
+use isax_word::Full;
 use outside::{AllError, Files, read_all};
 use series_core::Rows;
 use std::alloc::Global;
@@ -65,7 +70,13 @@ pub fn load_alone<R: Rows>(alloc: Global, bytes: &[u8], rows: &R) -> Result<Load
     if bytes.len() as u64 > MAX_BYTES {
         return Err(IndexFault::TooLong);
     }
-    let LoadedIndex { settings, index } = match tested(alloc, bytes, rows) {
+    let read = match read_for(alloc, bytes, rows) {
+        Ok(read) => read,
+        Err(e) => return Err(e),
+    };
+    let settings = settings_of(bytes, rows, &read);
+    let words = words_in_turn(alloc, rows, &settings.layout, 0, rows.count())?;
+    let LoadedIndex { settings, index } = match tested(alloc, bytes, rows, read, words) {
         Ok(loaded) => loaded,
         Err(e) => return Err(e),
     };
@@ -87,7 +98,13 @@ pub(crate) fn load_bytes<H: Threads + Sync, R: Rows + Sync>(
     ensures text { IfOk result (λ loaded. IsTextFor (R.collection rows.now) loaded bytes.now) }
     ensures refused { IfErr result (Refuses (R.collection rows.now) bytes.now) }
 {
-    let LoadedIndex { settings, index } = match tested(alloc, bytes, rows) {
+    let read = match read_for(alloc, bytes, rows) {
+        Ok(read) => read,
+        Err(e) => return Err(e),
+    };
+    let settings = settings_of(bytes, rows, &read);
+    let words = words_side_by_side(rt, alloc, rows, &settings.layout, 0, rows.count(), workers)?;
+    let LoadedIndex { settings, index } = match tested(alloc, bytes, rows, read, words) {
         Ok(loaded) => loaded,
         Err(e) => return Err(e),
     };
@@ -95,18 +112,34 @@ pub(crate) fn load_bytes<H: Threads + Sync, R: Rows + Sync>(
     Ok(LoadedIndex { settings, index })
 }
 
-/// What the bytes are the text of, put together and tested against the rows. It has no means yet.
-fn tested<R: Rows>(alloc: Global, bytes: &[u8], rows: &R) -> Result<LoadedIndex, IndexFault>
-    requires { length bytes.now ≤ 1073741824 }
+/// The settings that what was read of the bytes was saved with, which are for series of the rows' length.
+fn settings_of<R: Rows>(bytes: &[u8], rows: &R, read: &Spelled) -> Settings
+    requires { IsSavedFor (R.collection rows.now) bytes.now read.now }
+    ensures layout { result.layout ≡ layout_for (header_of read.now.fields) }
+    ensures leaf_size { result.leaf_size ≡ read.now.fields.leaf_size }
+    ensures length { result.layout.cuts.row_length ≡ (R.collection rows.now).points }
+{
+    let _ = bytes;
+    let _ = rows;
+    read.fields.settings()
+}
+
+/// What was read of the bytes, put together with the full words of all series and tested against these. It has no means yet.
+fn tested<R: Rows>(
+    alloc: Global,
+    bytes: &[u8],
+    rows: &R,
+    read: Spelled,
+    words: Vec<Full>,
+) -> Result<LoadedIndex, IndexFault>
+    requires short { length bytes.now ≤ 1073741824 }
+    requires read { IsSavedFor (R.collection rows.now) bytes.now read }
+    requires words { words.items ≡ words_of (R.collection rows.now) (layout_for (header_of read.fields)) }
     ensures tested { IfOk result (IsTested (R.collection rows.now) bytes.now) }
     ensures refused { IfErr result (Refuses (R.collection rows.now) bytes.now) }
 {
-    let read = match read_for(alloc, bytes, rows) {
-        Ok(read) => read,
-        Err(e) => return Err(e),
-    };
-    let settings = read.fields.settings();
-    let index = assembled(alloc, rows, &settings.layout, read.found)?;
+    let settings = settings_of(bytes, rows, &read);
+    let index = assembled(alloc, settings.layout.cuts.segments(), words, read.found)?;
     // for the fact that it is an index
     let _leaves = index.leaf_count();
     if let Some(number) = first_unfit(alloc, &index, rows.count())? {

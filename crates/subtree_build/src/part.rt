@@ -38,11 +38,20 @@ pub(crate) struct Joined {
     pub(crate) members: Vec<Member>,
 }
 
-/// The members of a list in one vector.
+/// How many members a list has, for the memory that they take.
+fn count_of(list: &BlockList<Member>) -> usize {
+    let mut count = 0usize;
+    for _member in list.iter() {
+        count = count.saturating_add(1);
+    }
+    count
+}
+
+/// The members of a list in one vector, for which memory is taken once.
 fn gathered(alloc: Global, list: &BlockList<Member>) -> Result<Vec<Member>, NoMemory>
     ensures { IfOk result (λ members. members.items ≡ list.now) }
 {
-    let mut members = Vec::new(alloc);
+    let mut members = Vec::with_capacity(alloc, count_of(list))?;
     for member in list.iter() {
         members.push(member)?;
     }

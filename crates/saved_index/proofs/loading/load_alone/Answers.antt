@@ -1,19 +1,28 @@
 -- With the means of its members, what was tested is an index for the rows, whose text is the bytes.
-use Rattle.std.proofs.Common.{arith}
+use Rattle.std.proofs.Common.{◌∙◌, ap, arith}
+use Rattle.saved_index.specs.Membership.{words_of}
+use Rattle.saved_index.proofs.Stretches.{all_words}
 use Rattle.saved_index.proofs.Tested.{points_of, saves_for, series_of, index_for, text_for}
 use Rattle.saved_index.proofs.loading.load_alone.Goals as goal
 
 pub with_means_alone-requires-clause-length : goal.with_means_alone-requires-clause-length
-with_means_alone-requires-clause-length g c = points_of _ _ c.type_inv.bytes _ c.in-Ok.ensures.tested
+with_means_alone-requires-clause-length g c = points_of _ _ c.type_inv.bytes _ c.in-Ok-tested.ensures.tested
 
 pub with_means_alone-requires-clause-series : goal.with_means_alone-requires-clause-series
-with_means_alone-requires-clause-series g c = series_of _ _ c.type_inv.bytes _ c.in-Ok.ensures.tested
+with_means_alone-requires-clause-series g c = series_of _ _ c.type_inv.bytes _ c.in-Ok-tested.ensures.tested
 
 pub returns-clause-fits : goal.returns-clause-fits
-returns-clause-fits g c = index_for _ _ c.type_inv.bytes _ c.in-Ok.ensures.tested _ c.in_ok-index.ensures
+returns-clause-fits g c = index_for _ _ c.type_inv.bytes _ c.in-Ok-tested.ensures.tested _ c.in_ok-index.ensures
 
 pub returns-clause-text : goal.returns-clause-text
-returns-clause-text g c = text_for _ _ c.type_inv.bytes _ c.in-Ok.ensures.tested _ c.in_ok-index.ensures (omega (arith, c.if-bytes-gt-MAX_BYTES.false))
+returns-clause-text g c = text_for _ _ c.type_inv.bytes _ c.in-Ok-tested.ensures.tested _ c.in_ok-index.ensures (omega (arith, c.if-bytes-gt-MAX_BYTES.false))
 
 pub returns-clause-saves : goal.returns-clause-saves
-returns-clause-saves g c = saves_for _ _ c.type_inv.bytes _ c.in-Ok.ensures.tested _ c.in_ok-index.ensures
+returns-clause-saves g c = saves_for _ _ c.type_inv.bytes _ c.in-Ok-tested.ensures.tested _ c.in_ok-index.ensures
+
+pub tested-requires-clause-words : goal.tested-requires-clause-words
+tested-requires-clause-words g c =
+    let all = g.R.Rows.collection c.args.rows.now in
+    c.in_ok-words.ensures
+    ∙ all_words all c.settings_of-settings.result.layout c.count.result c.count.ensures.count
+    ∙ ap (words_of all) c.settings_of-settings.ensures.layout
