@@ -1,8 +1,8 @@
 -- A text cut into its lines: the first line and the rest, and the lines of a text of whole lines.
-use Rattle.std.proofs.Common.{◌≡◌, ℕ, zero, suc, ◌+◌, ◌<◌, ◌≤◌, List, [], ◌∷◌, ◌++◌, length, take, drop, get_or, Bool, true, false, refl, sym, ap, ◌∙◌, ⊎_elim, arith}
+use Rattle.std.proofs.Common.{◌≡◌, ℕ, zero, suc, ◌+◌, ◌<◌, List, [], ◌∷◌, ◌++◌, length, take, drop, get_or, Bool, true, false, refl, sym, ap, ◌∙◌, ⊎_elim, arith}
 use Rattle.std.specs.Prelude.{◌==◌, if◌then◌else◌}
 use Rattle.std.specs.List.{concat, AllByRecursion}
-use Rattle.std.proofs.lemmas.Bool.{cases_Bool, cases_lt, cond-true, cond-false, eqb-true, eq-eqb, ne_eqb}
+use Rattle.std.proofs.lemmas.Bool.{cases_Bool, cond-true, cond-false, eqb-true, eq-eqb, ne_eqb}
 use Rattle.std.proofs.lemmas.List.{nil_from_length}
 use Rattle.certificate.specs.Grammar.{before_lines, lines_of}
 
@@ -81,12 +81,3 @@ lines_of-concat [] whole = refl
 lines_of-concat (line ∷ lines) whole =
     line_first line (concat lines) whole.0
     ∙ ap (λ (ls : List (List ℕ)). line ∷ ls) (lines_of-concat lines whole.1)
-
--- one more byte that is no line feed
-pub no_feed_more : (text : List ℕ) (i : ℕ) → ((k : ℕ) → k < i → get_or text k 0 ≡ 10 → ⊥)
-    → (get_or text i 0 ≡ 10 → ⊥) → (k : ℕ) → k < i + 1 → get_or text k 0 ≡ 10 → ⊥
-no_feed_more text i none here k below feed =
-    ⊎_elim
-    (λ (less : k < i). none k less feed)
-    (λ (no_less : i ≤ k). let same : k ≡ i = omega arith in here (ap (λ n. get_or text n 0) (sym same) ∙ feed))
-    (cases_lt k i)

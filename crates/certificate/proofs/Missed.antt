@@ -103,17 +103,6 @@ one_more rows q last ps first i ys before here holds n above below xs found =
     (ap (λ m. is_missed q last ps m ys) same ∙ holds))
     (cases_lt n i)
 
--- some series and those behind them
-pub both_parts : (rows : Collection) (q : List ℤ) (last : Option Pair) (ps : List Pair) (middle end further : ℕ)
-    → MissesNoneOf rows q last ps 0 middle → MissesNoneOf rows q last ps middle end
-    → ((n : ℕ) (xs : List ℤ) → slice_get rows.series n ≡ Some xs → n < further → n < end)
-    → MissesNoneOf rows q last ps 0 further
-both_parts rows q last ps middle end further front back within n above below xs found =
-    ⊎_elim
-    (λ (less : n < middle). front n above less xs found)
-    (λ (no_less : middle ≤ n). back n no_less (within n xs found below) xs found)
-    (cases_lt n middle)
-
 -- one more block that misses none of these series
 pub one_more_block : (rows queries : Collection) (k first end b : ℕ) (blocks : List Block) (here : Block) (query : List ℤ)
     (last : Option Pair) (ps : List Pair)

@@ -119,20 +119,26 @@ labels_size_more : (l : Bool) (n m k : ℕ) → m ≡ cond l n 0 → k ≡ cond 
 labels_size_more true n m k size one = omega arith
 labels_size_more false n m k size one = omega arith
 
+-- what has read these blocks, and reads the answers of this one
+abbrev answering : List Block → Block → Reading
+answering d b = record { done = d; stage = Answers; block = b }
+
+-- and what reads its queues and leaves
+abbrev listing : List Block → Block → Reading
+listing d b = record { done = d; stage = Lines; block = b }
+
 -- an answer
 answer_more : (s : ℕ) (l : Bool) (d : List Block) (b : Block) (next : Reading) (line : List ℕ)
-    → AreBlocks s l d → IsHead s l b → answer_step l (record { done = d; stage = Answers; block = b }) line ≡ Some next
-    → OneMore s l (record { done = d; stage = Answers; block = b }) next line
+    → AreBlocks s l d → IsHead s l b → answer_step l (answering d b) line ≡ Some next → OneMore s l (answering d b) next line
 unfolding answer_step
 answer_more s l d b next line are head read =
-    let r : Reading = record { done = d; stage = Answers; block = b } in
     where_then (nat_lt (length b.answers) 1024) _ next read (λ room read1.
     bind_then (answer_of l (length b.answers + 1) line) _ next read1 (λ x x_is read2.
     let text = answer_takes l (length b.answers + 1) line x.0 x.1 x_is in
     let few = ltb-true (length b.answers) 1024 room in
     let part = head.part in
     let front : List (List ℕ) = lines_from 0 d in
-    subst (λ (y : Reading). OneMore s l r y line) (same_Some (with_answer r x) next read2)
+    subst (λ (y : Reading). OneMore s l (answering d b) y line) (same_Some (with_answer (answering d b) x) next read2)
     (record {
       is = (
         are,
@@ -162,11 +168,9 @@ answer_more s l d b next line are head read =
 
 -- the start
 start_more : (s : ℕ) (l : Bool) (d : List Block) (b : Block) (next : Reading) (line : List ℕ)
-    → AreBlocks s l d → IsHead s l b → start_step (record { done = d; stage = Answers; block = b }) line ≡ Some next
-    → OneMore s l (record { done = d; stage = Answers; block = b }) next line
+    → AreBlocks s l d → IsHead s l b → start_step (answering d b) line ≡ Some next → OneMore s l (answering d b) next line
 unfolding start_step
 start_more s l d b next line are head read =
-    let r : Reading = record { done = d; stage = Answers; block = b } in
     bind_then (start_of line) _ next read (λ st st_is read1.
     let text = start_takes line st st_is in
     let part = head.part in
@@ -175,7 +179,7 @@ start_more s l d b next line are head read =
     let tail : queue_lines 0 b.lines ++ leaf_lines 0 b.leaves ≡ [] =
     ap (λ (ls : List (List Entry)). queue_lines 0 ls ++ leaf_lines 0 b.leaves) head.no_lines
     ∙ ap (λ (ls : List LeafLine). queue_lines 0 [] ++ leaf_lines 0 ls) head.no_leaves in
-    subst (λ (y : Reading). OneMore s l r y line) (same_Some (with_start r st) next read1)
+    subst (λ (y : Reading). OneMore s l (answering d b) y line) (same_Some (with_start (answering d b) st) next read1)
     (record {
       is = (are, (part.0, text.1, part.2));
       lines = ap (λ (ls : List (List ℕ)). front ++ (begun ++ (start_line st ∷ ls))) tail
@@ -195,7 +199,7 @@ block_more front begun st line tail more same =
 lists_more : (s : ℕ) (l : Bool) (d : List Block) (b : Block) (ln : List (List Entry)) (lv : List LeafLine) (line : List ℕ)
     → AreBlocks s l d → IsPart s l b → AreLists s ln lv
     → queue_lines 0 ln ++ leaf_lines 0 lv ≡ (queue_lines 0 b.lines ++ leaf_lines 0 b.leaves) ++ line ∷ []
-    → OneMore s l (record { done = d; stage = Lines; block = b })
+    → OneMore s l (listing d b)
     (record { done = d; stage = Lines; block = record b { lines = ln; leaves = lv } }) line
 lists_more s l d b ln lv line are part lists grown = record {
   is = (are, (part.0, part.1, lists));
@@ -205,11 +209,9 @@ lists_more s l d b ln lv line are part lists grown = record {
 
 -- a queue
 queue_more : (s : ℕ) (l : Bool) (d : List Block) (b : Block) (next : Reading) (line : List ℕ)
-    → AreBlocks s l d → IsPart s l b → queue_step (record { done = d; stage = Lines; block = b }) line ≡ Some next
-    → OneMore s l (record { done = d; stage = Lines; block = b }) next line
+    → AreBlocks s l d → IsPart s l b → queue_step (listing d b) line ≡ Some next → OneMore s l (listing d b) next line
 unfolding queue_step
 queue_more s l d b next line are part read =
-    let r : Reading = record { done = d; stage = Lines; block = b } in
     where_then (length b.leaves == 0 && nat_lt (length b.lines) 64) _ next read (λ guard read1.
     bind_then (queue_of (length b.lines) line) _ next read1 (λ es es_are read2.
     let text = queue_takes (length b.lines) line es es_are in
@@ -227,7 +229,7 @@ queue_more s l d b next line are part read =
     ∙ ap (λ (t : List ℕ). queue_lines 0 b.lines ++ t ∷ []) (sym text.0)
     ∙ ap (λ (ls : List (List ℕ)). ls ++ line ∷ []) (sym (append-nil (queue_lines 0 b.lines)))
     ∙ ap (λ (ls : List LeafLine). (queue_lines 0 b.lines ++ leaf_lines 0 ls) ++ line ∷ []) (sym no_leaf) in
-    subst (λ (y : Reading). OneMore s l r y line) (same_Some (with_queue r es) next read2)
+    subst (λ (y : Reading). OneMore s l (listing d b) y line) (same_Some (with_queue (listing d b) es) next read2)
     (lists_more s l d b (b.lines ++ es ∷ []) b.leaves line are part (record {
       few_queues = omega (arith, part.2.few_queues);
       queues = all_push (AllByRecursion IsEntry) b.lines es part.2.queues text.1;
@@ -238,11 +240,9 @@ queue_more s l d b next line are part read =
 
 -- a leaf
 leaf_more : (s : ℕ) (l : Bool) (d : List Block) (b : Block) (next : Reading) (line : List ℕ) → 1 ≤ s → s ≤ 16
-    → AreBlocks s l d → IsPart s l b → leaf_step s (record { done = d; stage = Lines; block = b }) line ≡ Some next
-    → OneMore s l (record { done = d; stage = Lines; block = b }) next line
+    → AreBlocks s l d → IsPart s l b → leaf_step s (listing d b) line ≡ Some next → OneMore s l (listing d b) next line
 unfolding leaf_step
 leaf_more s l d b next line some few are part read =
-    let r : Reading = record { done = d; stage = Lines; block = b } in
     where_then (nat_lt 0 (length b.lines) && nat_lt (length b.leaves) (2 ^ 32)) _ next read (λ guard read1.
     bind_then (leaf_of s (length b.leaves) line) _ next read1 (λ f f_is read2.
     let text = leaf_takes s (length b.leaves) line f some few f_is in
@@ -257,7 +257,7 @@ leaf_more s l d b next line some few are part read =
     (leaves_more 0 b.leaves f ∙ ap (λ n. leaf_lines 0 b.leaves ++ leaf_line n f ∷ []) same
     ∙ ap (λ (t : List ℕ). leaf_lines 0 b.leaves ++ t ∷ []) (sym text.0))
     ∙ sym (append_assoc (queue_lines 0 b.lines) (leaf_lines 0 b.leaves) (line ∷ [])) in
-    subst (λ (y : Reading). OneMore s l r y line) (same_Some (with_leaf r f) next read2)
+    subst (λ (y : Reading). OneMore s l (listing d b) y line) (same_Some (with_leaf (listing d b) f) next read2)
     (lists_more s l d b b.lines (b.leaves ++ f ∷ []) line are part (record {
       few_queues = part.2.few_queues;
       queues = part.2.queues;
@@ -277,12 +277,12 @@ step_more s l r next line some few is read = by_reading r.done r.stage r.block i
         → OneMore s l (record { done = d; stage = stage; block = b }) next line
     by_reading d Between b at taken = query_more s l (record { done = d; stage = Between; block = b }) next line at taken
     by_reading d Answers b at taken =
-        let r : Reading = record { done = d; stage = Answers; block = b } in
+        let r = answering d b in
         or_then (answer_step l r line) (start_step r line) next taken
         (λ e. answer_more s l d b next line at.0 at.1 e)
         (λ e. start_more s l d b next line at.0 at.1 e)
     by_reading d Lines b at taken =
-        let r : Reading = record { done = d; stage = Lines; block = b } in
+        let r = listing d b in
         or_then (queue_step r line) (or_else (leaf_step s r line) (query_step r line)) next taken
         (λ e. queue_more s l d b next line at.0 at.1 e)
         (λ e. or_then (leaf_step s r line) (query_step r line) next e

@@ -36,12 +36,3 @@ none_missing first w n r right enough =
   where
     holds : unless (nat_le w n) r ≡ None
     holds = grind (arith, nat_tests)
-
--- one that is missing is refused
-pub one_missing : (first : Option Reject) (w n : ℕ) (r : Reject) → None ≡ first → n < w
-    → Some r ≡ first_of first (unless (nat_le w n) r)
-one_missing first w n r right few =
-    sym (ap (λ o. first_of o (unless (nat_le w n) r)) (sym right) ∙ fails)
-  where
-    fails : unless (nat_le w n) r ≡ Some r
-    fails = grind (arith, nat_tests)

@@ -1,7 +1,7 @@
 //! Checking a certificate against the plain list of all series: one walk over the series for all queries.
 //! It uses no tree, and it looks at no start and no queue.
 
-ghost use Rattle.std.specs.Prelude.{◌≡◌, ◌^◌, ◌<◌, ◌≤◌, ℕ, false, [], length, None, Some, IfSome, IfOk, is_some, slice_get, slice_index_or};
+ghost use Rattle.std.specs.Prelude.{◌≡◌, ◌<◌, ◌≤◌, false, length, None, IfSome, IfOk, is_some};
 ghost use Rattle.std.specs.List.{All};
 ghost use Rattle.std.specs.Option.{option_copied};
 ghost use Rattle.series_core.specs.Answer.{answer};

@@ -1,11 +1,11 @@
 //! The fields of a line, read from the front of a text: each reading gives a value and the rest of the text.
 
-ghost use Rattle.std.specs.Prelude.{◌≡◌, true, ◌≤◌, ◌<◌, ◌^◌, IfOk, IfSome, length, take, codes, decimal, ℕ, List};
+ghost use Rattle.std.specs.Prelude.{◌≡◌, true, ◌≤◌, ◌<◌, ◌^◌, IfSome, length, take, decimal};
 ghost use Rattle.std.specs.List.{prefix_len, list_all};
 ghost use Rattle.std.specs.Char.{is_ascii_digit};
-ghost use Rattle.std.specs.Option.{option_to_list, SomeIff};
+ghost use Rattle.std.specs.Option.{SomeIff};
 ghost use Rattle.std.specs.Str.Parse.{digits_value};
-ghost use Rattle.certificate.specs.Fields.{Sees, after, is_spelled, number_at, stops, is_end, ended, entry_at, entries_at, part_at, is_part, word_at, said_at, limit_at, labels_at};
+ghost use Rattle.certificate.specs.Fields.{Sees, after, is_spelled, number_at, stops, is_end};
 
 use crate::block::Said;
 use isax_word::Word;

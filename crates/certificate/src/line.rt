@@ -1,6 +1,6 @@
 //! The lines of a certificate: one function a form, each of which reads a whole line with its line feed.
 
-ghost use Rattle.std.specs.Prelude.{◌≡◌, ◌≤◌, length};
+ghost use Rattle.std.specs.Prelude.{◌≡◌, ◌≤◌};
 ghost use Rattle.std.specs.Option.{option_to_list};
 ghost use Rattle.certificate.specs.Fields.{Sees, SeesOk};
 ghost use Rattle.certificate.specs.LineForms.{query_of, answer_of, start_of, start_leaf_of, queue_of, leaf_of};

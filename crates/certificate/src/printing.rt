@@ -1,7 +1,7 @@
 //! Printing a certificate: the lines behind the answers of a query, from what the search of it ended with.
 //! A line of a leaf is made in place and then appended; there is room for most lines from the start.
 
-ghost use Rattle.std.specs.Prelude.{◌≡◌, ℕ, ◌+◌, ◌<◌, ◌≤◌, ◌++◌, [], ◌∷◌, length, codes, decimal, slice_get, Some, IfOk, OnOk};
+ghost use Rattle.std.specs.Prelude.{◌≡◌, ◌+◌, ◌<◌, ◌≤◌, ◌++◌, [], ◌∷◌, length, codes, decimal, slice_get, Some, IfOk, OnOk};
 ghost use Rattle.std.specs.List.{concat};
 ghost use Rattle.isax_word.specs.Word.{part_at};
 ghost use Rattle.search_machine.specs.declared.outcome.Fate.{Fate};

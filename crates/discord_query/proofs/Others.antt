@@ -17,11 +17,6 @@ use Rattle.series_core.proofs.Plain.{answer-smallest, strict_from, has_ascending
 use Rattle.subtree_build.specs.Members.{series_at}
 use Rattle.series_core.specs.declared.distance.TheConstants.{NONE}
 use Rattle.std.proofs.lemmas.List.Elements.{All-cons, All-nil}
-use Rattle.isax_word.specs.declared.member.Member.{Member}
-use Rattle.isax_word.specs.declared.layout.Layout.{Layout}
-use Rattle.subtree_build.specs.Fits.{Fits}
-use Rattle.subtree_build.specs.Index.{IndexParts, leaf_at}
-use Rattle.subtree_build.proofs.Bounds.{member_is_series}
 use Rattle.discord_query.specs.Searches.{IsNearOther}
 use Rattle.discord_query.specs.Discords.{is_other, other, farness, farness_of}
 
@@ -202,15 +197,3 @@ other_far c s t limit radius inside near low =
     (in_filter (is_other s) (pair_of q t (series_at c t)) all
     (ascending_has (pair_of q t (series_at c t)) (pairs_of c q) has)
     (differs s (pair_of q t (series_at c t)) near.differs)) near.near low)
-
--- a member of a leaf is that of a series
-pub member_number : (c : Collection) (layout : Layout) (ix : IndexParts) → Fits c layout ix
-    → (l k : ℕ) (items : List Member) (m : Member) → l < length ix.leaves
-    → items ≡ (leaf_at ix.leaves l).members → k < length items → m ≡ get_or items k m
-    → m.number < length c.series
-member_number c layout ix fits l k items m low same inside item =
-    let members = (leaf_at ix.leaves l).members in
-    let there = member_is_series c layout ix l k m fits low (omega (arith, ap length same)) in
-    let e : m.number ≡ (get_or members k m).number
-    = ap (λ (x : Member). x.number) item ∙ ap (λ (xs : List Member). (get_or xs k m).number) same in
-    omega (arith, there, e)

@@ -1,6 +1,6 @@
 -- The nearest of two parts of a collection are the nearest of what each part gives, where the numbers of the second are counted
 -- on (`counted_on`); and each pair of an answer has the number of a series (`answer_below`).
-use Rattle.std.proofs.Common.{◌≡◌, ℕ, zero, suc, ◌+◌, ◌<◌, true, false, List, [], ◌∷◌, ◌++◌, All, length, map, take, refl, sym, ap, ap₂, ◌∙◌, subst, ⊎_elim, inl, inr, nat_lt, nat_eq, arith}
+use Rattle.std.proofs.Common.{◌≡◌, ℕ, zero, suc, ◌+◌, ◌<◌, true, false, List, [], ◌∷◌, ◌++◌, All, length, map, take, refl, sym, ap, ap₂, ◌∙◌, subst, ⊎_elim, inl, inr, nat_lt, arith}
 use Rattle.std.specs.Prelude.{ℤ}
 use Rattle.std.proofs.lemmas.List.{take-map, take_all}
 use Rattle.series_core.specs.Best.{Best, IsBest}
@@ -37,9 +37,6 @@ pairs_both s (x ∷ xs) ys q =
 
 lt_later : (s a b : ℕ) → nat_lt (s + a) (s + b) ≡ nat_lt a b
 lt_later s a b = grind (arith, nat_tests)
-
-eq_later : (s a b : ℕ) → nat_eq (s + a) (s + b) ≡ nat_eq a b
-eq_later s a b = grind (arith, nat_tests)
 
 -- counting on changes no order
 before_later : (s : ℕ) (p q : Pair) → is_before (counted_from s p) (counted_from s q) ≡ is_before p q

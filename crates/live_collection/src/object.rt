@@ -1,5 +1,5 @@
 //! The shared object: its counts, and a list of parts for each reader.
-ghost use Rattle.std.specs.Prelude.{◌≡◌, ◌+◌, ◌^◌, ◌<◌, ◌++◌, ◌∷◌, [], All, length, map, IfOk, slice_index_or};
+ghost use Rattle.std.specs.Prelude.{◌≡◌, ◌+◌, ◌^◌, ◌<◌, ◌++◌, ◌∷◌, [], All, length, map, IfOk};
 ghost use Rattle.live_collection.specs.PlainLive.{PlainLive, empty_live, next, append, ask, accepts};
 
 use crate::calls::{Append, Call, Reply};

@@ -47,10 +47,6 @@ pub asked_one : (n i : ℕ) (seen next : List Batch) (q : Query) → IsPrefix se
     → IsAskedText n i seen (q ∷ []) (batches_text n i next q) next
 asked_one n i seen next q pre = (next, [], pre, (refl, refl), sym (append-nil (batches_text n i next q)))
 
--- no query has no text
-pub asked_none : (n i : ℕ) (seen : List Batch) → IsAskedText n i seen [] [] seen
-asked_none n i seen = (refl, refl)
-
 -- one query more of a file
 pub query_more : (n first i : ℕ) (seen later next : List Batch) (f : QueryFile) (v : List ℤ) (text : List ℕ)
     → i < length f.queries.series → slice_get f.queries.series i ≡ Some v

@@ -11,12 +11,10 @@ use Rattle.series_core.specs.declared.rows.TheConstants.{MAX_COUNT}
 use Rattle.live_script.specs.Grammar.{IsScript}
 use Rattle.live_script.specs.declared.script.Asking.{Asking}
 use Rattle.live_script.specs.declared.script.Group.{Group}
-use Rattle.live_script.specs.declared.script.NamedFile.{NamedFile}
-use Rattle.series_file.specs.declared.error.FileError.{FileError}
-use Rattle.live_run.specs.Ends.{CanRun, Ends, GroupsEnd, IsAnswered, Names, ScriptEnds, Taken, TellsCause}
+use Rattle.live_run.specs.Ends.{CanRun, Ends, GroupsEnd, IsAnswered, Names, ScriptEnds, Taken}
 use Rattle.live_run.specs.Groups.{AllPass, HasRoom, HoldAskings, HoldsAsking, HoldsGroup, IsFull, RefusesGroup, StopsAt, want_of}
-use Rattle.live_run.specs.Loads.{IsScriptFault, IsShortScript, RefusesFitting, RefusesScript}
-use Rattle.run_traffic.specs.Named.{HoldsBytes, IsHeldAs, IsShown}
+use Rattle.live_run.specs.Loads.{IsScriptFault, IsShortScript, RefusesScript}
+use Rattle.run_traffic.specs.Named.{HoldsBytes, IsHeldAs}
 use Rattle.live_run.specs.Texts.{all_series}
 use Rattle.run_traffic.specs.Traffic.{Reading, Writing}
 use Rattle.live_run.specs.declared.group.Contents.{Contents}
@@ -284,33 +282,3 @@ run_answered words reading writing status ends (name, names, groups, contents, i
     by_status WriteFault ends = named WriteFault ends (differs WriteFault refl)
     by_status (Script at) ends = named (Script at) ends (differs (Script at) refl)
     by_status (Full b t) ends = named (Full b t) ends (differs (Full b t) refl)
-
--- a format that a run tells shows in bytes
-file_shown : (reading : Reading) (want : Option ℕ) (file : NamedFile) (l : ℕ) (e : FileError)
-    → RefusesFitting reading want file (Format l e) → IsShown e
-file_shown reading want file l e (inl x) = x.1
-file_shown reading None file l e (inr x) = absurd x.2
-file_shown reading (Some w) file l e (inr x) = absurd x.2
-
-stop_shown : (reading : Reading) (ahead : List Contents) (rest : List Group) (l : ℕ) (e : FileError)
-    → StopsAt reading ahead rest (Format l e) → IsShown e
-stop_shown reading ahead [] l e x = absurd x
-stop_shown reading ahead (g ∷ gs) l e (inl (inl x)) = file_shown reading (want_of ahead) g.batch l e x
-stop_shown reading ahead (g ∷ gs) l e (inl (inr (rows, holds, fits, x))) =
-    file_shown reading (Some rows.points) x.asking.queries l e x.refused
-stop_shown reading ahead (g ∷ gs) l e (inr x) = absurd x.2
-
-pub run_shown : (words : List (List ℕ)) (reading : Reading) (writing : Writing) (status : LiveStatus)
-    → Ends words reading writing status → TellsCause status
-run_shown words reading writing (Format l e) (name, names, inl x) = absurd x.0
-run_shown words reading writing (Format l e) (name, names, inr (groups, holds, (taken, stops, wrote))) =
-    stop_shown reading taken.contents taken.rest l e stops
-run_shown words reading writing Done ends = tt
-run_shown words reading writing Usage ends = tt
-run_shown words reading writing (Missing l) ends = tt
-run_shown words reading writing (ReadFault l) ends = tt
-run_shown words reading writing (Mismatch l a b) ends = tt
-run_shown words reading writing WriteFault ends = tt
-run_shown words reading writing Memory ends = tt
-run_shown words reading writing (Script at) ends = tt
-run_shown words reading writing (Full b t) ends = tt

@@ -1,9 +1,9 @@
 -- What is known of a run behind some groups: what their files held, the dialogue that took them, and the text of them, which
 -- was written.
-use Rattle.std.proofs.Common.{◌≡◌, ℕ, ◌+◌, ◌*◌, ◌<◌, ◌≤◌, ◌^◌, List, [], ◌∷◌, ◌++◌, All, length, take, drop, get_or, Option, None, Some, refl, sym, ap, ◌∙◌, subst, length-append, arith}
+use Rattle.std.proofs.Common.{◌≡◌, ℕ, ◌+◌, ◌*◌, ◌<◌, ◌≤◌, ◌^◌, List, [], ◌∷◌, ◌++◌, All, length, take, drop, get_or, Option, Some, refl, sym, ap, ◌∙◌, subst, length-append, arith}
 use Rattle.std.specs.Prelude.{Result, Ok, Err, IsErrAnd}
 use Rattle.std.specs.Io.KnownBytes.{append_known}
-use Rattle.std.proofs.lemmas.List.{drop_more, length-map, take-append-drop, take_more, take_all}
+use Rattle.std.proofs.lemmas.List.{drop_more, length-map, take-append-drop, take_more}
 use Rattle.outside.specs.Count.{Rose}
 use Rattle.outside.specs.Files.{Held}
 use Rattle.outside.specs.Sink.{AppendsPrefix}
@@ -16,14 +16,14 @@ use Rattle.live_run.specs.Replies.{CanAsk}
 use Rattle.live_run.specs.Dialogues.{HasTaken, IsTextOfGroup, Stands, Takes, length_of}
 use Rattle.live_run.specs.Texts.{IsScriptText, all_queries, queries_of}
 use Rattle.run_traffic.specs.Traffic.{Reading, Writing}
-use Rattle.run_traffic.proofs.Appending.{append_known-append, append_known-nil}
+use Rattle.run_traffic.proofs.Appending.{append_known-append}
 use Rattle.live_run.specs.declared.group.Contents.{Contents}
 use Rattle.live_run.specs.declared.dialogue.Dialogue.{Dialogue}
 use Rattle.live_run.specs.declared.status.LiveStatus.{LiveStatus}
-use Rattle.live_run.specs.declared.status.LiveStatus.TheVariants.{WriteFault, Done}
+use Rattle.live_run.specs.declared.status.LiveStatus.TheVariants.{WriteFault}
 use Rattle.live_run.proofs.Askings.{queries_few, zip_length}
 use Rattle.live_run.proofs.Stopping.{lines_more, lines_within, pass_more, stands_more, stops_end, text_more, took_room, wanted}
-use Rattle.live_run.proofs.Texts.{queries_more, script_none}
+use Rattle.live_run.proofs.Texts.{queries_more}
 
 pub record IsBehind (held : Option Held) (done : List Group) (dialogue : Option Dialogue) (before now : Option (List ℕ)) : Type 0 where
   pub contents : List Contents
@@ -33,18 +33,6 @@ pub record IsBehind (held : Option Held) (done : List Group) (dialogue : Option 
   pub told : IsScriptText contents text
   pub wrote : now ≡ append_known before text
   pub few : length (all_queries contents) ≤ 16777216 * length (script_lines done)
-
--- at first there are no groups
-pub behind_none : (held : Option Held) (before : Option (List ℕ)) → IsBehind held [] None before before
-behind_none held before = record {
-  contents = [];
-  passed = tt;
-  stands = tt;
-  text = [];
-  told = script_none;
-  wrote = append_known-nil before;
-  few = omega arith;
-}
 
 -- the groups taken, where others are left
 abbrev pub taken_of : (held whole : Option Held) → held ≡ whole → (groups : List Group) (i : ℕ) (dialogue : Option Dialogue)
@@ -69,20 +57,6 @@ behind_stops reading writing held e groups i d dialogue now status low behind st
     stops_end reading writing groups status (taken_of held reading.held e groups i dialogue writing.before now behind)
     (subst (λ gs. StopsAt reading behind.contents gs status) (sym (drop_more groups i d low)) (stops (drop (i + 1) groups)))
     (same ∙ behind.wrote)
-
--- the whole script was taken
-pub behind_done : (reading : Reading) (writing : Writing) (held : Option Held) → held ≡ reading.held → (groups : List Group)
-    (i : ℕ) (dialogue : Option Dialogue) (now : Option (List ℕ)) → length groups ≤ i
-    → IsBehind held (take i groups) dialogue writing.before now
-    → writing.now ≡ now → GroupsEnd reading writing groups Done
-behind_done reading writing held e groups i dialogue now all behind same = (
-  behind.contents,
-  behind.text,
-  subst (λ gs. AllPass reading.held [] gs behind.contents) (take_all i groups all)
-      (subst (λ h. AllPass h [] (take i groups) behind.contents) e behind.passed),
-  behind.told,
-  same ∙ behind.wrote,
-)
 
 -- a group was loaded behind others, and this dialogue has taken those
 pub record IsNext (held : Option Held) (cs : List Contents) (g : Group) (c : Contents) (s : Dialogue) : Type 0 where

@@ -14,7 +14,7 @@ use Rattle.live_script.specs.declared.script.NamedFile.{NamedFile}
 use Rattle.live_run.specs.Ends.{GroupsEnd, Taken}
 use Rattle.live_run.specs.Groups.{AllPass, HasRoom, HoldsGroup, Passes, RefusesGroup, StopsAt, want_of}
 use Rattle.live_run.specs.Loads.{FitsLength, RefusesFitting}
-use Rattle.live_run.specs.Dialogues.{AreBatchesOf, HasTaken, IsNew, IsTextOfGroup, RefusesBatch, Stands, Takes, batches_of, length_of, scene_of}
+use Rattle.live_run.specs.Dialogues.{AreBatchesOf, HasTaken, IsTextOfGroup, RefusesBatch, Stands, Takes, batches_of, length_of, scene_of}
 use Rattle.live_run.specs.Texts.{IsQueriesText, IsScriptText, Scene, all_queries, all_series, queries_of, scene}
 use Rattle.run_traffic.specs.Traffic.{Appended, Reading, Writing}
 use Rattle.live_run.specs.declared.group.Contents.{Contents}
@@ -66,14 +66,6 @@ wanted [] None stands = refl
 wanted [] (Some s) stands = absurd stands
 wanted (c ∷ cs) None stands = absurd stands
 wanted (c ∷ cs) (Some s) stands = ap (λ n. Some n) stands.1
-
--- the first groups of a new dialogue are none
-pub new_taken : (n : ℕ) (s : Dialogue) → IsNew n s → HasTaken [] s
-new_taken n s new = record {
-  dialogue = new.dialogue;
-  batches = ap (map (λ (b : Batch). b.series)) new.batches;
-  asked = new.asked;
-}
 
 -- the dialogue that took one group more
 pub taken_more : (cs : List Contents) (c : Contents) (s next : Dialogue) → HasTaken cs s → Takes s c next → HasTaken (cs ++ c ∷ []) next

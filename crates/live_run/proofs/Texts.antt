@@ -118,10 +118,6 @@ groups_snoc series ahead least (d ∷ cs) text last c piece told (p, t, rest, fi
   ap (λ x. x ++ piece) whole ∙ append_assoc p rest piece,
 )
 
--- a script has no text before its first group
-pub script_none : IsScriptText [] []
-script_none = (0, (refl, refl))
-
 -- the text of one group more
 pub script_more : (cs : List Contents) (c : Contents) (text piece : List ℕ) (told : ℕ) → IsScriptText cs text
     → IsQueriesText (scene (all_series cs ++ c.batch.series) cs c) (length (all_queries cs)) (length (all_series cs))

@@ -1,6 +1,6 @@
 //! The line that tells how a run of a script ended. It takes no memory, and a fault of its sink changes nothing of the status.
 
-ghost use Rattle.std.specs.Prelude.{◌≡◌, ◌≤◌};
+ghost use Rattle.std.specs.Prelude.{◌≡◌};
 ghost use Rattle.live_run.specs.Status.{fault_line};
 ghost use Rattle.run_traffic.specs.Traffic.{Tells};
 
