@@ -1,4 +1,5 @@
 //! Lists of whole numbers from 0 on: what was pushed and appended comes back in order.
+use crate::claims::assert_same;
 use block_list::{BlockList, Unplaced};
 use std::alloc::Global;
 use std::test::Fail;
@@ -33,7 +34,7 @@ fn two_lists_of_known_lengths(rt: HostRuntime) -> Result<(), Fail> {
     for (first, all) in [(17, 37), (500_000, 1_000_000)] {
         let mut list = numbers(alloc, 0, first).ok().ok_or(REFUSED)?;
         list.append(numbers(alloc, first, all).ok().ok_or(REFUSED)?);
-        assert_eq!(rt;
+        assert_same!(rt;
             counted(&list),
             Some(all),
             "{first} numbers, and {all} in all"
@@ -49,9 +50,9 @@ fn each_two_lists_in_each_order(rt: HostRuntime) -> Result<(), Fail> {
         for b in [0u32, 1, 16, 17] {
             let mut first = numbers(alloc, 0, a).ok().ok_or(REFUSED)?;
             first.append(numbers(alloc, a, a + b).ok().ok_or(REFUSED)?);
-            assert_eq!(rt; counted(&first), Some(a + b), "{a} and {b}");
+            assert_same!(rt; counted(&first), Some(a + b), "{a} and {b}");
             first.push(alloc, a + b).ok().ok_or(REFUSED)?;
-            assert_eq!(rt;
+            assert_same!(rt;
                 counted(&first),
                 Some(a + b + 1),
                 "{a} and {b}, and one more"
@@ -67,12 +68,12 @@ fn a_refused_item_comes_back(rt: HostRuntime) {
     let mut list = BlockList::new();
     for n in 0..37u32 {
         if let Err(refused) = list.push(alloc, n) {
-            assert_eq!(rt; refused.value, n);
-            assert_eq!(rt; counted(&list), Some(n), "the items before it stand");
+            assert_same!(rt; refused.value, n);
+            assert_same!(rt; counted(&list), Some(n), "the items before it stand");
             return;
         }
     }
-    assert_eq!(rt; counted(&list), Some(37));
+    assert_same!(rt; counted(&list), Some(37));
 }
 
 /// Takes what threads may share and send.
@@ -82,5 +83,5 @@ fn crosses<T: Send + Sync>(_item: &T) {}
 fn a_list_crosses_threads(rt: HostRuntime) {
     let list: BlockList<u32> = BlockList::new();
     crosses(&list);
-    assert_eq!(rt; counted(&list), Some(0));
+    assert_same!(rt; counted(&list), Some(0));
 }

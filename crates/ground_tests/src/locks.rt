@@ -5,6 +5,7 @@ ghost use Rattle.turn_lock.specs.Passes.{IsPassOf};
 mod both;
 mod notes;
 
+use crate::claims::assert_same;
 use both::add_both;
 use notes::Notes;
 use std::alloc::Global;
@@ -60,9 +61,9 @@ fn add_in_threads<R: Threads + Wait + Sync>(rt: &R, alloc: Global, callers: u32)
 fn each_call_is_there_once(rt: HostRuntime) -> Result<(), Fail> {
     for callers in [2, 4] {
         let notes = add_in_threads(&rt, rt.alloc(), callers).ok_or("no memory")?;
-        assert_eq!(rt; notes.len(), callers as usize * CALLS, "{callers} callers");
+        assert_same!(rt; notes.len(), callers as usize * CALLS, "{callers} callers");
         for caller in 0..callers {
-            assert_eq!(rt; notes.count_of(caller as u64), CALLS, "caller {caller}");
+            assert_same!(rt; notes.count_of(caller as u64), CALLS, "caller {caller}");
         }
     }
     Ok(())
@@ -72,7 +73,7 @@ fn each_call_is_there_once(rt: HostRuntime) -> Result<(), Fail> {
 fn both_are_there(rt: HostRuntime) -> Result<(), Fail> {
     let notes = Notes::new(rt.alloc())?;
     let notes = add_both(&rt, rt.alloc(), notes, 5, 7).ok_or("no memory")?;
-    assert_eq!(rt;
+    assert_same!(rt;
         (notes.len(), notes.count_of(5), notes.count_of(7)),
         (2, 1, 1)
     );

@@ -1,6 +1,7 @@
 //! The forms in memory as tables: caps, calls that fail, and what is left behind.
 ghost use Rattle.std.specs.Prelude.{◌≤◌};
 
+use crate::claims::assert_same;
 use outside::{
     AllError, Failed, Files, Gate, MemFiles, MemSink, NoGate, NoMemory, OpenFault, Sink, read_all,
     write_whole,
@@ -37,7 +38,7 @@ fn opens_what_is_held(rt: HostRuntime) -> Result<(), Fail> {
         ("a", Ok(())),
     ];
     for (name, want) in table {
-        assert_eq!(rt; files.open_file(name), want, "open {name}");
+        assert_same!(rt; files.open_file(name), want, "open {name}");
     }
     Ok(())
 }
@@ -60,7 +61,7 @@ fn reads_in_pieces(rt: HostRuntime) -> Result<(), Fail> {
         assert!(rt; cap >= 1 && room <= 20);
         let mut files = one_file(alloc, cap, &[], &[])?;
         let pieces = are_pieces(&mut files, room, want);
-        assert!(rt; pieces, "cap {cap}, room {room}");
+        assert_same!(rt; pieces, true, "cap {cap}, room {room}");
     }
     Ok(())
 }
@@ -82,10 +83,10 @@ fn reads_whole_up_to_a_limit(rt: HostRuntime) -> Result<(), Fail> {
         let mut files = one_file(alloc, cap, &[], &[])?;
         files.open_file("a")?;
         let read = whole_or(alloc, &mut files, limit, AllError::Longer);
-        assert_eq!(rt; read, Some(want), "limit {limit}");
+        assert_same!(rt; read, Some(want), "limit {limit}");
         let mut rest = [0u8; 1];
         let ended = files.read(&mut rest) == Ok(0);
-        assert_eq!(rt; ended, want || limit == 13, "limit {limit}");
+        assert_same!(rt; ended, want || limit == 13, "limit {limit}");
     }
     Ok(())
 }
@@ -98,9 +99,9 @@ fn a_listed_read_fails(rt: HostRuntime) -> Result<(), Fail> {
         let mut files = one_file(alloc, 4, &[], &[listed])?;
         files.open_file("a")?;
         let read = whole_or(alloc, &mut files, 99, AllError::ReadFault);
-        assert_eq!(rt; read, Some(!fails), "read {listed}");
+        assert_same!(rt; read, Some(!fails), "read {listed}");
         let mut rest = [0u8; 1];
-        assert_eq!(rt;
+        assert_same!(rt;
             files.read(&mut rest),
             Ok(0),
             "after read {listed} nothing is left"
@@ -132,7 +133,7 @@ fn writes_in_pieces(rt: HostRuntime) -> Result<(), Fail> {
     for (room, listed, want) in table {
         let mut sink = MemSink::new(alloc, room, 4, [listed].to_vec(alloc)?)?;
         let written = is_written(&mut sink, want);
-        assert!(rt; written, "room {room}, write {listed}");
+        assert_same!(rt; written, true, "room {room}, write {listed}");
     }
     Ok(())
 }
@@ -140,8 +141,8 @@ fn writes_in_pieces(rt: HostRuntime) -> Result<(), Fail> {
 #[test]
 fn an_empty_write_finds_room(rt: HostRuntime) -> Result<(), Fail> {
     let mut sink = MemSink::new(rt.alloc(), 0, 4, Vec::new(rt.alloc()))?;
-    assert_eq!(rt; sink.write(&[]), Ok(0));
-    assert_eq!(rt; sink.write(&[1]), Err(Failed));
+    assert_same!(rt; sink.write(&[]), Ok(0));
+    assert_same!(rt; sink.write(&[1]), Err(Failed));
     Ok(())
 }
 

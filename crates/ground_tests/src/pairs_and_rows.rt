@@ -1,5 +1,6 @@
 //! Tests: the best pairs against a plain sort, and the rows of a flat collection.
 
+use crate::claims::assert_same;
 use series_core::{Flat, KBest, Pair, Rows};
 use std::test::Fail;
 
@@ -29,9 +30,9 @@ fn best_pairs_are_the_front_of_a_plain_sort(rt: HostRuntime) -> Result<(), Fail>
             }
             plain.sort()?;
             plain.truncate(k as usize);
-            assert_eq!(rt; best.pairs(), plain.as_slice(), "k = {k}, list {list:?}");
+            assert_same!(rt; best.pairs(), plain.as_slice(), "k = {k}, list {list:?}");
             let last = plain.get(k as usize - 1).copied();
-            assert_eq!(rt; best.worst(), last, "worst of k = {k}, list {list:?}");
+            assert_same!(rt; best.worst(), last, "worst of k = {k}, list {list:?}");
         }
     }
     Ok(())
@@ -43,26 +44,26 @@ fn two_best_pairs_and_a_merge(rt: HostRuntime) -> Result<(), Fail> {
     for added in [pair(5, 1), pair(5, 0), pair(9, 2), pair(1, 7)] {
         best.add(added);
     }
-    assert_eq!(rt; best.pairs(), [pair(1, 7), pair(5, 0)].as_slice());
+    assert_same!(rt; best.pairs(), [pair(1, 7), pair(5, 0)].as_slice());
     let mut other = KBest::new(rt.alloc(), 3)?;
     other.add(pair(0, 3));
     best.merge(&other);
-    assert_eq!(rt; best.pairs(), [pair(0, 3), pair(1, 7)].as_slice());
+    assert_same!(rt; best.pairs(), [pair(0, 3), pair(1, 7)].as_slice());
     Ok(())
 }
 
 #[test]
 fn rows_of_a_flat_collection(rt: HostRuntime) -> Result<(), Fail> {
     let values = [1i16, -2, 3, -4, i16::MAX, i16::MIN].to_vec(rt.alloc())?;
-    assert_eq!(rt; values.len(), 6);
+    assert!(rt; values.len() == 6, "six values");
     let flat = Flat::from_values(2, values);
-    assert_eq!(rt; flat.count(), 3);
-    assert_eq!(rt; flat.length(), 2);
-    assert_eq!(rt;
+    assert!(rt; flat.count() == 3, "three rows");
+    assert_same!(rt; flat.length(), 2);
+    assert_same!(rt;
         flat.row(2),
         [i16::MAX, i16::MIN].as_slice(),
         "the last row"
     );
-    assert_eq!(rt; flat.values().len(), 6);
+    assert_same!(rt; flat.values().len(), 6);
     Ok(())
 }

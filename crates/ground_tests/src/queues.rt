@@ -1,6 +1,7 @@
 //! A queue answers as worked by hand, directly and through a lock, and as a sorted list does.
 mod sorted_list;
 
+use crate::claims::assert_same;
 use leaf_queues::{Call, Queue, Reply};
 use rand_xoshiro::SplitMix64;
 use rand_xoshiro::rand_core::{Rng, SeedableRng};
@@ -36,9 +37,9 @@ fn is_left_as_worked(queue: &Queue) -> bool {
 #[test]
 fn answers_as_worked_by_hand(rt: HostRuntime) -> Result<(), Fail> {
     let mut queue = Queue::new(rt.alloc(), 2)?;
-    assert_eq!(rt; queue.kept(), None);
+    assert_same!(rt; queue.kept(), None);
     for (call, reply) in worked_calls() {
-        assert_eq!(rt; queue.apply(0, call), reply, "{call:?}");
+        assert_same!(rt; queue.apply(0, call), reply, "{call:?}");
     }
     assert!(rt; is_left_as_worked(&queue));
     Ok(())
@@ -54,7 +55,7 @@ fn answers_the_same_through_a_lock(rt: HostRuntime) -> Result<(), Fail> {
         unreachable!()
     };
     for (call, reply) in worked_calls() {
-        assert_eq!(rt; lock.call(&rt, &mut pass, call), reply, "{call:?}");
+        assert_same!(rt; lock.call(&rt, &mut pass, call), reply, "{call:?}");
     }
     passes.push_reserved(pass);
     assert!(rt; is_left_as_worked(&lock.close(passes)));
@@ -81,7 +82,7 @@ fn answers_as_a_sorted_list(rt: HostRuntime) -> Result<(), Fail> {
         let mut list = SortedList::new(rt.alloc(), 40);
         for _ in 0..60 {
             let call = drawn_call(&mut rng, apart);
-            assert_eq!(rt;
+            assert_same!(rt;
                 queue.apply(0, call),
                 list.answer(call)?,
                 "round {round}: {call:?}"
@@ -89,7 +90,7 @@ fn answers_as_a_sorted_list(rt: HostRuntime) -> Result<(), Fail> {
         }
         let mut left = queue.waiting().to_vec(rt.alloc())?;
         left.sort_unstable();
-        assert_eq!(rt; left.as_slice(), list.waiting(), "round {round}");
+        assert_same!(rt; left.as_slice(), list.waiting(), "round {round}");
     }
     Ok(())
 }

@@ -3,6 +3,7 @@ mod calls;
 mod plain;
 mod threads;
 
+use crate::claims::assert_same;
 use sealed_runs::Runs;
 use series_core::{Entry, PopReply};
 use std::test::Fail;
@@ -21,16 +22,16 @@ fn one_run_hands_out_its_least_entry_and_then_closes(rt: HostRuntime) -> Result<
     let PopReply::Leaf(first) = runs.pop(&mut pass, 0, 4) else {
         return Err(Fail::new("no entry within the limit"));
     };
-    assert_eq!(rt; first, Entry { bound: 3, leaf: 2 }, "the least entry");
+    assert_same!(rt; first, Entry { bound: 3, leaf: 2 }, "the least entry");
     let second = runs.pop(&mut pass, 0, 4);
-    assert_eq!(rt;
+    assert_same!(rt;
         second,
         PopReply::Closed(4),
         "the next entry is above the limit"
     );
     passes.push(pass)?;
     let closed = runs.close(passes);
-    assert_eq!(rt; closed.taken(0), [first].as_slice(), "taken");
-    assert_eq!(rt; closed.kept(0), Some(4), "kept");
+    assert_same!(rt; closed.taken(0), [first].as_slice(), "taken");
+    assert_same!(rt; closed.kept(0), Some(4), "kept");
     Ok(())
 }

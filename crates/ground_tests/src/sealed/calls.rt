@@ -3,6 +3,7 @@ ghost use Rattle.std.specs.Prelude.{◌≡◌, ◌<◌, All, length, vec_len};
 ghost use Rattle.sealed_runs.specs.Visits.{IsPass};
 
 use super::plain::{Plain, plain_queues, scattered};
+use crate::claims::assert_same;
 use outside::NoMemory;
 use sealed_runs::{RunPass, Runs};
 use series_core::PopReply;
@@ -84,11 +85,11 @@ fn random_calls_answer_as_a_plain_queue_does(rt: HostRuntime) -> Result<(), Fail
         let mut plain = plain_queues(alloc, &entries, queues)?;
         let (runs, mut passes) = Runs::seal(alloc, entries, queues, callers)?;
         let agree = replies_agree(&runs, &mut passes, &mut plain, queues, seed)?;
-        assert!(rt; agree, "replies to {callers} passes over {queues} runs");
+        assert_same!(rt; agree, true, "replies to {callers} passes over {queues} runs");
         let closed = runs.close(passes);
         for m in 0..queues {
             let same = plain[m as usize].is_run(&closed, m);
-            assert!(rt; same, "run {m} of {queues} with {callers} passes");
+            assert_same!(rt; same, true, "run {m} of {queues} with {callers} passes");
         }
     }
     Ok(())

@@ -5,6 +5,7 @@ ghost use Rattle.sealed_runs.specs.Visits.{IsPass};
 
 use super::calls::pop_open;
 use super::plain::{plain_queue, scattered};
+use crate::claims::assert_same;
 use outside::NoMemory;
 use sealed_runs::{RunPass, Runs, RunsClosed};
 use series_core::{Entry, PopReply};
@@ -83,7 +84,7 @@ fn two_and_four_threads_take_what_is_within_the_limit(rt: HostRuntime) -> Result
             let mut queue = plain_queue(alloc, &plain, queues, m)?;
             queue.pop_all(limit)?;
             let same = queue.is_run(&closed, m);
-            assert!(rt; same, "run {m} of {queues} with {callers} threads");
+            assert_same!(rt; same, true, "run {m} of {queues} with {callers} threads");
         }
     }
     Ok(())
