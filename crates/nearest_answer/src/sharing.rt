@@ -1,9 +1,7 @@
 //! When a search is shared, and by how many workers. Its one rule: a thread is started only for work that takes longer than its start.
 ghost use Rattle.std.specs.Prelude.{◌≤◌};
 
-use crate::tuning::{
-    LEAST_MEMBERS_TO_SHARE, MEMBERS_OF_WORKER, SHARED_FIRST_EACH, VALUES_OF_WORKER,
-};
+use crate::tuning::{LEAST_MEMBERS_TO_SHARE, MEMBERS_OF_START, SHARED_FIRST_EACH, VALUES_OF_START};
 use search_task::{Search, Task};
 use series_core::Rows;
 
@@ -17,7 +15,7 @@ pub(crate) fn hired_for_leaves<R: Rows>(search: &Search<'_, R>, leaves: usize, w
     requires { 1 ≤ workers }
     ensures { (1 ≤ result) × (result ≤ workers) }
 {
-    hired(members_in(search, leaves) / MEMBERS_OF_WORKER, workers)
+    hired(members_in(search, leaves) / MEMBERS_OF_START, workers)
 }
 
 /// How many of these workers the codes of all members' rows, or all rows, pay for.
@@ -25,7 +23,7 @@ pub(crate) fn hired_for_rows<R: Rows>(task: &Task<'_, R>, workers: u32) -> u32
     requires { 1 ≤ workers }
     ensures { (1 ≤ result) × (result ≤ workers) }
 {
-    hired(value_count(task) / VALUES_OF_WORKER, workers)
+    hired(value_count(task) / VALUES_OF_START, workers)
 }
 
 /// How many of the leaves that are left are shared first where k is great.
@@ -48,10 +46,11 @@ fn members_in<R: Rows>(search: &Search<'_, R>, leaves: usize) -> u64 {
     (leaves as u64).saturating_mul(count) / all
 }
 
-// At least one worker, and no more than there are, nor than are paid for.
-fn hired(paid: u64, workers: u32) -> u32
+// How many of these workers pay where one alone takes as long as so many threads take to start: the root of that number, since each start
+// adds to the time as much as it then takes away.
+fn hired(starts: u64, workers: u32) -> u32
     requires { 1 ≤ workers }
     ensures { (1 ≤ result) × (result ≤ workers) }
 {
-    paid.max(1).min(u64::from(workers)) as u32
+    starts.isqrt().max(1).min(u64::from(workers)) as u32
 }

@@ -1,5 +1,5 @@
-//! Stretches: what a worker draws at a time. Where means or codes tell members apart it is some leaves in a row, and else it is some
-//! rows in a row. Each series is in one stretch alone.
+//! Stretches: what a worker draws at a time where no leaves are listed. Where codes tell members apart it is some leaves in a row, and
+//! else it is some rows in a row. Each series is in one stretch alone.
 ghost use Rattle.std.specs.Prelude.{◌≡◌, ◌*◌, ◌<◌, length};
 ghost use Rattle.nearest_answer.specs.declared.telling.ApartBy.TheVariants.{Means, Codes, Nothing};
 ghost use Rattle.nearest_answer.specs.Stretches.{IsCut, item_count, stretch, stretch_size};
@@ -36,26 +36,9 @@ pub(crate) fn scan_stretch<R: Rows>(
     ensures pairs { AreScanned search.now.question limit (stretch search.now by number) list.old.pairs list.new.pairs }
 {
     match by {
-        ApartBy::Means => scan_leaves(search, number, limit, list),
+        ApartBy::Means => sweep_leaves(search, number, limit, list),
         ApartBy::Codes => sweep_leaves(search, number, limit, list),
         ApartBy::Nothing => scan_rows(search, number, limit, list),
-    }
-}
-
-// Scans some leaves in a row, but for those whose box is too far.
-fn scan_leaves<R: Rows>(search: &Search<'_, R>, number: u32, limit: u64, list: &mut KBest)
-    requires number { number * 64 < length search.now.index.leaves }
-    requires k { list.old.k ≡ search.now.question.k }
-    ensures k { list.new.k ≡ search.now.question.k }
-    ensures pairs { AreScanned search.now.question limit (stretch search.now Means number) list.old.pairs list.new.pairs }
-{
-    // for the fact that the list is one: in order, and no longer than its limit
-    let _held = list.pairs();
-    let leaves = search.leaf_count();
-    let first = number * LEAVES_OF_STRETCH;
-    let end = first + LEAVES_OF_STRETCH.min(leaves - first);
-    for leaf in first..end {
-        search.scan_boxed(leaf, limit, list);
     }
 }
 

@@ -9,7 +9,7 @@ ghost use Rattle.nearest_answer.specs.Begun.{IsBegun};
 use crate::all_rows::answer_by_rows;
 use crate::answer::one_worker_answer;
 use crate::begun::Begun;
-use crate::by_leaves::{begin_by_leaves, finish_in_order, narrowed, split_closest};
+use crate::by_leaves::{all_near, begin_by_leaves, finish_in_order, narrowed, split_closest};
 use crate::crew::Crew;
 use crate::first_limit::first_limit;
 use crate::listed::scan_together;
@@ -87,7 +87,13 @@ pub fn answer_by_stretches<T: Threads + Sync, R: Rows + Sync, G: Gate + Sync>(
         gate,
     };
     let first = first_limit(alloc, &search, FIRST_MEMBERS)?;
-    let list = side_by_side(&crew, &search, by, first)?;
+    let list = match by {
+        ApartBy::Means => {
+            let near = all_near(alloc, &search, first)?;
+            finish_at_once(&crew, &search, near)?
+        }
+        ApartBy::Codes | ApartBy::Nothing => side_by_side(&crew, &search, by, first)?,
+    };
     Ok(PairList {
         items: list.pairs().to_vec(alloc)?,
     })
@@ -132,6 +138,11 @@ fn finish_together<T: Threads + Sync, R: Rows + Sync, G: Gate + Sync>(
         return finish_at_once(&hired, search, begun);
     }
     let closer = closer_together(&hired, search, begun)?;
+    let left = closer.left.len();
+    if is_little(search, left) {
+        return finish_in_order(crew.alloc, search, closer);
+    }
+    let hired = crew.of(hired_for_leaves(search, left, crew.workers));
     finish_at_once(&hired, search, closer)
 }
 

@@ -57,8 +57,8 @@ pub(crate) const SHARE_TO_SWEEP: u64 = 8;
 /// one worker takes twice as long at least for so many members.
 pub(crate) const LEAST_MEMBERS_TO_SHARE: u64 = 8192;
 
-/// How many of these members there are to be for each worker that is hired: a thread costs the one who starts it some 20 microseconds.
-pub(crate) const MEMBERS_OF_WORKER: u64 = 2048;
+/// How many of these members one worker scans while a thread is started, some 20 microseconds.
+pub(crate) const MEMBERS_OF_START: u64 = 1024;
 
 /// Up to which k all leaves that are left are shared at once. Each worker has a list of its own, and before that holds k pairs no limit
 /// falls; so for a greater k those of least bound are shared first, and the lists merged tell a limit for the others.
@@ -70,8 +70,8 @@ pub(crate) const SHARED_FIRST_EACH: u64 = 16;
 /// How many values all rows have, at least, to be shared where codes are swept or all rows are read.
 pub(crate) const LEAST_VALUES_TO_SHARE: u64 = 2_000_000;
 
-/// How many values there are to be for each worker that is hired for them.
-pub(crate) const VALUES_OF_WORKER: u64 = 1_500_000;
+/// How many of these values one worker goes through while a thread is started.
+pub(crate) const VALUES_OF_START: u64 = 160_000;
 
 /// How many of the leaves that are listed a worker draws at a time.
 pub(crate) const ENTRIES_OF_STRETCH: usize = 16;

@@ -8,12 +8,12 @@ use Rattle.nearest_answer.proofs.stretches.scan_stretch.Goals as goal
 pub returns-in-Means-clause-pairs : goal.returns-in-Means-clause-pairs
 returns-in-Means-clause-pairs g c =
     subst (λ (by : ApartBy). AreScanned c.args.search.now.question c.args.limit (stretch c.args.search.now by c.args.number)
-    c.args.list.now.pairs c.scan_leaves.new.list.pairs) (sym c.in-Means.is) c.scan_leaves.ensures.pairs
+    c.args.list.now.pairs c.sweep_leaves.new.list.pairs) (sym c.in-Means.is) c.sweep_leaves.ensures.pairs
 
 pub returns-in-Codes-clause-pairs : goal.returns-in-Codes-clause-pairs
 returns-in-Codes-clause-pairs g c =
     subst (λ (by : ApartBy). AreScanned c.args.search.now.question c.args.limit (stretch c.args.search.now by c.args.number)
-    c.args.list.now.pairs c.sweep_leaves.new.list.pairs) (sym c.in-Codes.is) c.sweep_leaves.ensures.pairs
+    c.args.list.now.pairs c.sweep_leaves-in-Codes.new.list.pairs) (sym c.in-Codes.is) c.sweep_leaves-in-Codes.ensures.pairs
 
 pub returns-in-Nothing-clause-pairs : goal.returns-in-Nothing-clause-pairs
 returns-in-Nothing-clause-pairs g c =
