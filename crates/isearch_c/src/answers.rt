@@ -148,7 +148,7 @@ impl<'a, R: Rows> Ground<'a, R> {
 }
 
 /// Puts the pairs of a query behind those that were found, filled up.
-fn put(found: &mut Vec<Pair>, pairs: &[Pair], k: u32) -> Result<(), NoMemory>
+pub fn put(found: &mut Vec<Pair>, pairs: &[Pair], k: u32) -> Result<(), NoMemory>
     requires { length pairs.now ≤ k }
     ensures { OnOk result (found.new.items ≡ found.old.items ++ filled k pairs.now) }
 {

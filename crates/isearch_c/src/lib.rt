@@ -15,4 +15,5 @@ mod status;
 #[cfg(test)]
 mod tests;
 mod texts;
+mod together;
 mod windows;

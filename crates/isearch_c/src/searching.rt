@@ -6,7 +6,7 @@ ghost use Rattle.isearch_c.specs.Found.{Hold, HoldFirst, all_nearest};
 ghost use Rattle.isearch_c.specs.Kept.{near_in, searched};
 ghost use Rattle.isearch_c.specs.Statuses.{EndsBy};
 
-use crate::answers::{Asked, Ground, count_fits, places_fit, queries_fit, write};
+use crate::answers::{Ground, count_fits, places_fit, queries_fit, write};
 use crate::held::Searchable;
 use crate::slot::IsearchIndex;
 use crate::status::Status;
@@ -178,8 +178,7 @@ fn nearest(
         layout: &searchable.settings.layout,
         index: &searchable.index,
     };
-    let asked = Asked { k, apart: None };
-    let Ok(pairs) = ground.answers(alloc, asked, queries) else {
+    let Ok(pairs) = ground.nearest_to_all(alloc, k, queries) else {
         return Status::NoMemory.code();
     };
     write(&pairs, distances, numbers);

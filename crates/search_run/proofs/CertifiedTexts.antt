@@ -17,7 +17,7 @@ use Rattle.certificate.specs.Spelling.{answer_line as spelled_answer, answer_lin
 use Rattle.certificate.specs.declared.block.Block.{Block}
 use Rattle.certificate.proofs.ValidBlocks.{blocks_pass, blocks_spelled}
 use Rattle.certificate.proofs.Whole.{verdict_answers}
-use Rattle.search_run.specs.Certificates.{IsValid, most_bytes, subject_of}
+use Rattle.search_run.specs.Certificates.{IsSound, subject_of}
 use Rattle.search_run.specs.Layouts.{layout_of, segments_of}
 use Rattle.search_run.specs.Nearests.{IsCertifiedPiece}
 use Rattle.search_run.specs.Plans.{HasSegments}
@@ -134,23 +134,22 @@ is_asked form x y o limits first second lengths segments = record {
   label_fits = (label_each form x first.fits).1;
 }
 
--- a text with certificates is a certificate that holds, where it is not too long
+-- a text with certificates is sound
 pub text_holds : (form : Form) (x y : Loaded) (o : Options) (text : List ℕ) → OptionsKeepLimits o
     → HasText form x.rows x.labels → HasText form y.rows y.labels → x.rows.points ≡ y.rows.points
     → HasSegments o.segments x.rows.points → IsTextOf (IsCertifiedPiece o x) y.rows.series text
-    → length text ≤ most_bytes → IsValid (subject_of x y o) text
-text_holds form x y o text limits first second lengths segments is short =
+    → IsSound (subject_of x y o) text
+text_holds form x y o text limits first second lengths segments is =
     let blocks = blocks_of x y o 0 y.rows.series text is in
     let asked = is_asked form x y o limits first second lengths segments in
     let sound = blocks_pass (asked_of x y o) o.leaf o.queues blocks.0 asked blocks.1 in
     record {
-      short = short;
       blocks = blocks.0;
       spelled = record {
         are_blocks = blocks_spelled (asked_of x y o) o.leaf o.queues blocks.0 asked limits.queues.0 limits.queues.1 blocks.1;
         text = blocks.2;
       };
-      sound = sound;
+      passed = sound;
       answers = verdict_answers x.rows x.labels y.rows o.k (layout_of x.rows.points o.segments o.table) blocks.0
           limits.k.0 sound;
     }

@@ -10,7 +10,7 @@ use Rattle.command_words.specs.declared.command.Command.TheVariants.{Nearest, Ra
 use Rattle.search_run.specs.Ends.{Answers, NoCommand}
 use Rattle.search_run.specs.Traffic.{Reading, Writing}
 use Rattle.search_run.specs.Verified.{Certifies}
-use Rattle.search_run.proofs.Verified.{texts_valid}
+use Rattle.search_run.proofs.Verified.{texts_sound}
 use Rattle.search_run.specs.declared.status.Status.{Status}
 use Rattle.search_run.specs.declared.status.Status.TheVariants.{Done, Usage, Missing, ReadFault, Format, Mismatch, Settings, WriteFault, Memory, Invalid, Index}
 
@@ -47,8 +47,8 @@ pub answers_certify : (reading : Reading) (writing : Writing) (command : Command
 answers_certify reading writing (Nearest series queries o) Done limits alone x = λ certificate. (
   x.0,
   x.2,
-  λ short. texts_valid reading.held series queries o o x.0
-      (record { limits = limits.options; alone = alone; certificate = certificate; writes = x.1; short = short })
+  texts_sound reading.held series queries o o x.0
+      (record { limits = limits.options; alone = alone; certificate = certificate; writes = x.1 })
       (record { k = refl; segments = refl; table = refl; raw = refl }),
 )
 answers_certify reading writing (Nearest series queries o) Usage limits alone x = tt

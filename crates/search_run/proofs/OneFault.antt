@@ -74,10 +74,10 @@ one_fault s bytes (Rejected why) (Rejected other) first second =
 pub holds_without : (s : Subject) (bytes : List ℕ) (e : CertFault) → IsValid s bytes → IsFault s e bytes → ⊥
 holds_without s bytes TooLong valid fault = omega (arith, valid.short, fault)
 holds_without s bytes (Line at) valid fault =
-    fault_alone _ _ bytes at valid.blocks (omega (arith, valid.short)) fault.1 valid.spelled
+    fault_alone _ _ bytes at valid.sound.blocks (omega (arith, valid.short)) fault.1 valid.sound.spelled
 holds_without s bytes (Rejected why) valid fault =
-    let same = spells_once _ _ bytes valid.blocks fault.2.0 (omega (arith, valid.short)) valid.spelled fault.2.1 in
-    none-some why (sym valid.sound ∙ ap (verdict_of s) same ∙ fault.2.2)
+    let same = spells_once _ _ bytes valid.sound.blocks fault.2.0 (omega (arith, valid.short)) valid.sound.spelled fault.2.1 in
+    none-some why (sym valid.sound.passed ∙ ap (verdict_of s) same ∙ fault.2.2)
 
 -- a fault of a certificate is none of want of memory
 pub fault_can_be : (s : Subject) (bytes : List ℕ) (e : CertFault) → IsFault s e bytes → CanBeFault e

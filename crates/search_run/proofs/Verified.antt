@@ -1,4 +1,4 @@
--- A text of `nearest` with certificates is valid, and `verify` finds no fault in it (`texts_valid`, `texts_faultless`).
+-- A text of `nearest` with certificates is sound, and `verify` finds no fault in it (`texts_sound`, `texts_faultless`).
 use Rattle.std.proofs.Common.{◌≡◌, ℕ, List, Option, Some, None, true, false, refl, ⊎_elim, sym, ap, ◌∙◌, subst}
 use Rattle.std.specs.Prelude.{IfSome}
 use Rattle.std.proofs.lemmas.Bool.{false≢true}
@@ -10,14 +10,14 @@ use Rattle.command_words.specs.Absence.{IndexStandsAlone}
 use Rattle.command_words.specs.declared.options.Options.{Options}
 use Rattle.series_file.specs.declared.error.Form.{Form}
 use Rattle.series_file.specs.declared.error.Loaded.{Loaded}
-use Rattle.search_run.specs.Certificates.{IsFault, IsValid, ShowsInvalid, Subject, subject_of}
+use Rattle.search_run.specs.Certificates.{IsFault, IsSound, IsValid, ShowsInvalid, Subject, subject_of}
 use Rattle.search_run.specs.Commands.{nearest_by, pieces_plan}
 use Rattle.search_run.specs.Layouts.{layout_of}
 use Rattle.search_run.specs.Loads.{HoldsFile, form_of}
 use Rattle.search_run.specs.Nearests.{IsNearestPiece}
 use Rattle.search_run.specs.Plans.{Writes}
 use Rattle.search_run.specs.Texts.{IsTextOf}
-use Rattle.search_run.specs.Verified.{AskAlike, CertifiedTextsAreFaultless, CertifiedTextsAreValid, IsCertifiedText}
+use Rattle.search_run.specs.Verified.{AskAlike, CertifiedTextsAreFaultless, CertifiedTextsAreSound, IsCertifiedText}
 use Rattle.search_run.proofs.CertifiedTexts.{text_holds}
 use Rattle.search_run.proofs.Held.{one_loaded}
 use Rattle.search_run.proofs.OneFault.{holds_without}
@@ -50,29 +50,29 @@ pieces_written held series queries o text certified =
     subst (λ (index : Option (List ℕ)). Writes held (nearest_by index series queries o) text)
     (no_index o certified.alone certified.certificate) certified.writes
 
--- the text is valid, for what its own files hold
-valid_for : (held : Option Held) (series queries : List ℕ) (o v : Options) (text : List ℕ)
+-- the text is sound, for what its own files hold
+sound_for : (held : Option Held) (series queries : List ℕ) (o v : Options) (text : List ℕ)
     → (certified : IsCertifiedText held series queries o text) → AskAlike o v
-    → IsValid (subject_of (pieces_written held series queries o text certified).0
+    → IsSound (subject_of (pieces_written held series queries o text certified).0
     (pieces_written held series queries o text certified).2.0 v) text
-valid_for held series queries o v text certified alike =
+sound_for held series queries o v text certified alike =
     let w = pieces_written held series queries o text certified in
     let x = w.0 in
     let y = w.2.0 in
     let last = w.2.2 in
-    subst (λ (s : Subject). IsValid s text) (same_subject x y o v alike)
+    subst (λ (s : Subject). IsSound s text) (same_subject x y o v alike)
     (text_holds (form_of o.raw) x y o text certified.limits w.1.formed w.2.1.formed last.0 last.1.0
-    (subst (λ flag. IsTextOf (IsNearestPiece flag o x) y.rows.series text) certified.certificate last.1.1) certified.short)
+    (subst (λ flag. IsTextOf (IsNearestPiece flag o x) y.rows.series text) certified.certificate last.1.1))
 
-pub texts_valid : CertifiedTextsAreValid
-texts_valid held series queries o v text certified alike =
+pub texts_sound : CertifiedTextsAreSound
+texts_sound held series queries o v text certified alike =
     let w = pieces_written held series queries o text certified in
     let form = ap form_of alike.raw in (
       w.0,
       w.2.0,
       subst (λ (f : Form). HoldsFile held series f w.0) form w.1,
       subst (λ (f : Form). HoldsFile held queries f w.2.0) form w.2.1,
-      valid_for held series queries o v text certified alike,
+      sound_for held series queries o v text certified alike,
     )
 
 -- a certificate of this name that holds has no fault that is reported
@@ -84,20 +84,26 @@ none_told h name text s (Invalid e) named valid found =
 none_told h name text s told named valid found = absurd found
 
 pub texts_faultless : CertifiedTextsAreFaultless
-texts_faultless h series queries name o v text certified alike named told has =
+texts_faultless before now series queries data asked name o v text certified short alike first second named told has =
     ⊎_elim
-    (λ (found : ShowsInvalid (IsFault (subject_of has.0 has.2.0 v)) (Some h) name told).
-    none_told h name text (subject_of has.0 has.2.0 v) told named valid found)
+    (λ (found : ShowsInvalid (IsFault (subject_of has.0 has.2.0 v)) (Some now) name told).
+    none_told now name text (subject_of has.0 has.2.0 v) told named (record { short = short; sound = sound }) found)
     (λ none. absurd none.1)
     has.2.2.1.1
   where
-    ours : (x : Loaded) × (y : Loaded) × HoldsFile (Some h) series (form_of v.raw) x
-        × HoldsFile (Some h) queries (form_of v.raw) y × IsValid (subject_of x y v) text
-    ours = texts_valid (Some h) series queries o v text certified alike
+    form : Form
+    form = form_of v.raw
 
-    valid : IsValid (subject_of has.0 has.2.0 v) text
-    valid =
-        let first = one_loaded (Some h) series (form_of v.raw) ours.0 has.0 ours.2.told has.1.told in
-        let second = one_loaded (Some h) queries (form_of v.raw) ours.1 has.2.0 ours.3.told has.2.1.told in
-        subst (λ (y : Loaded). IsValid (subject_of has.0 y v) text) second
-        (subst (λ (x : Loaded). IsValid (subject_of x ours.1 v) text) first ours.4)
+    ours : (x : Loaded) × (y : Loaded) × HoldsFile (Some before) series form x × HoldsFile (Some before) queries form y
+        × IsSound (subject_of x y v) text
+    ours = texts_sound (Some before) series queries o v text certified alike
+
+    sound : IsSound (subject_of has.0 has.2.0 v) text
+    sound =
+        let data_told = ours.2.told in
+        let asked_told = ours.3.told in
+        let one = one_loaded (Some now) data form ours.0 has.0 (data_told.0, first ∙ data_told.1, data_told.2) has.1.told in
+        let two = one_loaded (Some now) asked form ours.1 has.2.0 (asked_told.0, second ∙ asked_told.1, asked_told.2)
+            has.2.1.told in
+        subst (λ (y : Loaded). IsSound (subject_of has.0 y v) text) two
+        (subst (λ (x : Loaded). IsSound (subject_of x ours.1 v) text) one ours.4)

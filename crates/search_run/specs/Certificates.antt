@@ -47,14 +47,18 @@ SpellsBlocks s bytes blocks = Spells s.layout.cuts.segments (is_some s.series.la
 abbrev pub verdict_of : Subject → List Block → Option Reject
 verdict_of s blocks = verdict s.series.rows s.series.labels s.queries.rows s.k s.layout blocks
 
--- The bytes are a certificate that holds: not too long, in the grammar, with blocks that fail no test. The answers of
--- each block are then those of its query.
-pub record IsValid (s : Subject) (bytes : List ℕ) : Type 0 where
-  pub short : length bytes ≤ most_bytes
+-- The bytes, however many, are in the grammar, with blocks that fail no test. The answers of each block are then those of its
+-- query.
+pub record IsSound (s : Subject) (bytes : List ℕ) : Type 0 where
   pub blocks : List Block
   pub spelled : SpellsBlocks s bytes blocks
-  pub sound : verdict_of s blocks ≡ None
+  pub passed : verdict_of s blocks ≡ None
   pub answers : HaveAnswers s.series.rows s.queries.rows s.k blocks
+
+-- they are a certificate that holds: not too long, and sound
+pub record IsValid (s : Subject) (bytes : List ℕ) : Type 0 where
+  pub short : length bytes ≤ most_bytes
+  pub sound : IsSound s bytes
 
 -- why the bytes are none: the first line with which no certificate begins, too many bytes, or the first failing test
 abbrev pub IsFault : Subject → CertFault → List ℕ → Type 0

@@ -4,8 +4,8 @@ use Rattle.isearch_c.proofs.Fitting.{Fits-had}
 use Rattle.isearch_c.proofs.Filling.{found_fill}
 use Rattle.isearch_c.proofs.searching.nearest.Goals as goal
 
-pub answers-requires-clause-fits : goal.answers-requires-clause-fits
-answers-requires-clause-fits c =
+pub nearest_to_all-requires-clause-fits : goal.nearest_to_all-requires-clause-fits
+nearest_to_all-requires-clause-fits c =
     let kept = c.args.searchable.now in Fits-had kept.rows kept.settings.layout kept.index kept.fits
 
 pub write-requires-clause-distances : goal.write-requires-clause-distances
