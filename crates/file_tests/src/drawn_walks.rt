@@ -1,5 +1,6 @@
 //! Walks as tables. The words of 1234567 and its walks come from the published generator; others from a plain program.
 
+use crate::claims::assert_same;
 use rand_core::{Rng, SeedableRng};
 use rand_xoshiro::SplitMix64;
 use random_walks::{generator, walks};
@@ -16,14 +17,14 @@ fn the_first_words_and_walks(rt: HostRuntime) -> Result<(), Fail> {
         9817491932198370423,
         4593380528125082431,
     ] {
-        assert_eq!(rt; words.next_u64(), word, "the words of 1234567");
+        assert_same!(rt; words.next_u64(), word, "the words of 1234567");
     }
     let mut rng = generator(1234567);
     let series = walks(alloc, &mut rng, 1, 2)?;
     let queries = walks(alloc, &mut rng, 1, 2)?;
-    assert_eq!(rt; series.values(), [-76i16, -40].as_slice(), "the series");
-    assert_eq!(rt; queries.values(), [-64i16, -103].as_slice(), "the query");
-    assert_eq!(rt; rng.state(), words.state(), "where the generator stands");
+    assert_same!(rt; series.values(), [-76i16, -40].as_slice(), "the series");
+    assert_same!(rt; queries.values(), [-64i16, -103].as_slice(), "the query");
+    assert_same!(rt; rng.state(), words.state(), "where the generator stands");
     Ok(())
 }
 
@@ -44,15 +45,15 @@ fn walks_are_whole_and_bounded(rt: HostRuntime) -> Result<(), Fail> {
     for (seed, count, length, sum, last) in table {
         let mut rng = generator(seed);
         let rows = walks(alloc, &mut rng, count, length)?;
-        assert_eq!(rt; rows.count(), count, "seed {seed}");
-        assert_eq!(rt; rows.length(), length, "seed {seed}");
+        assert_same!(rt; rows.count(), count, "seed {seed}");
+        assert_same!(rt; rows.length(), length, "seed {seed}");
         let values = rows.values();
         let mut total = 0i64;
         for value in values {
             total = total.wrapping_add(i64::from(*value));
         }
-        assert_eq!(rt; total, sum, "seed {seed}");
-        assert_eq!(rt; values.last().copied(), last, "seed {seed}");
+        assert_same!(rt; total, sum, "seed {seed}");
+        assert_same!(rt; values.last().copied(), last, "seed {seed}");
     }
     Ok(())
 }

@@ -3,6 +3,8 @@
 #![tactic(auto)]
 
 #[cfg(test)]
+mod claims;
+#[cfg(test)]
 mod drawn_walks;
 #[cfg(test)]
 mod series_files;

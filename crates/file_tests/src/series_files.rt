@@ -5,6 +5,7 @@ ghost use Rattle.series_file.specs.Stages.{IsForm};
 mod each_byte;
 mod plain_reader;
 
+use crate::claims::assert_same;
 use outside::{Files, MemFiles};
 use series_core::{Flat, Rows};
 use series_file::{FileError, Form, Loaded, read_series, write_numbered, write_series};
@@ -60,18 +61,18 @@ fn fault(alloc: Global, bytes: &[u8], form: Form) -> Option<FileError>
 #[test]
 fn a_file_without_labels(rt: HostRuntime) -> Result<(), Fail> {
     let loaded = read(rt.alloc(), &PLAIN, Form::Headed)?;
-    assert_eq!(rt; loaded.rows.length(), 4);
-    assert_eq!(rt; loaded.rows.values(), VALUES.as_slice());
-    assert!(rt; loaded.labels.is_none(), "version 1 has no labels");
+    assert_same!(rt; loaded.rows.length(), 4);
+    assert_same!(rt; loaded.rows.values(), VALUES.as_slice());
+    assert_same!(rt; loaded.labels.is_none(), true, "version 1 has no labels");
     Ok(())
 }
 
 #[test]
 fn a_file_with_labels(rt: HostRuntime) -> Result<(), Fail> {
     let loaded = read(rt.alloc(), &LABELLED, Form::Headed)?;
-    assert_eq!(rt; loaded.rows.length(), 4);
-    assert_eq!(rt; loaded.rows.values(), VALUES.as_slice());
-    assert_eq!(rt; labels_of(&loaded), LABELS.as_slice());
+    assert_same!(rt; loaded.rows.length(), 4);
+    assert_same!(rt; loaded.rows.values(), VALUES.as_slice());
+    assert_same!(rt; labels_of(&loaded), LABELS.as_slice());
     Ok(())
 }
 
@@ -82,15 +83,15 @@ fn raw_files(rt: HostRuntime) -> Result<(), Fail> {
         &[1, 0, 0xff, 0xff, 0, 0x80, 0xff, 0x7f],
         Form::Raw(2),
     )?;
-    assert_eq!(rt; two.rows.count(), 2);
-    assert_eq!(rt;
+    assert_same!(rt; two.rows.count(), 2);
+    assert_same!(rt;
         two.rows.values(),
         [1i16, -1, i16::MIN, i16::MAX].as_slice()
     );
     let none = read(rt.alloc(), &[], Form::Raw(2))?;
-    assert_eq!(rt; none.rows.count(), 0, "no bytes are no series");
-    assert_eq!(rt; none.rows.length(), 2);
-    assert_eq!(rt;
+    assert_same!(rt; none.rows.count(), 0, "no bytes are no series");
+    assert_same!(rt; none.rows.length(), 2);
+    assert_same!(rt;
         fault(rt.alloc(), &[0; 7], Form::Raw(2)),
         Some(FileError::Uneven(7))
     );
@@ -101,11 +102,11 @@ fn raw_files(rt: HostRuntime) -> Result<(), Fail> {
 fn written_files(rt: HostRuntime) -> Result<(), Fail> {
     let alloc = rt.alloc();
     let rows = Flat::from_values(4, VALUES.to_vec(alloc)?);
-    assert_eq!(rt;
+    assert_same!(rt;
         write_series(alloc, &rows, None)?.as_slice(),
         PLAIN.as_slice()
     );
-    assert_eq!(rt;
+    assert_same!(rt;
         write_series(alloc, &rows, Some(&LABELS))?.as_slice(),
         LABELLED.as_slice()
     );
@@ -117,15 +118,15 @@ fn a_file_with_numbers_as_labels(rt: HostRuntime) -> Result<(), Fail> {
     let alloc = rt.alloc();
     let rows = Flat::from_values(4, VALUES.to_vec(alloc)?);
     let bytes = write_numbered(alloc, &rows)?;
-    assert_eq!(rt;
+    assert_same!(rt;
         bytes.as_slice(),
         write_series(alloc, &rows, Some(&[0, 1, 2, 3]))?.as_slice()
     );
     let loaded = read(alloc, &bytes, Form::Headed)?;
-    assert_eq!(rt; labels_of(&loaded), [0, 1, 2, 3].as_slice());
-    assert_eq!(rt; loaded.rows.values(), VALUES.as_slice());
+    assert_same!(rt; labels_of(&loaded), [0, 1, 2, 3].as_slice());
+    assert_same!(rt; loaded.rows.values(), VALUES.as_slice());
     let none = write_numbered(alloc, &Flat::from_values(4, Vec::new(alloc)))?;
-    assert_eq!(rt; none.len(), 16, "no series have no labels");
+    assert_same!(rt; none.len(), 16, "no series have no labels");
     Ok(())
 }
 
@@ -138,10 +139,10 @@ fn each_prefix(rt: HostRuntime) -> Result<(), Fail> {
             FileError::Truncated { at: cut, want: 48 }
         };
         let found = fault(rt.alloc(), &PLAIN[..cut as usize], Form::Headed);
-        assert_eq!(rt; found, Some(want), "cut to {cut}");
+        assert_same!(rt; found, Some(want), "cut to {cut}");
     }
     let short = fault(rt.alloc(), &LABELLED[..79], Form::Headed);
-    assert_eq!(rt; short, Some(FileError::Truncated { at: 79, want: 80 }));
+    assert_same!(rt; short, Some(FileError::Truncated { at: 79, want: 80 }));
     Ok(())
 }
 
@@ -171,11 +172,11 @@ const LABELLED_CHANGES: [(&[(usize, u8)], FileError); 4] = [
 fn changed_headers(rt: HostRuntime) -> Result<(), Fail> {
     for (changes, want) in PLAIN_CHANGES {
         let found = changed(rt.alloc(), &PLAIN, changes);
-        assert_eq!(rt; found, Some(want), "version 1, {changes:?}");
+        assert_same!(rt; found, Some(want), "version 1, {changes:?}");
     }
     for (changes, want) in LABELLED_CHANGES {
         let found = changed(rt.alloc(), &LABELLED, changes);
-        assert_eq!(rt; found, Some(want), "version 2, {changes:?}");
+        assert_same!(rt; found, Some(want), "version 2, {changes:?}");
     }
     Ok(())
 }
@@ -199,7 +200,7 @@ fn one_byte_too_many(rt: HostRuntime) -> Result<(), Fail> {
         let mut bytes = file.to_vec(rt.alloc())?;
         bytes.push(0)?;
         let found = fault(rt.alloc(), &bytes, Form::Headed);
-        assert_eq!(rt; found, Some(FileError::Trailing(want)), "file of {want}");
+        assert_same!(rt; found, Some(FileError::Trailing(want)), "file of {want}");
     }
     Ok(())
 }
@@ -218,7 +219,7 @@ fn a_listed_read_fails(rt: HostRuntime) -> Result<(), Fail> {
         } else {
             None
         };
-        assert_eq!(rt; found, want, "read {listed}");
+        assert_same!(rt; found, want, "read {listed}");
     }
     Ok(())
 }

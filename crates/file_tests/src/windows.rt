@@ -3,6 +3,7 @@
 
 ghost use Rattle.std.specs.Prelude.{◌<◌};
 
+use crate::claims::assert_same;
 use series_core::{KBest, Pair, PairList, Rows};
 use std::alloc::{AllocError, Global};
 use std::test::Fail;
@@ -37,16 +38,16 @@ fn windows_of_a_series(rt: HostRuntime) {
     for (length, step, want) in WINDOWS {
         let windows = windows_of(&SERIES, length, step);
         assert!(rt; is_shared(&windows));
-        assert_eq!(rt;
+        assert_same!(rt;
             windows.count() as usize,
             want.len(),
             "length {length} by {step}"
         );
-        assert_eq!(rt; windows.length(), length, "length {length} by {step}");
+        assert_same!(rt; windows.length(), length, "length {length} by {step}");
         for i in 0..windows.count() {
             let found = windows.row(i);
             let wanted: &[i16] = want.get(i as usize).copied().unwrap_or(&[]);
-            assert_eq!(rt; found, wanted, "window {i} of {length} by {step}");
+            assert_same!(rt; found, wanted, "window {i} of {length} by {step}");
         }
     }
 }
@@ -101,10 +102,7 @@ fn choices_of_a_series(rt: HostRuntime) -> Result<(), Fail> {
         for asked in [enough, 1024] {
             let best = nearest(alloc, &windows, asked)?;
             let chosen = choose(alloc, best.pairs(), apart.max(1), k)?;
-            assert!(rt;
-                has_pairs(&chosen, want),
-                "{k} of the {asked} nearest by {step}, {apart} apart"
-            );
+            assert_same!(rt; has_pairs(&chosen, want), true, "{k} of the {asked} nearest by {step}, {apart} apart");
         }
     }
     Ok(())
@@ -128,7 +126,7 @@ fn windows_of_drawn_values(rt: HostRuntime) -> Result<(), Fail> {
     for size in 0..24 {
         for length in 1..6 {
             let wrong = first_wrong_step(&values[..size.min(values.len())], length);
-            assert_eq!(rt; wrong, None, "{length} of {size} values");
+            assert_same!(rt; wrong, None, "{length} of {size} values");
         }
     }
     Ok(())
@@ -203,7 +201,7 @@ fn choices_of_drawn_pairs(rt: HostRuntime) -> Result<(), Fail> {
         for k in 0..12 {
             let chosen = choose(alloc, &pairs, apart, k)?;
             let want = plain_choice(alloc, &pairs, apart, k)?;
-            assert_eq!(rt; chosen.items, want, "{k} that are {apart} apart");
+            assert_same!(rt; chosen.items.as_slice(), want.as_slice(), "{k} that are {apart} apart");
         }
     }
     Ok(())

@@ -2,6 +2,7 @@
 //! a plain reader, reads that fail, a tree of nested splits saved by hand, and trees of drawn collections.
 ghost use Rattle.std.specs.Prelude.{◌≡◌, IfOk};
 
+use crate::claims::assert_same;
 use crate::readers::{difference, loaded};
 use crate::texts::{TEXT, WORKED, text_by, text_of, worked};
 use saved_index::{IndexFault, LoadedIndex, can_save, save};
@@ -84,7 +85,7 @@ fn the_first_refusal(rt: HostRuntime) -> Result<(), Fail> {
     for (name, rows, size, changes, want) in cases {
         let bytes = changed(alloc, size, changes)?;
         let found = loaded(&rt, alloc, rows, bytes.as_slice(), &[])?;
-        assert_eq!(rt; found.err(), want, "{name}");
+        assert_same!(rt; found.err(), want, "{name}");
     }
     Ok(())
 }
@@ -101,7 +102,7 @@ fn a_listed_read_fails(rt: HostRuntime) -> Result<(), Fail> {
         } else {
             None
         };
-        assert_eq!(rt; found.err(), want, "read {listed} fails");
+        assert_same!(rt; found.err(), want, "read {listed} fails");
     }
     Ok(())
 }
@@ -114,7 +115,7 @@ fn each_byte_changed(rt: HostRuntime) -> Result<(), Fail> {
         for value in 0..=255u8 {
             let bytes = changed(alloc, 58, &[(place, value)])?;
             let found = difference(&rt, alloc, &rows, &WORKED, bytes.as_slice())?;
-            assert_eq!(rt; found, None, "{value} at {place}");
+            assert_same!(rt; found, None, "{value} at {place}");
         }
     }
     Ok(())
@@ -134,9 +135,9 @@ fn each_beginning_and_more(rt: HostRuntime) -> Result<(), Fail> {
         } else {
             Some(IndexFault::NotIndex)
         };
-        assert_eq!(rt; fault, want, "the first {size} bytes");
+        assert_same!(rt; fault, want, "the first {size} bytes");
         let found = difference(&rt, alloc, &rows, &WORKED, bytes.as_slice())?;
-        assert_eq!(rt; found, None, "the first {size} bytes");
+        assert_same!(rt; found, None, "the first {size} bytes");
     }
     Ok(())
 }
@@ -172,11 +173,11 @@ fn texts_are_loaded_and_saved_again(rt: HostRuntime) -> Result<(), Fail> {
     let alloc = rt.alloc();
     let four = worked(alloc)?;
     let again = back(&rt, alloc, &four, 4, TEXT.as_slice())?;
-    assert_eq!(rt; again.as_slice(), TEXT.as_slice(), "the worked text");
+    assert_same!(rt; again.as_slice(), TEXT.as_slice(), "the worked text");
     let nested = nested_text(alloc)?;
     let zeros = Flat::from_values(16, [0i16; 16].to_vec(alloc)?);
     let again = back(&rt, alloc, &zeros, 1, nested.as_slice())?;
-    assert_eq!(rt;
+    assert_same!(rt;
         again.as_slice(),
         nested.as_slice(),
         "64 splits below each other"
@@ -185,7 +186,7 @@ fn texts_are_loaded_and_saved_again(rt: HostRuntime) -> Result<(), Fail> {
     for leaf_size in [1, 3, 40] {
         let bytes = text_of(&rt, alloc, &drawn, 100, leaf_size)?;
         let again = back(&rt, alloc, &drawn, 100, bytes.as_slice())?;
-        assert_eq!(rt; again.as_slice(), bytes.as_slice(), "leaves of {leaf_size}");
+        assert_same!(rt; again.as_slice(), bytes.as_slice(), "leaves of {leaf_size}");
     }
     Ok(())
 }
@@ -207,9 +208,9 @@ fn the_tree_of_three_points(rt: HostRuntime) -> Result<(), Fail> {
     let values = [0, 0, 0, 20000, 300, 0];
     let rows = Flat::from_values(2, values.to_vec(alloc)?);
     let bytes = text_by(&rt, alloc, &rows, Cuts::new(2, 2), 3, 1)?;
-    assert_eq!(rt; bytes.as_slice(), THREE_POINTS.as_slice(), "saved");
+    assert_same!(rt; bytes.as_slice(), THREE_POINTS.as_slice(), "saved");
     let again = back(&rt, alloc, &rows, 3, bytes.as_slice())?;
-    assert_eq!(rt;
+    assert_same!(rt;
         again.as_slice(),
         THREE_POINTS.as_slice(),
         "loaded and saved again"

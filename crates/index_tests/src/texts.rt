@@ -1,6 +1,7 @@
 //! Texts of trees that were built, and what both readers make of them: the worked text and a tree of many splits.
 ghost use Rattle.std.specs.Prelude.{◌≡◌, IfOk};
 
+use crate::claims::assert_same;
 use crate::readers::difference;
 use breakpoints::Table;
 use isax_word::Layout;
@@ -76,9 +77,9 @@ fn the_worked_text(rt: HostRuntime) -> Result<(), Fail> {
     let alloc = rt.alloc();
     let rows = worked(alloc)?;
     let bytes = text_of(&rt, alloc, &rows, 4, 1000)?;
-    assert_eq!(rt; bytes.as_slice(), TEXT.as_slice(), "the worked text");
+    assert_same!(rt; bytes.as_slice(), TEXT.as_slice(), "the worked text");
     let found = difference(&rt, alloc, &rows, &WORKED, bytes.as_slice())?;
-    assert_eq!(rt; found, None, "the worked text");
+    assert_same!(rt; found, None, "the worked text");
     Ok(())
 }
 
@@ -92,6 +93,6 @@ fn a_tree_of_many_splits(rt: HostRuntime) -> Result<(), Fail> {
         return Err(Fail::new("a tree without its splits"));
     }
     let found = difference(&rt, alloc, &rows, &values, bytes.as_slice())?;
-    assert_eq!(rt; found, None, "three series in leaves of one");
+    assert_same!(rt; found, None, "three series in leaves of one");
     Ok(())
 }

@@ -2,6 +2,7 @@
 
 use super::PLAIN;
 use super::plain_reader::{Content, plain_read};
+use crate::claims::assert_same;
 use outside::{Files, MemFiles};
 use series_core::{Flat, Rows};
 use series_file::{FileError, Form, Loaded, read_series, write_series};
@@ -81,11 +82,8 @@ fn versions() -> [(u8, &'static [u8]); 2] {
 fn whole_files_and_each_prefix(rt: HostRuntime) {
     for (version, file) in versions() {
         for cap in [1, 7, 64] {
-            assert!(rt;
-                agrees(rt.alloc(), file, cap),
-                "version {version} in pieces of {cap}"
-            );
-            assert_eq!(rt;
+            assert_same!(rt; agrees(rt.alloc(), file, cap), true, "version {version} in pieces of {cap}");
+            assert_same!(rt;
                 first_wrong_prefix(rt.alloc(), file, cap),
                 None,
                 "a beginning of version {version} in pieces of {cap}"
@@ -98,7 +96,7 @@ fn whole_files_and_each_prefix(rt: HostRuntime) {
 fn each_header_byte(rt: HostRuntime) {
     for (version, file) in versions() {
         for place in 0..16 {
-            assert_eq!(rt;
+            assert_same!(rt;
                 first_wrong_byte(rt.alloc(), file, place),
                 None,
                 "byte {place} of version {version}"
@@ -119,14 +117,14 @@ fn written_and_read_again(rt: HostRuntime) -> Result<(), Fail> {
         let rows = Flat::from_values(length, values.to_vec(alloc)?);
         let bytes = write_series(alloc, &rows, labels)?;
         let again = read(alloc, &bytes, 7)?;
-        assert_eq!(rt; again.rows.length(), length, "length {length}");
-        assert_eq!(rt; again.rows.values(), values.as_slice(), "length {length}");
+        assert_same!(rt; again.rows.length(), length, "length {length}");
+        assert_same!(rt; again.rows.values(), values.as_slice(), "length {length}");
         let found: &[u64] = match &again.labels {
             Some(labels) => &labels.items,
             None => &[],
         };
-        assert_eq!(rt; found, labels.unwrap_or(&[]), "length {length}");
-        assert_eq!(rt; again.labels.is_some(), labels.is_some(), "length {length}");
+        assert_same!(rt; found, labels.unwrap_or(&[]), "length {length}");
+        assert_same!(rt; again.labels.is_some(), labels.is_some(), "length {length}");
     }
     Ok(())
 }
