@@ -5,6 +5,7 @@ ghost use Rattle.live_collection.specs.Sides.{AreAllReaders, IsWriterOf, points_
 
 mod threads;
 
+use crate::claims::assert_same;
 use breakpoints::Table;
 use isax_word::Layout;
 use live_collection::{AppendError, LiveCollection, MAX_BATCHES, Reader, Writer};
@@ -107,11 +108,11 @@ fn told_and_asked<R: Threads + Wait + Sync>(
 #[test]
 fn a_reader_that_was_told_has_all_batches(rt: HostRuntime) -> Result<(), Fail> {
     let one = told_and_asked(&rt, rt.alloc(), 1, 1, &[(4, 0)]).ok_or("no answer")?;
-    assert_eq!(rt; one, (4, 4, true), "one batch and an empty one");
+    assert_same!(rt; one, (4, 4, true), "one batch and an empty one");
     let two = told_and_asked(&rt, rt.alloc(), 2, 2, &[(4, 0), (4, 4)]).ok_or("no answer")?;
-    assert_eq!(rt; two, (8, 8, true), "numbers counted over two batches");
+    assert_same!(rt; two, (8, 8, true), "numbers counted over two batches");
     let none = told_and_asked(&rt, rt.alloc(), 0, 3, &[]).ok_or("no answer")?;
-    assert_eq!(rt; none, (0, 0, true), "an empty batch alone");
+    assert_same!(rt; none, (0, 0, true), "an empty batch alone");
     Ok(())
 }
 
@@ -132,9 +133,9 @@ fn appended_to_the_end<R: Threads + Wait + Sync>(
 #[test]
 fn the_collection_is_full_after_1024_batches(rt: HostRuntime) -> Result<(), Fail> {
     let fits = appended_to_the_end(&rt, rt.alloc(), MAX_BATCHES).ok_or("no end")?;
-    assert_eq!(rt; fits, (Ok(0), 0), "1024 batches");
+    assert_same!(rt; fits, (Ok(0), 0), "1024 batches");
     let full = appended_to_the_end(&rt, rt.alloc(), MAX_BATCHES + 2).ok_or("no end")?;
-    assert_eq!(rt;
+    assert_same!(rt;
         full,
         (Err(AppendError::Full(1024, 0)), 0),
         "two batches more"
@@ -153,7 +154,7 @@ fn closed_after<R: Threads + Wait + Sync>(rt: &R, alloc: Global, times: u32) -> 
 fn a_closed_collection_tells_its_count(rt: HostRuntime) -> Result<(), Fail> {
     for (times, series) in [(0, 0), (1, 4), (3, 12)] {
         let count = closed_after(&rt, rt.alloc(), times).ok_or("no end")?;
-        assert_eq!(rt; count, series, "{times} batches");
+        assert_same!(rt; count, series, "{times} batches");
     }
     Ok(())
 }

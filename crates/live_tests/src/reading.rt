@@ -1,6 +1,7 @@
 //! Tests: a table of scripts, and one script cut at every byte and changed at every byte to every value.
 //! What each line of the table says was found by hand; the cut and the changed scripts are read by a plain slow grammar too.
 
+use crate::claims::assert_same;
 use live_script::{Script, ScriptError, read_script};
 use std::alloc::{AllocError, Global};
 use std::process::Abort;
@@ -71,7 +72,7 @@ fn reads_what_each_line_says(rt: HostRuntime) -> Result<(), Fail> {
             Ok(script) => lines_of(rt.alloc(), &script)?,
             Err(at) => format!(in rt.alloc(); " line {at}")?,
         };
-        assert_eq!(rt; said.as_str().trim(), expected, "{bytes:?}");
+        assert_same!(rt; said.as_str().trim(), expected, "{bytes:?}");
     }
     Ok(())
 }
@@ -122,7 +123,7 @@ fn agrees_with_a_plain_grammar(rt: HostRuntime) -> Result<(), Fail> {
     let whole = b"append A\nask Q 10\nappend \xc3\xa4\n";
     for end in 0..whole.len() {
         let cut = &whole[..end];
-        assert_eq!(rt;
+        assert_same!(rt;
             read(&rt, rt.alloc(), cut).err(),
             plain_fault(cut),
             "cut at {end}"
@@ -132,7 +133,7 @@ fn agrees_with_a_plain_grammar(rt: HostRuntime) -> Result<(), Fail> {
         for value in 0..=u8::MAX {
             let mut changed = *whole;
             changed[place] = value;
-            assert_eq!(rt;
+            assert_same!(rt;
                 read(&rt, rt.alloc(), &changed).err(),
                 plain_fault(&changed),
                 "{value} at {place}"

@@ -3,6 +3,7 @@
 
 mod fixture;
 
+use crate::claims::assert_same;
 use fixture::run_line;
 use live_run::LiveStatus;
 use outside::NoGate;
@@ -68,13 +69,13 @@ const ROWS: [Row; 13] = [
 fn scripts_end_as_they_should(rt: HostRuntime) -> Result<(), Fail> {
     for (script, status, text, code) in ROWS {
         let ended = run_line(&rt, rt.alloc(), "S", script.as_bytes(), SOUND, &NoGate)?;
-        assert_eq!(rt; ended.status, status, "{script}");
-        assert_eq!(rt; ended.out.written(), text.as_bytes(), "{script}");
+        assert_same!(rt; ended.status, status, "{script}");
+        assert_same!(rt; ended.out.written(), text.as_bytes(), "{script}");
         let told = match code {
             0 => String::new(rt.alloc()),
             _ => format!(in rt.alloc(); "isearch_live: status {code}\n")?,
         };
-        assert_eq!(rt; ended.err.written(), told.as_bytes(), "{script}");
+        assert_same!(rt; ended.err.written(), told.as_bytes(), "{script}");
     }
     Ok(())
 }
@@ -90,9 +91,9 @@ fn the_word_names_the_script(rt: HostRuntime) -> Result<(), Fail> {
         ("S", LiveStatus::Done, 0),
     ] {
         let ended = run_line(&rt, rt.alloc(), line, b"append A\n", SOUND, &NoGate)?;
-        assert_eq!(rt; ended.status, status, "{line}");
-        assert_eq!(rt; ended.status.code(), code, "{line}");
-        assert_eq!(rt; ended.out.written().is_empty(), true, "{line}");
+        assert_same!(rt; ended.status, status, "{line}");
+        assert_same!(rt; ended.status.code(), code, "{line}");
+        assert_same!(rt; ended.out.written().is_empty(), true, "{line}");
     }
     Ok(())
 }
@@ -105,16 +106,16 @@ fn a_script_may_be_too_long_or_fill_the_collection(rt: HostRuntime) -> Result<()
     };
     let long = vec![in rt.alloc(); b'\n'; 1048577]?;
     let ended = run_line(&rt, rt.alloc(), "S", &long, outside, &NoGate)?;
-    assert_eq!(rt; ended.status, LiveStatus::Script(0), "1048577 bytes");
+    assert_same!(rt; ended.status, LiveStatus::Script(0), "1048577 bytes");
     let within = run_line(&rt, rt.alloc(), "S", &long[1..], outside, &NoGate)?;
-    assert_eq!(rt; within.status, LiveStatus::Script(1), "1048576 bytes");
+    assert_same!(rt; within.status, LiveStatus::Script(1), "1048576 bytes");
     let mut script = Vec::new(rt.alloc());
     for _ in 0..1025 {
         script.extend_from_slice(b"append E\n")?;
     }
     let over = run_line(&rt, rt.alloc(), "S", &script, outside, &NoGate)?;
-    assert_eq!(rt; over.status, LiveStatus::Full(1024, 0), "1025 batches");
-    assert_eq!(rt;
+    assert_same!(rt; over.status, LiveStatus::Full(1024, 0), "1025 batches");
+    assert_same!(rt;
         over.err.written(),
         "isearch_live: status 13\n".as_bytes(),
         "1025 batches"
@@ -141,7 +142,7 @@ fn each_open_read_and_write_may_fail(rt: HostRuntime) -> Result<(), Fail> {
     for (open, line) in [(1, 0), (2, 1), (3, 2), (4, 3), (5, 4)] {
         let outside = Outside { open, ..SOUND };
         let ended = run_line(&rt, rt.alloc(), "S", SCRIPT, outside, &NoGate)?;
-        assert_eq!(rt; ended.status, fault_of(line), "open {open}");
+        assert_same!(rt; ended.status, fault_of(line), "open {open}");
     }
     for (line, reads) in [
         (0, 1..4u64),
@@ -153,9 +154,9 @@ fn each_open_read_and_write_may_fail(rt: HostRuntime) -> Result<(), Fail> {
         for read in reads {
             let outside = Outside { read, ..SOUND };
             let ended = run_line(&rt, rt.alloc(), "S", SCRIPT, outside, &NoGate)?;
-            assert_eq!(rt; ended.status, fault_of(line), "read {read}");
+            assert_same!(rt; ended.status, fault_of(line), "read {read}");
             let written = if line > 3 { TEXT } else { "" };
-            assert_eq!(rt; ended.out.written(), written.as_bytes(), "read {read}");
+            assert_same!(rt; ended.out.written(), written.as_bytes(), "read {read}");
         }
     }
     for (write, count) in [(1, 0), (2, 4), (3, 8), (6, 20), (7, 22)] {
@@ -170,8 +171,8 @@ fn each_open_read_and_write_may_fail(rt: HostRuntime) -> Result<(), Fail> {
         } else {
             LiveStatus::Done
         };
-        assert_eq!(rt; ended.status, status, "write {write}");
-        assert_eq!(rt;
+        assert_same!(rt; ended.status, status, "write {write}");
+        assert_same!(rt;
             ended.out.written(),
             &TEXT.as_bytes()[..count],
             "write {write}"
@@ -183,8 +184,8 @@ fn each_open_read_and_write_may_fail(rt: HostRuntime) -> Result<(), Fail> {
         ..SOUND
     };
     let ended = run_line(&rt, rt.alloc(), "S", SCRIPT, outside, &NoGate)?;
-    assert_eq!(rt; ended.status, LiveStatus::ReadFault(1), "a failed line");
-    assert_eq!(rt;
+    assert_same!(rt; ended.status, LiveStatus::ReadFault(1), "a failed line");
+    assert_same!(rt;
         ended.err.written(),
         "isearch_live: st".as_bytes(),
         "a failed line"
@@ -196,17 +197,14 @@ fn each_open_read_and_write_may_fail(rt: HostRuntime) -> Result<(), Fail> {
 fn both_sides_of_a_group_are_inside_at_once(rt: HostRuntime) -> Result<(), Fail> {
     let gate = Meeting::new();
     let ended = run_line(&rt, rt.alloc(), "S", b"append A\nask Q 1\n", SOUND, &gate)?;
-    assert_eq!(rt; ended.status, LiveStatus::Done, "a group with its query");
-    assert_eq!(rt;
+    assert_same!(rt; ended.status, LiveStatus::Done, "a group with its query");
+    assert_same!(rt;
         gate.counts(),
         (1, 1, 0),
         "each side came once, and neither waited in vain"
     );
     let before = ended.out.written() == "query 0 count 0\n".as_bytes();
     let behind = ended.out.written() == TEXT.as_bytes();
-    assert!(rt;
-        before || behind,
-        "the query came before the append or behind it"
-    );
+    assert_same!(rt; before || behind, true, "the query came before the append or behind it");
     Ok(())
 }

@@ -3,6 +3,7 @@
 ghost use Rattle.std.specs.Prelude.{◌≡◌, ◌<◌, ◌≤◌, ◌*◌, All, IfOk, IfSome, length, vec_len};
 ghost use Rattle.live_collection.specs.Sides.{AreAllReaders, IsReaderOf, IsWriterOf, points_of};
 
+use crate::claims::assert_same;
 use crate::collection::{are_same, settings_of_four};
 use live_collection::{LiveCollection, Reader, Writer};
 use outside::NoMemory;
@@ -200,6 +201,6 @@ fn right_at_once<R: Threads + Wait + Sync>(rt: &R, alloc: Global) -> Option<bool
 #[test]
 fn counts_never_fall_and_answers_are_those_of_a_plain_list(rt: HostRuntime) -> Result<(), Fail> {
     let right = right_at_once(&rt, rt.alloc()).ok_or("no memory")?;
-    assert!(rt; right, "each was answered rightly");
+    assert_same!(rt; right, true, "each was answered rightly");
     Ok(())
 }
