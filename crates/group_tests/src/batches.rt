@@ -1,4 +1,5 @@
 //! Batches of many sizes, of queries that go by the tree and queries that are swept: each answer is that of a plain sort.
+use crate::claims::assert_same;
 use crate::kinds::{Kind, drawn_series};
 use breakpoints::Table;
 use group_answer::{Asked, answers, next_answer};
@@ -64,10 +65,7 @@ fn batches_of_each_size(rt: HostRuntime) -> Result<(), Fail> {
     for kinds in [&MIXED[..1], &MIXED[1..2], &MIXED[..]] {
         for count in [0, 1, 2, 3, 4, 5, 8, 9, 100] {
             let queries = drawn_series(alloc, &mut rng, kinds, count, 256)?;
-            assert!(rt;
-                agree(&rt, alloc, &rows, &queries, 5)?,
-                "{count} queries of {kinds:?}"
-            );
+            assert_same!(rt; agree(&rt, alloc, &rows, &queries, 5)?, true, "{count} queries of {kinds:?}");
         }
     }
     Ok(())
@@ -98,10 +96,7 @@ fn lengths_around_those_of_blocks(rt: HostRuntime) -> Result<(), Fail> {
     ] {
         let rows = drawn_series(alloc, &mut rng, &MIXED, 150, length)?;
         let queries = drawn_series(alloc, &mut rng, &MIXED, 13, length)?;
-        assert!(rt;
-            agree(&rt, alloc, &rows, &queries, k)?,
-            "the {k} nearest of {length} values"
-        );
+        assert_same!(rt; agree(&rt, alloc, &rows, &queries, k)?, true, "the {k} nearest of {length} values");
     }
     Ok(())
 }
@@ -113,7 +108,7 @@ fn collections_of_few_rows(rt: HostRuntime) -> Result<(), Fail> {
     for count in [0, 1, 4, 5, 33] {
         let rows = drawn_series(alloc, &mut rng, &MIXED[..1], count, 256)?;
         let queries = drawn_series(alloc, &mut rng, &MIXED[..1], 9, 256)?;
-        assert!(rt; agree(&rt, alloc, &rows, &queries, 5)?, "{count} rows");
+        assert_same!(rt; agree(&rt, alloc, &rows, &queries, 5)?, true, "{count} rows");
     }
     Ok(())
 }

@@ -7,4 +7,6 @@ mod batches;
 #[cfg(test)]
 mod choices;
 #[cfg(test)]
+mod claims;
+#[cfg(test)]
 mod kinds;

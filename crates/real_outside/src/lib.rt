@@ -2,6 +2,8 @@
 //! Nothing is known of what they hold; each refusal is counted, or named by its kind.
 #![tactic(auto)]
 
+#[cfg(test)]
+mod claims;
 mod counter;
 mod real_files;
 mod real_sink;

@@ -1,6 +1,7 @@
 //! Files that are there, absent or refused, and a reader that is interrupted: what is counted of each.
 
 use super::{RealFiles, read_on};
+use crate::claims::assert_same;
 use outside::{Failed, Files, OpenFault};
 use std::io::{self, ErrorKind, Read};
 use std::test::Fail;
@@ -29,29 +30,29 @@ fn opens_and_reads_and_counts_refusals(rt: HostRuntime) -> Result<(), Fail> {
     fs::write(&rt, path.as_path(), b"query 0\n".as_slice())?;
     let mut files = RealFiles::new(&rt);
     let mut buf = [0u8; 5];
-    assert_eq!(rt; files.read(&mut buf), Ok(0), "no file is open");
+    assert_same!(rt; files.read(&mut buf), Ok(0), "no file is open");
     let opened = files.open_file(path.as_str());
     fs::remove_file(&rt, path.as_path())?;
-    assert_eq!(rt; opened, Ok(()));
-    assert_eq!(rt; (files.read(&mut buf), buf), (Ok(5), *b"query"));
-    assert_eq!(rt; (files.read(&mut buf), buf), (Ok(3), *b" 0\nry"));
-    assert_eq!(rt; (files.read(&mut buf), buf), (Ok(0), *b" 0\nry"));
-    assert_eq!(rt; files.open_file(path.as_str()), Err(OpenFault::Absent));
-    assert_eq!(rt; (files.misses, files.faults), (1, 0), "an absent file");
-    assert_eq!(rt; files.open_file("a\0b"), Err(OpenFault::Failed));
-    assert_eq!(rt;
+    assert_same!(rt; opened, Ok(()));
+    assert_same!(rt; (files.read(&mut buf), buf), (Ok(5), *b"query"));
+    assert_same!(rt; (files.read(&mut buf), buf), (Ok(3), *b" 0\nry"));
+    assert_same!(rt; (files.read(&mut buf), buf), (Ok(0), *b" 0\nry"));
+    assert_same!(rt; files.open_file(path.as_str()), Err(OpenFault::Absent));
+    assert_same!(rt; (files.misses, files.faults), (1, 0), "an absent file");
+    assert_same!(rt; files.open_file("a\0b"), Err(OpenFault::Failed));
+    assert_same!(rt;
         (files.misses, files.faults),
         (1, 1),
         "a name that the system refuses"
     );
-    assert_eq!(rt; files.open_file("/"), Ok(()));
-    assert_eq!(rt; files.read(&mut buf), Err(Failed), "a directory");
-    assert_eq!(rt; (files.misses, files.faults), (1, 2), "a directory");
-    assert_eq!(rt; files.read(&mut buf), Ok(0), "after a refusal");
+    assert_same!(rt; files.open_file("/"), Ok(()));
+    assert_same!(rt; files.read(&mut buf), Err(Failed), "a directory");
+    assert_same!(rt; (files.misses, files.faults), (1, 2), "a directory");
+    assert_same!(rt; files.read(&mut buf), Ok(0), "after a refusal");
 
     let mut faults = 0;
     let mut reader = Interrupted { is_next: true };
-    assert_eq!(rt; read_on(&mut reader, &mut buf, &mut faults), Ok(5));
-    assert_eq!(rt; faults, 1, "an interruption");
+    assert_same!(rt; read_on(&mut reader, &mut buf, &mut faults), Ok(5));
+    assert_same!(rt; faults, 1, "an interruption");
     Ok(())
 }
