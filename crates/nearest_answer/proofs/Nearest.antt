@@ -1,17 +1,14 @@
--- When a list is the answer: where each leaf was scanned (`next_scanned`), was passed over (`next_passed`, `beyond_met`) or is too
--- far, it is (`answer_met`), and so it is where all series were scanned (`answer_scanned`).
-use Rattle.std.proofs.Common.{◌≡◌, ℕ, ◌<◌, ◌≤◌, List, [], ◌∷◌, ◌++◌, length, take, sym, ap, subst, ◌∙◌, ⊎_elim, ◌⊎◌, inl, inr, arith}
-use Rattle.std.specs.List.{All}
-use Rattle.std.proofs.lemmas.Bool.{cases_lt}
+-- When a list is the answer: where each leaf was scanned (`next_scanned`), was passed over (`next_passed`) or is too far,
+-- it is (`answer_met`), and so it is where all series were scanned (`answer_scanned`).
+use Rattle.std.proofs.Common.{◌≡◌, ℕ, ◌<◌, ◌≤◌, List, [], ◌∷◌, ◌++◌, length, take, sym, ap, subst, ◌∙◌, ⊎_elim, ◌⊎◌, inl, arith}
 use Rattle.std.proofs.lemmas.List.{length-take, take_all}
 use Rattle.list_totals.specs.Standing.{In}
 use Rattle.list_totals.specs.Totals.{once_below, times}
-use Rattle.list_totals.proofs.Totals.{once_below_low, once_below_most, once_below_yes, times_append, times_push}
+use Rattle.list_totals.proofs.Totals.{once_below_low, once_below_most, once_below_yes, times_push}
 use Rattle.series_core.proofs.Parts.{has_take}
 use Rattle.series_core.specs.Order.{Among, Ascending}
 use Rattle.series_core.specs.Pairs.{ascending, smallest}
 use Rattle.series_core.specs.declared.pair.Pair.{Pair}
-use Rattle.series_core.specs.declared.queue_words.Entry.{Entry}
 use Rattle.search_machine.specs.Ground.{Fits, Ground, answer, last, near, pair_of, plain, scan, worst}
 use Rattle.search_machine.specs.Sound.{ListSound}
 use Rattle.search_machine.proofs.Counts.{times_cons}
@@ -19,8 +16,7 @@ use Rattle.search_machine.proofs.PlainList.{answer_near, last_worst, plain_has}
 use Rattle.search_machine.proofs.Pools.{Pool, ascending_still, best_all, has_either}
 use Rattle.search_machine.proofs.Scans.{Fresh, has_near, list_scanned, scan_pool}
 use Rattle.search_task.specs.LeafBounds.{IsBelowLeaf}
-use Rattle.nearest_answer.specs.NearLeaves.{IsFar, IsLeafEntry, leaves_in, within_bound}
-use Rattle.nearest_answer.proofs.LeavesNear.{within_or_far, within_times}
+use Rattle.nearest_answer.specs.NearLeaves.{IsFar}
 
 -- what is known of a list does not depend on the order in which leaves were met
 pub same_leaves : (g : Ground) (a b : List ℕ) (ps : List Pair) → ((l : ℕ) → times l a ≡ times l b)
@@ -98,41 +94,6 @@ module _ (g : Ground) (fits : Fits g) where
           let nearest = is.2 in
           let most = low p.number member in
           omega arith
-
-  -- leaves whose bounds are above a limit that is no less than the last distance are as good as met
-  pub beyond_met : (met : List ℕ) (es : List Entry) (v : ℕ) (ps : List Pair) → last g ≤ v → All (IsLeafEntry g) es
-      → ListSound g (met ++ leaves_in (within_bound v es)) ps → ListSound g (met ++ leaves_in es) ps
-  beyond_met met es v ps enough entries sound = record {
-    ascending = sound.ascending;
-    known = sound.known;
-    from = λ p h.
-        let f = sound.from p h in
-        let some = f.1 in
-        let few = times_append f.0 met (leaves_in (within_bound v es)) in
-        let all = times_append f.0 met (leaves_in es) in
-        let more = within_times v f.0 es in
-        (f.0, omega arith, f.2);
-    full = λ t p l a there member. ⊎_elim
-        (λ (k : 0 < times l (met ++ leaves_in (within_bound v es))). sound.full t p l a k member)
-        (λ (far : IsFar g v l).
-        let nearest = (answer_is_near p a).2 in
-        let above = far p.number member in
-        absurd (omega arith))
-        (met_or_far l there);
-  }
-    where
-      met_or_far : (l : ℕ) → 0 < times l (met ++ leaves_in es)
-          → (0 < times l (met ++ leaves_in (within_bound v es))) ⊎ IsFar g v l
-      met_or_far l there =
-          let few = times_append l met (leaves_in (within_bound v es)) in
-          let all = times_append l met (leaves_in es) in
-          ⊎_elim
-          (λ (k : 0 < times l met). inl (omega arith))
-          (λ (none : times l met ≤ 0). ⊎_elim
-          (λ (k : 0 < times l (leaves_in (within_bound v es))). inl (omega arith))
-          (λ (far : IsFar g v l). inr far)
-          (within_or_far g v l es entries (omega arith)))
-          (cases_lt 0 (times l met))
 
   -- where each leaf was met or is too far, the list is the answer
   pub answer_met : (met : List ℕ) (v : ℕ) (ps : List Pair) → length ps ≤ g.k → last g ≤ v

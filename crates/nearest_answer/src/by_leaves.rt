@@ -19,7 +19,7 @@ use crate::tuning::{
 };
 use outside::NoMemory;
 use search_task::{Search, distance_of_worst};
-use series_core::{Entry, KBest, Rows};
+use series_core::{Entry, KBest, NONE, Rows};
 use std::alloc::Global;
 
 /// In which order leaves are scanned.
@@ -85,12 +85,23 @@ pub(crate) fn begin_by_leaves<R: Rows>(
     )
 }
 
-/// Before any leaf is met: those that may have a member within the limit are left.
-pub(crate) fn all_near<R: Rows>(
+/// The leaves that are left within a first limit: all of them, or where there is no such limit, those that the closest leave.
+pub(crate) fn left_by_first<R: Rows>(
     alloc: Global,
     search: &Search<'_, R>,
-    limit: u64,
+    first: u64,
 ) -> Result<Begun, NoMemory>
+    requires limit { last_of search.now.question ≤ first }
+    ensures { IfOk result (λ b. IsBegun search.now b) }
+{
+    if first < NONE {
+        return all_near(alloc, search, first);
+    }
+    begin_by_leaves(alloc, search, first)
+}
+
+// Before any leaf is met: those that may have a member within the limit are left.
+fn all_near<R: Rows>(alloc: Global, search: &Search<'_, R>, limit: u64) -> Result<Begun, NoMemory>
     requires limit { last_of search.now.question ≤ limit }
     ensures { IfOk result (λ b. IsBegun search.now b) }
 {

@@ -59,7 +59,7 @@ fn found_together<T: Threads + Sync, R: Rows + Sync, G: Gate + Sync>(
     ensures met { IfOk result (λ best. ListSound (ground_of search.now) (leaves_in entries.now) best.pairs) }
 {
     let count = stretches_of(entries)?;
-    let workers = crew.workers.min(count.max(1));
+    let workers = crew.workers;
     let (best, words) = BestWord::begin(crew.alloc, search.task(), limit, workers)?;
     let (claims, passes) = Claims::begin(crew.alloc, u64::from(count), workers)?;
     let k = search.k();

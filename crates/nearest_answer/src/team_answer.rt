@@ -9,7 +9,7 @@ ghost use Rattle.nearest_answer.specs.Begun.{IsBegun};
 use crate::all_rows::answer_by_rows;
 use crate::answer::one_worker_answer;
 use crate::begun::Begun;
-use crate::by_leaves::{all_near, begin_by_leaves, finish_in_order, narrowed, split_closest};
+use crate::by_leaves::{begin_by_leaves, finish_in_order, left_by_first, narrowed, split_closest};
 use crate::crew::Crew;
 use crate::first_limit::first_limit;
 use crate::listed::scan_together;
@@ -89,8 +89,8 @@ pub fn answer_by_stretches<T: Threads + Sync, R: Rows + Sync, G: Gate + Sync>(
     let first = first_limit(alloc, &search, FIRST_MEMBERS)?;
     let list = match by {
         ApartBy::Means => {
-            let near = all_near(alloc, &search, first)?;
-            finish_at_once(&crew, &search, near)?
+            let left = left_by_first(alloc, &search, first)?;
+            finish_at_once(&crew, &search, left)?
         }
         ApartBy::Codes | ApartBy::Nothing => side_by_side(&crew, &search, by, first)?,
     };

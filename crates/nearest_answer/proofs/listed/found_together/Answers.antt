@@ -19,7 +19,7 @@ draw_together-requires-clause-fresh g c κs within =
     let asked = c.task.result.now in
     let words : All (λ (w : Word). w ≡ fresh_word best (last_of asked)) c.in_ok-best.words.items
     = subst (λ (ws : List Word). All (λ (w : Word). w ≡ fresh_word best (last_of asked)) ws) (sym c.in_ok-best.ensures.passes)
-    (All-replicate (λ (w : Word). w ≡ fresh_word best (last_of asked)) c.min-workers.result (fresh_word best (last_of asked)) refl) in
+    (All-replicate (λ (w : Word). w ≡ fresh_word best (last_of asked)) c.args.crew.now.workers (fresh_word best (last_of asked)) refl) in
     let team = c.in_ok-team.team.items in
     subst (λ (a : Question). All (IsFresh c.in_ok-claims.claims best (last_of a) c.args.search.now.question.k) team) c.task.ensures.task
     (subst (λ (k : ℕ). All (IsFresh c.in_ok-claims.claims best (last_of asked) k) team) c.k-k.ensures.k
@@ -45,9 +45,7 @@ returns g c =
       c.in_ok-team.ensures.len,
       passes.ok.0,
       ap length c.in_ok-claims.ensures.passes,
-      length-replicate c.min-workers.result (fresh_pass c.in_ok-claims.claims),
-      c.min-workers.ensures,
-      c.max.ensures,
+      length-replicate c.args.crew.now.workers (fresh_pass c.in_ok-claims.claims),
       c.requires.workers.0,
     ) in
     record {
