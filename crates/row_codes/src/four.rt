@@ -39,9 +39,8 @@ pub fn four_within(
     four_within_all(a, b, c, d, codes, limits)
 }
 
-/// The same for a row of one block: nothing of a query is carried on, so the four tests need no branch. It stays a call, as that of one
-/// query does.
-#[inline(never)]
+/// The same for a row of one block: nothing of a query is carried on, so the four tests need no branch.
+#[inline(always)]
 fn four_within_only(
     a: &CodeView,
     b: &CodeView,
