@@ -1,10 +1,13 @@
 //! Calls as C makes them: worked rows against the nearest that a hand finds, shares, texts, each refusal in its order, and what is freed.
+mod claims;
+
 use crate::building::{isearch_build, isearch_free, isearch_share};
 use crate::searching::{isearch_nearest, isearch_within};
 use crate::settings::IsearchSettings;
 use crate::slot::IsearchIndex;
 use crate::texts::{isearch_load, isearch_save};
 use crate::windows::isearch_windows;
+use claims::assert_same;
 use std::alloc::Global;
 use std::test::*;
 
@@ -46,7 +49,7 @@ fn nearest(
 fn the_nearest_of_two_queries(rt: HostRuntime) -> Result<(), Fail> {
     let alloc = rt.alloc();
     let mut index = IsearchIndex::empty(alloc);
-    assert_eq!(rt;
+    assert_same!(rt;
         isearch_build(&mut index, &ROWS, &SETTINGS, alloc),
         0,
         "build"
@@ -65,10 +68,10 @@ fn the_nearest_of_two_queries(rt: HostRuntime) -> Result<(), Fail> {
         1444,
         NO_DISTANCE,
     ];
-    assert_eq!(rt; status, 0, "nearest");
-    assert_eq!(rt; distances.as_slice(), want.as_slice(), "distances");
+    assert_same!(rt; status, 0, "nearest");
+    assert_same!(rt; distances.as_slice(), want.as_slice(), "distances");
     let want = [0, 3, 1, 2, NO_NUMBER, 1, 3, 0, 2, NO_NUMBER];
-    assert_eq!(rt; numbers.as_slice(), want.as_slice(), "numbers");
+    assert_same!(rt; numbers.as_slice(), want.as_slice(), "numbers");
     isearch_free(&mut index, alloc);
     Ok(())
 }
@@ -78,33 +81,33 @@ fn a_share_outlives_the_first_handle(rt: HostRuntime) -> Result<(), Fail> {
     let alloc = rt.alloc();
     let mut index = IsearchIndex::empty(alloc);
     let mut other = IsearchIndex::empty(alloc);
-    assert_eq!(rt;
+    assert_same!(rt;
         isearch_share(&mut index, &mut other, alloc),
         1,
         "none to share"
     );
-    assert_eq!(rt;
+    assert_same!(rt;
         isearch_build(&mut index, &ROWS, &SETTINGS, alloc),
         0,
         "build"
     );
-    assert_eq!(rt;
+    assert_same!(rt;
         isearch_build(&mut index, &ROWS, &SETTINGS, alloc),
         2,
         "build twice"
     );
-    assert_eq!(rt; isearch_share(&mut index, &mut other, alloc), 0, "share");
-    assert_eq!(rt;
+    assert_same!(rt; isearch_share(&mut index, &mut other, alloc), 0, "share");
+    assert_same!(rt;
         isearch_share(&mut index, &mut other, alloc),
         2,
         "share twice"
     );
     isearch_free(&mut index, alloc);
     let (status, _, _) = nearest(alloc, &mut index, &[1; 4], 1, 1)?;
-    assert_eq!(rt; status, 1, "freed");
+    assert_same!(rt; status, 1, "freed");
     let (status, distances, numbers) = nearest(alloc, &mut other, &[1; 4], 1, 1)?;
-    assert_eq!(rt; status, 0, "by the share");
-    assert_eq!(rt;
+    assert_same!(rt; status, 0, "by the share");
+    assert_same!(rt;
         (distances.as_slice(), numbers.as_slice()),
         (&[4u64][..], &[0u32][..]),
         "by the share"
@@ -117,7 +120,7 @@ fn a_share_outlives_the_first_handle(rt: HostRuntime) -> Result<(), Fail> {
 fn each_refusal_of_a_search(rt: HostRuntime) -> Result<(), Fail> {
     let alloc = rt.alloc();
     let mut index = IsearchIndex::empty(alloc);
-    assert_eq!(rt;
+    assert_same!(rt;
         isearch_build(&mut index, &ROWS, &SETTINGS, alloc),
         0,
         "build"
@@ -133,15 +136,9 @@ fn each_refusal_of_a_search(rt: HostRuntime) -> Result<(), Fail> {
     ];
     for (name, queries, k, places, want) in cases {
         let (status, distances, numbers) = nearest(alloc, &mut index, queries, k, places)?;
-        assert_eq!(rt; status, want, "{name}");
-        assert!(rt;
-            distances.iter().all(|d| *d == 7),
-            "{name}: distances are as they were"
-        );
-        assert!(rt;
-            numbers.iter().all(|n| *n == 7),
-            "{name}: numbers are as they were"
-        );
+        assert_same!(rt; status, want, "{name}");
+        assert_same!(rt; distances.iter().all(|d| *d == 7), true, "{name}: distances are as they were");
+        assert_same!(rt; numbers.iter().all(|n| *n == 7), true, "{name}: numbers are as they were");
     }
     isearch_free(&mut index, alloc);
     Ok(())
@@ -170,8 +167,8 @@ fn each_refusal_of_rows(rt: HostRuntime) -> Result<(), Fail> {
             bent: false,
         };
         let status = isearch_build(&mut index, rows, &settings, alloc);
-        assert_eq!(rt; status, want, "{name}");
-        assert!(rt; !index.is_full(), "{name}: the handle has none");
+        assert_same!(rt; status, want, "{name}");
+        assert_same!(rt; index.is_full(), false, "{name}: the handle has none");
     }
     Ok(())
 }
@@ -180,7 +177,7 @@ fn each_refusal_of_rows(rt: HostRuntime) -> Result<(), Fail> {
 fn rows_within_a_radius(rt: HostRuntime) -> Result<(), Fail> {
     let alloc = rt.alloc();
     let mut index = IsearchIndex::empty(alloc);
-    assert_eq!(rt;
+    assert_same!(rt;
         isearch_build(&mut index, &ROWS, &SETTINGS, alloc),
         0,
         "build"
@@ -207,8 +204,8 @@ fn rows_within_a_radius(rt: HostRuntime) -> Result<(), Fail> {
             &mut numbers[..places],
             &mut found,
         );
-        assert_eq!(rt; (status, found), (want, count), "within {radius}");
-        assert_eq!(rt; (distances, numbers), (near, rows), "within {radius}");
+        assert_same!(rt; (status, found), (want, count), "within {radius}");
+        assert_same!(rt; (distances, numbers), (near, rows), "within {radius}");
     }
     isearch_free(&mut index, alloc);
     Ok(())
@@ -229,9 +226,9 @@ fn windows_that_lie_apart(rt: HostRuntime) -> Result<(), Fail> {
         &mut distances,
         &mut numbers,
     );
-    assert_eq!(rt; status, 0, "windows");
-    assert_eq!(rt; distances, [4, 244, NO_DISTANCE], "distances");
-    assert_eq!(rt; numbers, [0, 3, NO_NUMBER], "numbers");
+    assert_same!(rt; status, 0, "windows");
+    assert_same!(rt; distances, [4, 244, NO_DISTANCE], "distances");
+    assert_same!(rt; numbers, [0, 3, NO_NUMBER], "numbers");
     Ok(())
 }
 
@@ -262,21 +259,21 @@ fn a_text_is_loaded_and_saved_again(rt: HostRuntime) -> Result<(), Fail> {
     let alloc = rt.alloc();
     let (mut built, first) = saved(alloc)?;
     let head = [73u8, 83, 69, 88, 1, 0, 4, 1];
-    assert!(rt; first.starts_with(&head), "head");
-    assert_eq!(rt; text(alloc, &mut built, 23)?.0, 7, "few places");
+    assert_same!(rt; first.starts_with(&head), true, "head");
+    assert_same!(rt; text(alloc, &mut built, 23)?.0, 7, "few places");
     isearch_free(&mut built, alloc);
-    assert_eq!(rt; text(alloc, &mut built, 9)?.0, 1, "no index");
+    assert_same!(rt; text(alloc, &mut built, 9)?.0, 1, "no index");
     let mut index = IsearchIndex::empty(alloc);
     let status = isearch_load(&mut index, &ROWS, 4, &first, alloc);
-    assert_eq!(rt; status, 0, "load");
+    assert_same!(rt; status, 0, "load");
     let status = isearch_load(&mut index, &ROWS, 4, &first, alloc);
-    assert_eq!(rt; status, 2, "load twice");
+    assert_same!(rt; status, 2, "load twice");
     let (status, distances, numbers) = nearest(alloc, &mut index, &[9; 4], 2, 2)?;
-    assert_eq!(rt; status, 0, "nearest");
-    assert_eq!(rt; distances.as_slice(), &[4u64, 164][..], "distances");
-    assert_eq!(rt; numbers.as_slice(), &[1u32, 3][..], "numbers");
+    assert_same!(rt; status, 0, "nearest");
+    assert_same!(rt; distances.as_slice(), &[4u64, 164][..], "distances");
+    assert_same!(rt; numbers.as_slice(), &[1u32, 3][..], "numbers");
     let (status, again) = text(alloc, &mut index, 200)?;
-    assert_eq!(rt;
+    assert_same!(rt;
         (status, again.as_slice()),
         (0, first.as_slice()),
         "saved again"
@@ -305,8 +302,8 @@ fn each_refusal_of_a_text(rt: HostRuntime) -> Result<(), Fail> {
     ];
     for (name, rows, points, text, want) in cases {
         let status = isearch_load(&mut index, rows, points, text, alloc);
-        assert_eq!(rt; status, want, "{name}");
-        assert!(rt; !index.is_full(), "{name}: the handle has none");
+        assert_same!(rt; status, want, "{name}");
+        assert_same!(rt; index.is_full(), false, "{name}: the handle has none");
     }
     Ok(())
 }

@@ -6,6 +6,7 @@ mod printed;
 ghost use Rattle.std.specs.Prelude.{◌≡◌, IsTrue, IfSome, length};
 ghost use Rattle.std.specs.Option.{option_copied};
 
+use crate::claims::assert_same;
 use breakpoints::Table;
 use certificate::{CertError, Reject, check, read};
 use isax_word::Layout;
@@ -155,7 +156,7 @@ fn texts_over_four_series(rt: HostRuntime) -> Result<(), Fail> {
     let (rows, queries) = four_series(&rt, rt.alloc())?;
     for (k, text, wanted) in TEXTS {
         let now = found(&rt, rt.alloc(), &rows, &queries, None, k, text.as_bytes());
-        assert_eq!(rt; now, wanted, "k = {k}, {text}");
+        assert_same!(rt; now, wanted, "k = {k}, {text}");
     }
     Ok(())
 }
@@ -164,8 +165,8 @@ fn texts_over_four_series(rt: HostRuntime) -> Result<(), Fail> {
 fn four_series(rt: &impl Abort, alloc: Global) -> Result<(Flat, Flat), Fail> {
     let values = SERIES.to_vec(alloc)?;
     let query = QUERY.to_vec(alloc)?;
-    assert_eq!(rt; values.len(), 16);
-    assert_eq!(rt; query.len(), 4);
+    assert!(rt; values.len() == 16, "sixteen values");
+    assert!(rt; query.len() == 4, "four values");
     Ok((Flat::from_values(4, values), Flat::from_values(4, query)))
 }
 
@@ -201,7 +202,7 @@ fn texts_with_labels(rt: HostRuntime) -> Result<(), Fail> {
             2,
             text.as_bytes(),
         );
-        assert_eq!(rt; now, wanted, "{text}");
+        assert_same!(rt; now, wanted, "{text}");
     }
     Ok(())
 }
@@ -238,7 +239,7 @@ fn texts_of_other_series(rt: HostRuntime) -> Result<(), Fail> {
         ),
     ] {
         let now = found(&rt, alloc, rows, queries, None, k, text.as_bytes());
-        assert_eq!(rt; now, Finding::Valid, "{text}");
+        assert_same!(rt; now, Finding::Valid, "{text}");
     }
     Ok(())
 }
@@ -283,7 +284,7 @@ fn each_line_changed(rt: HostRuntime) -> Result<(), Fail> {
         for (i, letter) in wanted.as_bytes().iter().enumerate() {
             let text = changed(rt.alloc(), change, i)?;
             let now = found(&rt, rt.alloc(), &rows, &queries, None, 1, &text);
-            assert_eq!(rt; letter_of(now), *letter, "line {i} {change}: {now:?}");
+            assert_same!(rt; letter_of(now), *letter, "line {i} {change}: {now:?}");
         }
     }
     Ok(())
@@ -328,14 +329,14 @@ const BYTES: [(u8, &str); 4] = [
 fn each_byte_changed(rt: HostRuntime) -> Result<(), Fail> {
     let (rows, queries) = four_series(&rt, rt.alloc())?;
     for (byte, wanted) in BYTES {
-        assert_eq!(rt; wanted.len(), NEAREST.len());
+        assert_same!(rt; wanted.len(), NEAREST.len());
         for (i, letter) in wanted.as_bytes().iter().enumerate() {
             let mut text = Vec::from_slice(rt.alloc(), NEAREST.as_bytes())?;
             if let Some(place) = text.get_mut(i) {
                 *place = byte;
             }
             let now = found(&rt, rt.alloc(), &rows, &queries, None, 1, &text);
-            assert_eq!(rt;
+            assert_same!(rt;
                 letter_of(now),
                 *letter,
                 "byte {i} changed to {byte}: {now:?}"
@@ -364,9 +365,9 @@ fn refusals_are_told(rt: HostRuntime) -> Result<(), Fail> {
     ];
     for (reject, text) in told {
         let line = format!(in rt.alloc(); "{reject}")?;
-        assert_eq!(rt; line.as_str(), text);
+        assert_same!(rt; line.as_str(), text);
     }
     let line = format!(in rt.alloc(); "{}", CertError::Line(7))?;
-    assert_eq!(rt; line.as_str(), "line 7");
+    assert_same!(rt; line.as_str(), "line 7");
     Ok(())
 }

@@ -7,6 +7,8 @@ mod answers;
 #[cfg(test)]
 mod certificates;
 #[cfg(test)]
+mod claims;
+#[cfg(test)]
 mod discords;
 #[cfg(test)]
 mod radius;

@@ -1,3 +1,3 @@
 //! Searches by workers in one thread: as worked by hand, and random small ones against a plain sort.
-mod drawn;
+pub(crate) mod drawn;
 mod worked;

@@ -1,6 +1,7 @@
 //! Batches of many sizes over series of which means tell some apart and codes alone the others: the text is that of a plain sort, however
 //! many workers there are. And how far ahead of the first text the workers draw.
 
+use crate::claims::assert_same;
 use crate::tests::drawn_files::{plain_text, raw};
 use crate::tests::fixture::{Outside, words_of};
 use outside::{Gate, NoGate, NoMemory};
@@ -51,8 +52,8 @@ fn compare<H: Threads + Wait + Abort + Sync>(
     let line = format!(in alloc; "nearest mixed asked --raw 256 --k 3 --workers {workers}")?;
     let words = words_of(alloc, &line)?;
     let status = run(rt, alloc, &words, &mut files, &mut out, &mut err, &NoGate);
-    assert_eq!(rt; status, Status::Done, "{line}");
-    assert_eq!(rt; out.written(), text, "{line}");
+    assert_same!(rt; status, Status::Done, "{line}");
+    assert_same!(rt; out.written(), text, "{line}");
     Ok(())
 }
 
@@ -141,9 +142,9 @@ fn few_queries_are_ahead_of_the_text(rt: HostRuntime) -> Result<(), Fail> {
     let (_, to_build) = passes(&rt, alloc, (&held, &[]), 0)?;
     for (write, drawn) in AHEAD {
         let (status, came) = passes(&rt, alloc, (&held, &asked), write)?;
-        assert_eq!(rt; status, Status::WriteFault, "write {write}");
+        assert_same!(rt; status, Status::WriteFault, "write {write}");
         let to_draw = came.wrapping_sub(to_build);
-        assert_eq!(rt; to_draw, drawn, "before write {write}");
+        assert_same!(rt; to_draw, drawn, "before write {write}");
     }
     Ok(())
 }

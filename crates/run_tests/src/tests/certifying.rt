@@ -3,6 +3,7 @@
 
 ghost use Rattle.std.specs.Prelude.{◌≤◌, IfSome, length};
 
+use crate::claims::assert_same;
 use crate::tests::fixture::words_of;
 use certificate::Reject;
 use outside::{MemFiles, MemSink, NoGate};
@@ -176,17 +177,17 @@ fn drawn_certificates(rt: HostRuntime) -> Result<(), Fail> {
             "nearest data asked --certificate {checked} --leaf {leaf} --queues {queues} --workers {workers}"
         )?;
         let (status, out) = ended(&rt, alloc, &mut files, &line)?;
-        assert_eq!(rt; status, Status::Done, "{line}");
+        assert_same!(rt; status, Status::Done, "{line}");
         files.hold("C", out.written())?;
         let check = format!(in alloc; "verify data asked C {checked}")?;
         let (status, said) = ended(&rt, alloc, &mut files, &check)?;
-        assert_eq!(rt; status, Status::Done, "{line}");
-        assert_eq!(rt; said.written(), b"valid\n".as_slice(), "{line}");
+        assert_same!(rt; status, Status::Done, "{line}");
+        assert_same!(rt; said.written(), b"valid\n".as_slice(), "{line}");
         for change in [Change::Bound, Change::Answer, Change::Leaves] {
             if let Some(text) = changed(alloc, change, out.written())? {
                 files.hold("C", &text)?;
                 let (status, _said) = ended(&rt, alloc, &mut files, &check)?;
-                assert!(rt; is_told(change, status), "{line}: {change:?}: {status:?}");
+                assert_same!(rt; is_told(change, status), true, "{line}: {change:?}: {status:?}");
                 // Which leaves have a bound depends on how the workers ran.
                 if !matches!(&change, Change::Bound) {
                     changes = changes.wrapping_add(1);
@@ -194,7 +195,7 @@ fn drawn_certificates(rt: HostRuntime) -> Result<(), Fail> {
             }
         }
     }
-    assert_eq!(rt; changes, 21, "answers and leaf lines were changed");
+    assert_same!(rt; changes, 21, "answers and leaf lines were changed");
     Ok(())
 }
 
@@ -206,15 +207,15 @@ fn answers_are_the_same_for_all_workers_and_queues(rt: HostRuntime) -> Result<()
         let words = "nearest data asked --k 5 --leaf 2 --breaks bent";
         let alone = format!(in alloc; "{words} --workers 1 --queues 1")?;
         let (status, wanted) = ended(&rt, alloc, &mut files, &alone)?;
-        assert_eq!(rt; status, Status::Done, "{alone}");
+        assert_same!(rt; status, Status::Done, "{alone}");
         for workers in [1, 2, 3, 8, 64] {
             for (queues, form) in [(1, ""), (2, " --sealed"), (5, ""), (64, " --sealed")] {
                 let line = format!(in alloc;
                     "{words} --workers {workers} --queues {queues}{form}"
                 )?;
                 let (status, out) = ended(&rt, alloc, &mut files, &line)?;
-                assert_eq!(rt; status, Status::Done, "{line}: {queries} queries");
-                assert_eq!(rt;
+                assert_same!(rt; status, Status::Done, "{line}: {queries} queries");
+                assert_same!(rt;
                     out.written(),
                     wanted.written(),
                     "{line}: {queries} queries"

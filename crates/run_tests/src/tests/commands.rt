@@ -1,5 +1,6 @@
 //! A command that runs without its words.
 
+use crate::claims::assert_same;
 use crate::tests::fixture::{Outside, files_of, words_of};
 use outside::{MemSink, NoGate};
 use search_run::{Command, Status, parse_words, run_free};
@@ -14,17 +15,14 @@ fn a_command_runs_without_its_words(rt: HostRuntime) -> Result<(), Fail> {
     let mut err = MemSink::new(alloc, 2000, 16, Vec::new(alloc))?;
     let words = words_of(alloc, line)?;
     let command = parse_words(alloc, &words);
-    assert!(rt;
-        matches!(&command, Ok(Command::Range { .. })),
-        "the words are a range"
-    );
+    assert_same!(rt; matches!(&command, Ok(Command::Range { .. })), true, "the words are a range");
     if let Ok(command) = &command
         && let Command::Range { .. } = command
     {
         let ended = run_free(&rt, alloc, command, &mut files, &mut out, &mut err, &NoGate);
-        assert_eq!(rt; ended, Status::Done);
+        assert_same!(rt; ended, Status::Done);
     }
-    assert_eq!(rt; out.written(), b"query 0\n1 0 4\n2 3 164\n".as_slice());
+    assert_same!(rt; out.written(), b"query 0\n1 0 4\n2 3 164\n".as_slice());
     assert!(rt; err.written().is_empty());
     Ok(())
 }

@@ -1,6 +1,7 @@
 //! Runs whose outside fails at one place: each open, each read and each write in turn, until none is left. What was written
 //! before is a beginning of the right text.
 
+use crate::claims::assert_same;
 use crate::tests::fixture::{Outside, ends_with, run_line};
 use outside::NoGate;
 use run_fixture::Ended;
@@ -146,12 +147,12 @@ impl<H: Threads + Wait + Abort + Sync> Turns<'_, H> {
             assert!(self.rt; last <= place, "{line}, {outside:?}");
             last = place;
             let written = text_at(ended.status, self.text);
-            assert_eq!(self.rt; ended.out.written(), written, "{line}, {outside:?}");
+            assert_same!(self.rt; ended.out.written(), written, "{line}, {outside:?}");
             if place == Some(4) {
                 break;
             }
         }
-        assert_eq!(self.rt; last, Some(4), "{line}: no read of {} is left", self.piece);
+        assert_same!(self.rt; last, Some(4), "{line}: no read of {} is left", self.piece);
         Ok(())
     }
 
@@ -253,7 +254,7 @@ fn a_line_that_is_not_told_changes_no_status(rt: HostRuntime) -> Result<(), Fail
         };
         let wanted = (status, [].as_slice());
         let ended = ends_over(&rt, rt.alloc(), line, outside, wanted)?;
-        assert!(rt; ended.err.written().is_empty(), "{line}");
+        assert_same!(rt; ended.err.written().is_empty(), true, "{line}");
     }
     Ok(())
 }

@@ -1,5 +1,6 @@
 //! What all tables share: the files that they name, and runs over them.
 
+use crate::claims::assert_same;
 use outside::{Gate, MemFiles, NoGate, NoMemory};
 use random_walks::{generator, walks};
 use run_fixture::{Ended, VALUES, spelled};
@@ -177,8 +178,8 @@ pub fn ends_with<H: Threads + Wait + Abort + Sync>(
 ) -> Result<Ended<Status>, Fail> {
     let (status, text) = wanted;
     let ended = run_line(rt, alloc, line, file, outside, &NoGate)?;
-    assert_eq!(rt; ended.status, status, "{line}, {outside:?}");
-    assert_eq!(rt; ended.out.written(), text, "{line}, {outside:?}");
+    assert_same!(rt; ended.status, status, "{line}, {outside:?}");
+    assert_same!(rt; ended.out.written(), text, "{line}, {outside:?}");
     Ok(ended)
 }
 
@@ -194,7 +195,7 @@ pub fn tells<H: Threads + Wait + Abort + Sync>(
     let (status, text, told) = wanted;
     let wanted = (status, text.as_bytes());
     let ended = ends_with(rt, alloc, line, file, Outside::sound(piece), wanted)?;
-    assert_eq!(rt;
+    assert_same!(rt;
         ended.err.written(),
         told.as_bytes(),
         "{line}, pieces of {piece}"

@@ -1,5 +1,6 @@
 //! The tree of a collection, saved as bytes, and searches over a saved index: what they write, and each fault that is reported.
 
+use crate::claims::assert_same;
 use crate::tests::fixture::{INDEX, Outside, ends_with, run_line, tells};
 use outside::{NoGate, NoMemory};
 use saved_index::IndexFault;
@@ -190,7 +191,7 @@ fn searches_over_a_saved_index(rt: HostRuntime) -> Result<(), Fail> {
         }
     }
     let fault = Status::Index(IndexFault::NotIndex);
-    assert_eq!(rt; fault.code(), 11, "the number of a fault of an index");
+    assert_same!(rt; fault.code(), 11, "the number of a fault of an index");
     Ok(())
 }
 
@@ -206,16 +207,16 @@ fn a_tree_that_is_saved_and_loaded_answers_as_one_that_is_built(
     ] {
         let line = format!(in rt.alloc(); "save drawn {settings}")?;
         let saved = run_line(&rt, rt.alloc(), &line, b"", sound, &NoGate)?;
-        assert_eq!(rt; saved.status, Status::Done, "{line}");
+        assert_same!(rt; saved.status, Status::Done, "{line}");
         for search in ["", " --sealed", " --workers 1"] {
             let line = format!(in rt.alloc(); "nearest drawn asked --k 5{search} {settings}")?;
             let built = run_line(&rt, rt.alloc(), &line, b"", sound, &NoGate)?;
             let line = format!(in rt.alloc(); "nearest drawn asked --k 5{search} --index C")?;
             let loaded = run_line(&rt, rt.alloc(), &line, saved.out.written(), sound, &NoGate)?;
-            assert_eq!(rt; built.status, Status::Done, "{line}, {settings}");
-            assert_eq!(rt; loaded.status, Status::Done, "{line}, {settings}");
-            assert!(rt; !built.out.written().is_empty(), "{line}, {settings}");
-            assert_eq!(rt;
+            assert_same!(rt; built.status, Status::Done, "{line}, {settings}");
+            assert_same!(rt; loaded.status, Status::Done, "{line}, {settings}");
+            assert_same!(rt; built.out.written().is_empty(), false, "{line}, {settings}");
+            assert_same!(rt;
                 loaded.out.written(),
                 built.out.written(),
                 "{line}, {settings}"

@@ -1,4 +1,5 @@
 //! Whole command lines, as they come to the program: what one holds, and which are refused.
+use crate::claims::assert_same;
 use breakpoints::Table;
 use command_words::{Command, WordsError, parse_words};
 use std::alloc::{AllocError, Global};
@@ -24,17 +25,17 @@ fn holds_what_a_line_says(rt: HostRuntime) -> Result<(), Fail> {
         options,
     } = &command
     else {
-        return Ok(assert!(rt; false, "nearest is read as another command"));
+        return Ok(assert_same!(rt; false, true, "nearest is read as another command"));
     };
-    assert_eq!(rt; series.text.as_str(), "A", "the first name");
-    assert_eq!(rt; queries.text.as_str(), "Q", "the second name");
-    assert_eq!(rt;
+    assert_same!(rt; series.text.as_str(), "A", "the first name");
+    assert_same!(rt; queries.text.as_str(), "Q", "the second name");
+    assert_same!(rt;
         (options.k, options.leaf, options.workers),
         (3, 1000, 4),
         "numbers"
     );
-    assert_eq!(rt; options.table, Table::Bent, "the table");
-    assert_eq!(rt;
+    assert_same!(rt; options.table, Table::Bent, "the table");
+    assert_same!(rt;
         (options.sealed, options.certificate),
         (true, false),
         "flags"
@@ -76,7 +77,7 @@ fn reads_every_command_and_no_other(rt: HostRuntime) -> Result<(), Fail> {
     ];
     for (line, want) in table {
         let command = line.first().copied().unwrap_or("none");
-        assert_eq!(rt; is_command(rt.alloc(), line)?, want, "a line of {command}");
+        assert_same!(rt; is_command(rt.alloc(), line)?, want, "a line of {command}");
     }
     Ok(())
 }

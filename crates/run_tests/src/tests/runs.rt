@@ -1,6 +1,7 @@
 //! Whole runs of the commands as one table: words, and the text that they end with. Two workers meet at a gate as they build, and
 //! as they search together for a certificate.
 
+use crate::claims::assert_same;
 use crate::tests::fixture::{Meeting, Outside, lines_of, run_line, tells};
 use search_run::Status;
 use std::test::Fail;
@@ -113,10 +114,10 @@ fn two_workers_meet_as_they_build_and_as_they_search(rt: HostRuntime) -> Result<
     for (line, times, text) in MEETINGS {
         let gate = Meeting::new();
         let ended = run_line(&rt, rt.alloc(), line, b"", Outside::sound(16), &gate)?;
-        assert_eq!(rt; ended.status, Status::Done, "{line}");
-        assert_eq!(rt; ended.out.written(), text.as_bytes(), "{line}");
+        assert_same!(rt; ended.status, Status::Done, "{line}");
+        assert_same!(rt; ended.out.written(), text.as_bytes(), "{line}");
         let counts = (times, times, 0);
-        assert_eq!(rt; gate.counts(), counts, "{line}: nobody waits in vain");
+        assert_same!(rt; gate.counts(), counts, "{line}: nobody waits in vain");
     }
     Ok(())
 }

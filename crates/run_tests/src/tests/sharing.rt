@@ -1,6 +1,7 @@
 //! Two workers over noise that is great enough to be shared: for one query both draw of its stretches, and for two each answers one. They
 //! run at once, and write what a plain sort finds.
 
+use crate::claims::assert_same;
 use crate::tests::drawn_files::{plain_text, raw};
 use crate::tests::fixture::{Meeting, Outside, words_of};
 use outside::NoMemory;
@@ -37,10 +38,10 @@ fn two_workers_meet_over_one_query_and_over_two(rt: HostRuntime) -> Result<(), F
         let words = words_of(alloc, "nearest noise asked --raw 2048 --workers 2 --k 3")?;
         let gate = Meeting::new();
         let status = run(&rt, alloc, &words, &mut files, &mut out, &mut err, &gate);
-        assert_eq!(rt; status, Status::Done, "{count} queries");
+        assert_same!(rt; status, Status::Done, "{count} queries");
         let text = plain_text(alloc, &rows, &queries, 3)?;
-        assert_eq!(rt; out.written(), text.as_slice(), "{count} queries");
-        assert_eq!(rt;
+        assert_same!(rt; out.written(), text.as_slice(), "{count} queries");
+        assert_same!(rt;
             gate.counts(),
             (2, 2, 0),
             "{count} queries: nobody waits in vain"

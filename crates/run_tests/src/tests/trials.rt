@@ -1,5 +1,6 @@
 //! Trials as tables: words, and the four lines that they end with. The totals come from a plain program in C.
 
+use crate::claims::assert_same;
 use crate::tests::fixture::{Outside, run_line, tells};
 use outside::NoGate;
 use search_run::Status;
@@ -28,8 +29,8 @@ fn trials_that_are_refused(rt: HostRuntime) -> Result<(), Fail> {
             ..Outside::sound(7)
         };
         let ended = run_line(&rt, rt.alloc(), line, b"", outside, &NoGate)?;
-        assert_eq!(rt; ended.status, status, "{line}, write {write}");
-        assert_eq!(rt; ended.out.written().len(), count, "{line}, write {write}");
+        assert_same!(rt; ended.status, status, "{line}, write {write}");
+        assert_same!(rt; ended.out.written().len(), count, "{line}, write {write}");
     }
     Ok(())
 }

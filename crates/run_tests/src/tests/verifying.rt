@@ -1,6 +1,7 @@
 //! Certificates that are checked, as tables: words, the text of a certificate, and the status and the line of the run.
 //! What each change of a certificate gives was found by hand.
 
+use crate::claims::assert_same;
 use crate::tests::fixture::{fields_of, lines_of, tells};
 use certificate::Reject;
 use search_run::{CertFault, Status, Which};
@@ -135,7 +136,7 @@ fn certificates_that_do_not_hold(rt: HostRuntime) -> Result<(), Fail> {
         let text = lines_of(rt.alloc(), text)?;
         let told = lines_of(rt.alloc(), told)?;
         let status = Status::Invalid(fault);
-        assert_eq!(rt; status.code(), 10, "{line}: {text}");
+        assert_same!(rt; status.code(), 10, "{line}: {text}");
         tells(
             &rt,
             rt.alloc(),

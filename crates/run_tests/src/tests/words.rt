@@ -1,6 +1,7 @@
 //! Words that are no command: each ends with its own status and line, and with nothing written.
 //! Words that are one are in the table of the runs.
 
+use crate::claims::assert_same;
 use crate::tests::fixture::{NO_COMMAND, tells};
 use search_run::Status;
 use std::test::Fail;
@@ -87,7 +88,7 @@ save";
 
 #[test]
 fn words_that_are_no_command(rt: HostRuntime) -> Result<(), Fail> {
-    assert_eq!(rt;
+    assert_same!(rt;
         Status::Usage.code(),
         2,
         "the number of words that are no command"

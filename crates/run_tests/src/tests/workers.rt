@@ -1,6 +1,7 @@
 //! Worked certificates by one worker and by many, over one queue and over many, with locks and without: of these searches the text is the
 //! same but for a line a queue.
 
+use crate::claims::assert_same;
 use crate::tests::fixture::{Outside, lines_of, run_line};
 use outside::NoGate;
 use search_run::Status;
@@ -87,8 +88,8 @@ fn each_team_certifies_the_same(rt: HostRuntime) -> Result<(), Fail> {
                 )?;
                 let outside = Outside::sound(4000);
                 let ended = run_line(&rt, alloc, &line, b"", outside, &NoGate)?;
-                assert_eq!(rt; ended.status, Status::Done, "{line}");
-                assert_eq!(rt; ended.out.written(), text.as_bytes(), "{line}");
+                assert_same!(rt; ended.status, Status::Done, "{line}");
+                assert_same!(rt; ended.out.written(), text.as_bytes(), "{line}");
             }
         }
     }

@@ -1,4 +1,5 @@
 //! Random small collections with many equal distances: the answer is that of a plain sort.
+use crate::claims::assert_same;
 use nearest_answer::{Task, one_worker_answer};
 use outside::{NoGate, NoMemory};
 use plain_search::{Shape, are_same, drawn_collection, drawn_series, drawn_shape, plain_nearest};
@@ -42,10 +43,7 @@ fn finds_what_a_plain_sort_finds(rt: HostRuntime) -> Result<(), Fail> {
         let rows = drawn_collection(alloc, &mut rng, count)?;
         let shape = drawn_shape(&mut rng, [1, 2, 3, 4]);
         let query = drawn_series(&mut rng);
-        assert!(rt;
-            agrees(&rt, alloc, &rows, &query, shape)?,
-            "round {round}: {count} series, {shape:?}"
-        );
+        assert_same!(rt; agrees(&rt, alloc, &rows, &query, shape)?, true, "round {round}: {count} series, {shape:?}");
     }
     Ok(())
 }

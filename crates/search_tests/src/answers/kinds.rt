@@ -1,4 +1,5 @@
 //! Small collections of every kind of data, of lengths around those of blocks of codes: the answer alone is that of a plain sort.
+use crate::claims::assert_same;
 use breakpoints::Table;
 use nearest_answer::{Task, one_worker_answer};
 use outside::{NoGate, NoMemory};
@@ -146,10 +147,7 @@ fn every_kind_of_data(rt: HostRuntime) -> Result<(), Fail> {
     for kind in KINDS {
         for (length, k) in LENGTHS {
             let values = values_of(alloc, &mut rng, kind, 60, length)?;
-            assert!(rt;
-                agree(&rt, alloc, values, length, k)?,
-                "{k} of 60 series of {length} values, {kind:?}"
-            );
+            assert_same!(rt; agree(&rt, alloc, values, length, k)?, true, "{k} of 60 series of {length} values, {kind:?}");
         }
     }
     Ok(())
@@ -162,10 +160,7 @@ fn many_of_every_kind(rt: HostRuntime) -> Result<(), Fail> {
     for kind in KINDS {
         for (length, k) in [(16, 65), (64, 300), (130, 1000), (256, 1), (257, 10)] {
             let values = values_of(alloc, &mut rng, kind, 2000, length)?;
-            assert!(rt;
-                agree(&rt, alloc, values, length, k)?,
-                "{k} of 2000 series of {length} values, {kind:?}"
-            );
+            assert_same!(rt; agree(&rt, alloc, values, length, k)?, true, "{k} of 2000 series of {length} values, {kind:?}");
         }
     }
     Ok(())
@@ -177,10 +172,7 @@ fn data_that_codes_alone_tell(rt: HostRuntime) -> Result<(), Fail> {
     let mut rng = SplitMix64::seed_from_u64(6);
     for (length, k) in [(256, 1), (256, 3), (230, 2), (300, 3), (480, 100)] {
         let values = values_of(alloc, &mut rng, Kind::Flutter, 3000, length)?;
-        assert!(rt;
-            agree(&rt, alloc, values, length, k)?,
-            "{k} of 3000 series of {length} values that flutter"
-        );
+        assert_same!(rt; agree(&rt, alloc, values, length, k)?, true, "{k} of 3000 series of {length} values that flutter");
     }
     Ok(())
 }

@@ -1,5 +1,6 @@
 //! Tests: what is printed of small searches, which were worked out by hand.
 
+use crate::claims::assert_same;
 use breakpoints::Table;
 use certificate::print;
 use isax_word::Layout;
@@ -56,7 +57,7 @@ fn expect<T: Threads + Sync + Abort>(
     let task = Task::new(rows, query, asked.k, &layout);
     let outcome = one_worker(alloc, &task, &index, 2)?;
     let printed = print(alloc, &index, &outcome)?;
-    assert_eq!(rt; printed.as_slice(), text.as_bytes(), "{asked:?} {text}");
+    assert_same!(rt; printed.as_slice(), text.as_bytes(), "{asked:?} {text}");
     Ok(())
 }
 

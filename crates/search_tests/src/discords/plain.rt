@@ -1,6 +1,7 @@
 //! Random small collections: the discords are those of a plain double loop, sorted.
 ghost use Rattle.std.specs.Prelude.{◌≡◌, IfOk};
 
+use crate::claims::assert_same;
 use breakpoints::Table;
 use discord_query::discord;
 use outside::{Gate, NoGate, NoMemory};
@@ -109,7 +110,7 @@ fn finds_what_a_plain_double_loop_finds(rt: HostRuntime) -> Result<(), Fail> {
     ] {
         let mut source = Source::new(seed, spread);
         let rows = collection(alloc, &mut source, count)?;
-        assert_eq!(rt;
+        assert_same!(rt;
             found(&rt, alloc, &rows, shape, k, &NoGate)?,
             plain(alloc, &rows, k)?,
             "seed {seed}, {count} series, {shape:?}, k {k}"
@@ -128,8 +129,8 @@ fn each_worker_passes_the_gate_before_each_draw(rt: HostRuntime) -> Result<(), F
         let rows = collection(alloc, &mut source, count)?;
         let gate = Turns::of_two();
         let discords = found(&rt, alloc, &rows, shaped(Table::Flat, 3, 4, 2), 3, &gate)?;
-        assert_eq!(rt; discords.len(), 3, "three discords of {count} series");
-        assert_eq!(rt;
+        assert_same!(rt; discords.len(), 3, "three discords of {count} series");
+        assert_same!(rt;
             gate.told(),
             (turns, 0),
             "a turn for each group of {count} series, and one more for each worker, counted from 0"

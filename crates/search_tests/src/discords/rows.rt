@@ -1,5 +1,6 @@
 //! Worked rows: ties between series and between neighbours, one point a series, no other series, equal series.
 use super::plain::{Shape, found, shaped};
+use crate::claims::assert_same;
 use breakpoints::Table;
 use outside::NoGate;
 use series_core::Flat;
@@ -22,7 +23,7 @@ fn worked_rows(rt: HostRuntime) -> Result<(), Fail> {
         let rows = Flat::from_values(length, values.to_vec(rt.alloc())?);
         let shape: Shape = shaped(Table::Flat, length.min(4), 1000, workers);
         let discords = found(&rt, rt.alloc(), &rows, shape, k, &NoGate)?;
-        assert_eq!(rt;
+        assert_same!(rt;
             discords.as_slice(),
             want,
             "{values:?}, k {k}, {workers} workers"

@@ -1,4 +1,5 @@
 //! Random small collections: the answer is that of a plain filter over all series, sorted.
+use crate::claims::assert_same;
 use breakpoints::Table;
 use outside::{Gate, NoGate, NoMemory};
 use plain_search::{Source, Turns, by_distance};
@@ -135,7 +136,7 @@ fn finds_what_a_plain_filter_finds(rt: HostRuntime) -> Result<(), Fail> {
         let mut source = Source::new(seed, spread);
         let rows = collection(alloc, &mut source, count)?;
         let query = source.values(alloc, 6)?;
-        assert_eq!(rt;
+        assert_same!(rt;
             wrong_radius(&rt, alloc, &rows, shape, &query)?,
             None,
             "radius of seed {seed} over {count} series"
@@ -152,8 +153,8 @@ fn each_worker_passes_the_gate_before_each_draw(rt: HostRuntime) -> Result<(), F
     let gate = Turns::of_two();
     let shape = shaped(Table::Flat, 3, 4, 2);
     let pairs = found(&rt, alloc, &rows, shape, &[0; 6], u64::MAX, &gate)?;
-    assert_eq!(rt; pairs.len(), 200, "all series");
-    assert_eq!(rt;
+    assert_same!(rt; pairs.len(), 200, "all series");
+    assert_same!(rt;
         gate.told(),
         (8 + 2, 0),
         "a turn for each of eight root children, and one more for each worker, counted from 0"

@@ -1,5 +1,6 @@
 //! Worked rows: a radius at a distance, one below it, and none within.
 use super::plain::listed;
+use crate::claims::assert_same;
 use breakpoints::Table;
 use outside::{NoGate, NoMemory};
 use range_query::{within, within_alone};
@@ -38,8 +39,8 @@ fn four_series_within_three_radii(rt: HostRuntime) -> Result<(), Fail> {
     ];
     for (radius, want) in near {
         let (pairs, own) = found(&rt, rt.alloc(), radius)?;
-        assert_eq!(rt; pairs.as_slice(), want, "radius {radius}");
-        assert_eq!(rt; own.as_slice(), want, "radius {radius}, alone");
+        assert_same!(rt; pairs.as_slice(), want, "radius {radius}");
+        assert_same!(rt; own.as_slice(), want, "radius {radius}, alone");
     }
     Ok(())
 }

@@ -1,5 +1,6 @@
 //! Rows that are watched: cut series are never asked for, and two workers really search side by side.
 use super::plain::listed;
+use crate::claims::assert_same;
 use outside::NoGate;
 use plain_search::{Watched, three_points, two_points};
 use range_query::within;
@@ -12,10 +13,10 @@ fn cut_series_are_not_asked_for(rt: HostRuntime) -> Result<(), Fail> {
     let layout = &settings.layout;
     let rows = Watched::over(flat, None);
     let pairs = within(&rt, alloc, &rows, &index, layout, &[0, 0], 0, 2, &NoGate)?;
-    assert_eq!(rt; listed(alloc, &pairs)?.as_slice(), [(0, 0)].as_slice());
-    assert_eq!(rt; rows.times(0), 1, "series 0 is asked for");
-    assert_eq!(rt; rows.times(1), 0, "series 1 is far");
-    assert_eq!(rt; rows.times(2), 0, "series 2 is cut by its word");
+    assert_same!(rt; listed(alloc, &pairs)?.as_slice(), [(0, 0)].as_slice());
+    assert_same!(rt; rows.times(0), 1, "series 0 is asked for");
+    assert_same!(rt; rows.times(1), 0, "series 1 is far");
+    assert_same!(rt; rows.times(2), 0, "series 2 is cut by its word");
     Ok(())
 }
 
@@ -26,10 +27,10 @@ fn two_workers_search_side_by_side(rt: HostRuntime) -> Result<(), Fail> {
     let layout = &settings.layout;
     let rows = Watched::over(flat, Some((0, 1)));
     let pairs = within(&rt, alloc, &rows, &index, layout, &[0], 1, 2, &NoGate)?;
-    assert_eq!(rt;
+    assert_same!(rt;
         listed(alloc, &pairs)?.as_slice(),
         [(1, 0), (1, 1)].as_slice()
     );
-    assert_eq!(rt; rows.ran_out(), 0, "each row waited for the other");
+    assert_same!(rt; rows.ran_out(), 0, "each row waited for the other");
     Ok(())
 }

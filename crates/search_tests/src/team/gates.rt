@@ -1,4 +1,5 @@
 //! A gate where two workers meet: both are at work at once, and the turns of each are counted without a gap.
+use crate::claims::assert_same;
 use crate::threads::gates::Meeting;
 use breakpoints::Table;
 use nearest_answer::{ApartBy, Task, answer_by_stretches};
@@ -18,13 +19,13 @@ fn two_workers_draw_side_by_side(rt: HostRuntime) -> Result<(), Fail> {
     for by in [ApartBy::Means, ApartBy::Codes, ApartBy::Nothing] {
         let gate = Meeting::of_two();
         let found = answer_by_stretches(&rt, alloc, &task, &index, by, 2, &gate)?;
-        assert_eq!(rt; found.items.len(), 5, "{by:?}");
-        assert_eq!(rt;
+        assert_same!(rt; found.items.len(), 5, "{by:?}");
+        assert_same!(rt;
             gate.in_vain(),
             0,
             "each worker waited for the other, {by:?}"
         );
-        assert_eq!(rt;
+        assert_same!(rt;
             gate.miscounted(),
             0,
             "no turn was left out or counted twice, {by:?}"

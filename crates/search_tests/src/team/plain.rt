@@ -1,5 +1,6 @@
 //! Teams of 1 to 64 workers over small collections in each way and in the one that is chosen, and over one that is great enough to be
 //! shared: as a plain sort.
+use crate::claims::assert_same;
 use breakpoints::Table;
 use nearest_answer::{ApartBy, Task, answer_by_stretches, answer_by_team};
 use outside::{NoGate, NoMemory};
@@ -123,10 +124,7 @@ fn each_way_finds_what_a_plain_sort_finds(rt: HostRuntime) -> Result<(), Fail> {
                         by,
                         workers,
                     };
-                    assert!(rt;
-                        agree(&rt, alloc, values_of(alloc, kind, count)?, search)?,
-                        "{count} series, {kind:?}, {search:?}"
-                    );
+                    assert_same!(rt; agree(&rt, alloc, values_of(alloc, kind, count)?, search)?, true, "{count} series, {kind:?}, {search:?}");
                 }
             }
         }
@@ -146,10 +144,7 @@ fn what_is_great_enough_is_shared(rt: HostRuntime) -> Result<(), Fail> {
                     by: None,
                     workers,
                 };
-                assert!(rt;
-                    agree(&rt, alloc, values_of(alloc, kind, count)?, search)?,
-                    "{count} series, {kind:?}, {search:?}"
-                );
+                assert_same!(rt; agree(&rt, alloc, values_of(alloc, kind, count)?, search)?, true, "{count} series, {kind:?}, {search:?}");
             }
         }
     }

@@ -1,4 +1,5 @@
 //! Rows that are watched: those of leaves that are too far are read by no worker, alone or of two.
+use crate::claims::assert_same;
 use breakpoints::Table;
 use nearest_answer::{ApartBy, Task, answer_by_stretches};
 use outside::NoGate;
@@ -25,8 +26,8 @@ fn rows_of_far_leaves_are_not_read(rt: HostRuntime) -> Result<(), Fail> {
     for workers in [1, 2] {
         let by = ApartBy::Means;
         let found = answer_by_stretches(&rt, alloc, &task, &index, by, workers, &NoGate)?;
-        assert_eq!(rt; found.items.len(), 400, "{workers} workers");
-        assert_eq!(rt;
+        assert_same!(rt; found.items.len(), 400, "{workers} workers");
+        assert_same!(rt;
             [rows.times(0), rows.times(2)],
             before,
             "far rows, {workers} workers"

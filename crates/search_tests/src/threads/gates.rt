@@ -2,6 +2,7 @@
 //! first turn side by side.
 use super::forms::{Form, searched};
 use super::points::{index_of, three_points, two_segments};
+use crate::claims::assert_same;
 use outside::Gate;
 use query_core::Task;
 use std::sync::atomic::{AtomicU64, Ordering};
@@ -82,9 +83,9 @@ fn two_workers_come_side_by_side_and_count_their_turns(rt: HostRuntime) -> Resul
         };
         let gate = Meeting::of_two();
         let outcome = searched(&rt, alloc, &task, &index, &gate, form)?;
-        assert_eq!(rt; outcome.pairs.items.len(), 3);
-        assert_eq!(rt; gate.in_vain(), 0, "each worker waited for the other");
-        assert_eq!(rt;
+        assert_same!(rt; outcome.pairs.items.len(), 3);
+        assert_same!(rt; gate.in_vain(), 0, "each worker waited for the other");
+        assert_same!(rt;
             gate.miscounted(),
             0,
             "no turn was left out or counted twice"

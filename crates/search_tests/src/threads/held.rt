@@ -2,6 +2,7 @@
 //! stands before its pop, while the other takes from the queue and shuts it, changes no answer.
 use super::forms::{Form, searched};
 use super::points::{BY_BOUND, BY_DISTANCE, index_of, three_points, two_segments};
+use crate::claims::assert_same;
 use outside::{Gate, NoMemory};
 use query_core::{Outcome, Task};
 use series_core::Entry;
@@ -154,23 +155,23 @@ fn a_worker_that_stands_at_a_queue_changes_no_answer(rt: HostRuntime) -> Result<
             };
             let gate = Holding::at(case.holds);
             let outcome = searched(&rt, alloc, &task, &index, &gate, form)?;
-            assert_eq!(rt;
+            assert_same!(rt;
                 gate.in_vain(),
                 0,
                 "a held worker waited for the other, {form:?}, {case:?}"
             );
-            assert_eq!(rt;
+            assert_same!(rt;
                 [gate.come(0), gate.come(1)],
                 case.turns,
                 "{form:?}, {case:?}"
             );
-            assert_eq!(rt;
+            assert_same!(rt;
                 outcome.pairs.items.as_slice(),
                 BY_DISTANCE.as_slice(),
                 "{form:?}, {case:?}"
             );
             let given = given(alloc, &outcome)?;
-            assert_eq!(rt; given.as_slice(), BY_BOUND.as_slice(), "{form:?}, {case:?}");
+            assert_same!(rt; given.as_slice(), BY_BOUND.as_slice(), "{form:?}, {case:?}");
         }
     }
     Ok(())

@@ -1,8 +1,10 @@
 //! Random small collections with many equal distances: the pairs are those of a plain sort, by any number of workers over any number of queues.
 use super::forms::{Form, searched};
+use crate::claims::assert_same;
+use crate::workers::drawn::is_right;
 use outside::{NoGate, NoMemory};
-use plain_search::{Shape, are_same, drawn_collection, drawn_series, drawn_shape, plain_nearest};
-use query_core::{Fate, Outcome, Task};
+use plain_search::{Shape, drawn_collection, drawn_series, drawn_shape, plain_nearest};
+use query_core::Task;
 use rand_xoshiro::SplitMix64;
 use rand_xoshiro::rand_core::{Rng, SeedableRng};
 use series_core::{Flat, Rows};
@@ -14,20 +16,6 @@ use subtree_build::build;
 
 /// How many workers search.
 const WORKERS: [u32; 4] = [1, 2, 3, 8];
-
-/// Whether the pairs are these, and each of the leaves has one fate, one of them the start leaf's.
-fn is_right(outcome: &Outcome, pairs: &[(u64, u32)], leaves: u32) -> bool {
-    let mut starts = 0u32;
-    for fate in &outcome.fates.items {
-        if *fate == Fate::Start {
-            starts = starts.wrapping_add(1);
-        }
-    }
-    if outcome.fates.items.len() != leaves as usize || starts != leaves.min(1) {
-        return false;
-    }
-    are_same(&outcome.pairs.items, pairs)
-}
 
 /// Whether a search without locks and one over locked queues find what a plain sort finds.
 fn agrees<T: Threads + Wait + Sync>(
@@ -71,10 +59,7 @@ fn finds_what_a_plain_sort_finds(rt: HostRuntime) -> Result<(), Fail> {
         let rows = drawn_collection(alloc, &mut rng, count)?;
         let shape = drawn_shape(&mut rng, WORKERS);
         let query = drawn_series(&mut rng);
-        assert!(rt;
-            agrees(&rt, alloc, &rows, &query, shape)?,
-            "round {round}: {count} series, {shape:?}"
-        );
+        assert_same!(rt; agrees(&rt, alloc, &rows, &query, shape)?, true, "round {round}: {count} series, {shape:?}");
     }
     Ok(())
 }
@@ -94,10 +79,7 @@ fn one_worker_and_64_find_what_a_plain_sort_finds(rt: HostRuntime) -> Result<(),
                 ..drawn_shape(&mut rng, WORKERS)
             };
             let query = drawn_series(&mut rng);
-            assert!(rt;
-                agrees(&rt, alloc, &rows, &query, shape)?,
-                "{count} series, {shape:?}"
-            );
+            assert_same!(rt; agrees(&rt, alloc, &rows, &query, shape)?, true, "{count} series, {shape:?}");
         }
     }
     Ok(())

@@ -5,6 +5,7 @@ ghost use Rattle.std.specs.Prelude.{◌≡◌, IfOk};
 use super::forms::{Form, searched};
 use super::held::{Holding, waits};
 use super::points::{index_of, two_segments};
+use crate::claims::assert_same;
 use outside::NoMemory;
 use plain_search::Watched;
 use query_core::Task;
@@ -54,14 +55,14 @@ fn a_leaf_is_cut_by_what_both_workers_found(rt: HostRuntime) -> Result<(), Fail>
             locked,
         };
         let outcome = searched(&rt, alloc, &task, &index, &gate, form)?;
-        assert_eq!(rt; gate.in_vain(), 0, "each waited for the other, {form:?}");
-        assert_eq!(rt; [gate.come(0), gate.come(1)], [26, 7], "{form:?}");
-        assert_eq!(rt;
+        assert_same!(rt; gate.in_vain(), 0, "each waited for the other, {form:?}");
+        assert_same!(rt; [gate.come(0), gate.come(1)], [26, 7], "{form:?}");
+        assert_same!(rt;
             outcome.pairs.items.as_slice(),
             NEAREST.as_slice(),
             "{form:?}"
         );
-        assert_eq!(rt; rows.times(0), 0, "(300,100) is cut, {form:?}");
+        assert_same!(rt; rows.times(0), 0, "(300,100) is cut, {form:?}");
     }
     Ok(())
 }

@@ -1,6 +1,7 @@
 //! Rows that are watched: cut series are never asked for, and two workers really search side by side.
 use super::forms::{Form, searched};
 use super::points::{BY_DISTANCE, index_of, three_points, two_segments};
+use crate::claims::assert_same;
 use outside::NoGate;
 use plain_search::Watched;
 use query_core::{Outcome, Task};
@@ -39,14 +40,14 @@ fn watched_search<T: Threads + Wait + Sync>(
 fn cut_leaves_are_not_asked_for(rt: HostRuntime) -> Result<(), Fail> {
     for locked in [false, true] {
         let (outcome, rows) = watched_search(&rt, rt.alloc(), 1, false, locked)?;
-        assert_eq!(rt;
+        assert_same!(rt;
             outcome.pairs.items.as_slice(),
             &BY_DISTANCE[..1],
             "locked {locked}"
         );
-        assert_eq!(rt; rows.times(0), 1, "series 0 is asked for, locked {locked}");
-        assert_eq!(rt; rows.times(1), 0, "series 1 is cut, locked {locked}");
-        assert_eq!(rt; rows.times(2), 0, "series 2 is cut, locked {locked}");
+        assert_same!(rt; rows.times(0), 1, "series 0 is asked for, locked {locked}");
+        assert_same!(rt; rows.times(1), 0, "series 1 is cut, locked {locked}");
+        assert_same!(rt; rows.times(2), 0, "series 2 is cut, locked {locked}");
     }
     Ok(())
 }
@@ -55,12 +56,12 @@ fn cut_leaves_are_not_asked_for(rt: HostRuntime) -> Result<(), Fail> {
 fn two_workers_search_side_by_side(rt: HostRuntime) -> Result<(), Fail> {
     for locked in [false, true] {
         let (outcome, rows) = watched_search(&rt, rt.alloc(), 3, true, locked)?;
-        assert_eq!(rt;
+        assert_same!(rt;
             outcome.pairs.items.as_slice(),
             BY_DISTANCE.as_slice(),
             "locked {locked}"
         );
-        assert_eq!(rt;
+        assert_same!(rt;
             rows.ran_out(),
             0,
             "each row waited for the other, locked {locked}"

@@ -1,6 +1,7 @@
 //! A small search as worked by hand: its whole outcome, whatever the number of workers.
 use super::forms::{Form, searched};
 use super::points::{BY_BOUND, BY_DISTANCE, index_of, three_points, two_segments};
+use crate::claims::assert_same;
 use outside::NoGate;
 use query_core::{Fate, Outcome, Start, Task};
 use series_core::Entry;
@@ -56,26 +57,23 @@ fn one_leaf_is_scanned_and_two_are_cut(rt: HostRuntime) -> Result<(), Fail> {
     let fates = [Fate::Start, Fate::Bound(65536), Fate::Bound(268435456)];
     for (workers, locked) in WAYS {
         let outcome = near_points(&rt, rt.alloc(), 1, workers, locked)?;
-        assert_eq!(rt;
+        assert_same!(rt;
             outcome.pairs.items.as_slice(),
             &BY_DISTANCE[..1],
             "{workers} workers, locked {locked}"
         );
-        assert_eq!(rt;
+        assert_same!(rt;
             outcome.start,
             Some(start),
             "{workers} workers, locked {locked}"
         );
-        assert_eq!(rt;
+        assert_same!(rt;
             outcome.lines.items.len(),
             2,
             "{workers} workers, locked {locked}"
         );
-        assert!(rt;
-            is_line(&outcome, 0, &[], 0) && is_line(&outcome, 1, &[], 0),
-            "{workers} workers, locked {locked}: {outcome:?}"
-        );
-        assert_eq!(rt;
+        assert_same!(rt; is_line(&outcome, 0, &[], 0) && is_line(&outcome, 1, &[], 0), true, "{workers} workers, locked {locked}: {outcome:?}");
+        assert_same!(rt;
             outcome.fates.items.as_slice(),
             fates.as_slice(),
             "{workers} workers, locked {locked}"
@@ -89,24 +87,24 @@ fn each_leaf_is_taken_from_its_queue(rt: HostRuntime) -> Result<(), Fail> {
     let fates = [Fate::Start, Fate::Queue(1), Fate::Queue(0)];
     for (workers, locked) in WAYS {
         let outcome = near_points(&rt, rt.alloc(), 3, workers, locked)?;
-        assert_eq!(rt;
+        assert_same!(rt;
             outcome.pairs.items.as_slice(),
             BY_DISTANCE.as_slice(),
             "{workers} workers, locked {locked}"
         );
-        assert_eq!(rt;
+        assert_same!(rt;
             outcome.fates.items.as_slice(),
             fates.as_slice(),
             "{workers} workers, locked {locked}"
         );
-        assert_eq!(rt;
+        assert_same!(rt;
             outcome.lines.items.len(),
             2,
             "{workers} workers, locked {locked}"
         );
         for (line, entry) in outcome.lines.items.iter().zip(BY_BOUND.iter().rev()) {
             let taken = [*entry];
-            assert_eq!(rt;
+            assert_same!(rt;
                 line.taken.items.as_slice(),
                 taken.as_slice(),
                 "{workers} workers, locked {locked}"

@@ -1,4 +1,5 @@
 //! Random small collections with many equal distances: the pairs are those of a plain sort, whatever the schedule.
+use crate::claims::assert_same;
 use outside::{NoGate, NoMemory};
 use plain_search::{Shape, are_same, drawn_collection, drawn_series, drawn_shape, plain_nearest};
 use query_core::{Fate, Outcome, Task, one_worker, replay};
@@ -11,7 +12,7 @@ use std::thread::Threads;
 use subtree_build::build;
 
 /// Whether the pairs are these, and each of the leaves has one fate, one of them the start leaf's.
-fn is_right(outcome: &Outcome, pairs: &[(u64, u32)], leaves: u32) -> bool {
+pub(crate) fn is_right(outcome: &Outcome, pairs: &[(u64, u32)], leaves: u32) -> bool {
     let mut starts = 0u32;
     for fate in &outcome.fates.items {
         if *fate == Fate::Start {
@@ -89,10 +90,7 @@ fn find_what_a_plain_sort_finds(rt: HostRuntime) -> Result<(), Fail> {
         let rows = drawn_collection(alloc, &mut rng, count)?;
         let shape = drawn_shape(&mut rng, [1, 2, 3, 4]);
         let query = drawn_series(&mut rng);
-        assert!(rt;
-            agree(&rt, alloc, &rows, &query, shape, &mut rng)?,
-            "round {round}: {count} series, {shape:?}"
-        );
+        assert_same!(rt; agree(&rt, alloc, &rows, &query, shape, &mut rng)?, true, "round {round}: {count} series, {shape:?}");
     }
     Ok(())
 }

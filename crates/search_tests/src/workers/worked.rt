@@ -1,4 +1,5 @@
 //! Small searches as worked by hand, turn by turn on paper: their outcomes, and schedules that give none.
+use crate::claims::assert_same;
 use plain_search::{three_points, two_points};
 use query_core::{Fate, Outcome, ReplayError, Start, Task, replay};
 use series_core::{Entry, NONE, Pair};
@@ -41,11 +42,11 @@ fn eleven_turns_of_one_worker(rt: HostRuntime) -> Result<(), Fail> {
     };
     let taken = [Entry { bound: 1, leaf: 0 }];
     let fates = [Fate::Queue(0), Fate::Start];
-    assert_eq!(rt; outcome.pairs.items.as_slice(), [pair(1, 0)].as_slice());
-    assert_eq!(rt; outcome.start, Some(Start { leaf: 1, limit: 1 }));
-    assert_eq!(rt; outcome.lines.items.len(), 1);
-    assert!(rt; is_line(&outcome, 0, &taken, 1), "{outcome:?}");
-    assert_eq!(rt; outcome.fates.items.as_slice(), fates.as_slice());
+    assert_same!(rt; outcome.pairs.items.as_slice(), [pair(1, 0)].as_slice());
+    assert_same!(rt; outcome.start, Some(Start { leaf: 1, limit: 1 }));
+    assert_same!(rt; outcome.lines.items.len(), 1);
+    assert_same!(rt; is_line(&outcome, 0, &taken, 1), true, "{outcome:?}");
+    assert_same!(rt; outcome.fates.items.as_slice(), fates.as_slice());
     Ok(())
 }
 
@@ -56,11 +57,11 @@ fn a_leaf_that_comes_late(rt: HostRuntime) -> Result<(), Fail> {
         return Err(Fail::new("no outcome"));
     };
     let fates = [Fate::Late(0), Fate::Start];
-    assert_eq!(rt; outcome.pairs.items.as_slice(), [pair(1, 0)].as_slice());
-    assert_eq!(rt; outcome.start, Some(Start { leaf: 1, limit: 1 }));
-    assert_eq!(rt; outcome.lines.items.len(), 1);
-    assert!(rt; is_line(&outcome, 0, &[], 1), "{outcome:?}");
-    assert_eq!(rt; outcome.fates.items.as_slice(), fates.as_slice());
+    assert_same!(rt; outcome.pairs.items.as_slice(), [pair(1, 0)].as_slice());
+    assert_same!(rt; outcome.start, Some(Start { leaf: 1, limit: 1 }));
+    assert_same!(rt; outcome.lines.items.len(), 1);
+    assert_same!(rt; is_line(&outcome, 0, &[], 1), true, "{outcome:?}");
+    assert_same!(rt; outcome.fates.items.as_slice(), fates.as_slice());
     Ok(())
 }
 
@@ -77,10 +78,10 @@ fn schedules_without_an_outcome(rt: HostRuntime) -> Result<(), Fail> {
     ];
     for (schedule, error) in cases {
         let played = nearest_of_two(&rt, rt.alloc(), 1, schedule)?;
-        assert_eq!(rt; played.err(), Some(error), "{schedule:?}");
+        assert_same!(rt; played.err(), Some(error), "{schedule:?}");
     }
     let played = nearest_of_two(&rt, rt.alloc(), 3, &[0; 11])?;
-    assert_eq!(rt;
+    assert_same!(rt;
         played.err(),
         Some(ReplayError::Unfinished(1)),
         "two idle workers"
@@ -115,13 +116,10 @@ fn queues_that_are_shut_before_the_first_put(rt: HostRuntime) -> Result<(), Fail
         limit: NONE,
     };
     let fates = [Fate::Start, Fate::Late(0), Fate::Late(0)];
-    assert_eq!(rt; outcome.pairs.items.as_slice(), pairs.as_slice());
-    assert_eq!(rt; outcome.start, Some(start));
-    assert_eq!(rt; outcome.lines.items.len(), 2);
-    assert!(rt;
-        is_line(&outcome, 0, &[], NONE) && is_line(&outcome, 1, &[], NONE),
-        "{outcome:?}"
-    );
-    assert_eq!(rt; outcome.fates.items.as_slice(), fates.as_slice());
+    assert_same!(rt; outcome.pairs.items.as_slice(), pairs.as_slice());
+    assert_same!(rt; outcome.start, Some(start));
+    assert_same!(rt; outcome.lines.items.len(), 2);
+    assert_same!(rt; is_line(&outcome, 0, &[], NONE) && is_line(&outcome, 1, &[], NONE), true, "{outcome:?}");
+    assert_same!(rt; outcome.fates.items.as_slice(), fates.as_slice());
     Ok(())
 }
