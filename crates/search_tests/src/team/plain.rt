@@ -132,20 +132,34 @@ fn each_way_finds_what_a_plain_sort_finds(rt: HostRuntime) -> Result<(), Fail> {
     Ok(())
 }
 
+// How many series there are, how many are asked for, and by how many workers. Of a thousand what is left is shared in two parts, and not
+// all of 64 workers are hired.
+const SHARED: [(u32, u32, u32); 11] = [
+    (1000, 10, 1),
+    (1000, 10, 2),
+    (1000, 10, 4),
+    (70000, 1, 1),
+    (70000, 1, 2),
+    (70000, 1, 4),
+    (70000, 200, 1),
+    (70000, 200, 2),
+    (70000, 200, 4),
+    (70000, 1000, 4),
+    (70000, 10, 64),
+];
+
 #[test]
 fn what_is_great_enough_is_shared(rt: HostRuntime) -> Result<(), Fail> {
     let alloc = rt.alloc();
     for kind in KINDS {
-        for (count, k) in [(1000, 10), (70000, 1), (70000, 200)] {
-            for workers in [1, 2, 4] {
-                let search = Search {
-                    k,
-                    leaf: 100,
-                    by: None,
-                    workers,
-                };
-                assert_same!(rt; agree(&rt, alloc, values_of(alloc, kind, count)?, search)?, true, "{count} series, {kind:?}, {search:?}");
-            }
+        for (count, k, workers) in SHARED {
+            let search = Search {
+                k,
+                leaf: 100,
+                by: None,
+                workers,
+            };
+            assert_same!(rt; agree(&rt, alloc, values_of(alloc, kind, count)?, search)?, true, "{count} series, {kind:?}, {search:?}");
         }
     }
     Ok(())
