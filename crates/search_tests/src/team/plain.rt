@@ -124,7 +124,11 @@ fn each_way_finds_what_a_plain_sort_finds(rt: HostRuntime) -> Result<(), Fail> {
                         by,
                         workers,
                     };
-                    assert_same!(rt; agree(&rt, alloc, values_of(alloc, kind, count)?, search)?, true, "{count} series, {kind:?}, {search:?}");
+                    assert_same!(rt;
+                        agree(&rt, alloc, values_of(alloc, kind, count)?, search)?,
+                        true,
+                        "{count} series, {kind:?}, {search:?}"
+                    );
                 }
             }
         }

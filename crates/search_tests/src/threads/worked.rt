@@ -72,7 +72,11 @@ fn one_leaf_is_scanned_and_two_are_cut(rt: HostRuntime) -> Result<(), Fail> {
             2,
             "{workers} workers, locked {locked}"
         );
-        assert_same!(rt; is_line(&outcome, 0, &[], 0) && is_line(&outcome, 1, &[], 0), true, "{workers} workers, locked {locked}: {outcome:?}");
+        assert_same!(rt;
+            is_line(&outcome, 0, &[], 0) && is_line(&outcome, 1, &[], 0),
+            true,
+            "{workers} workers, locked {locked}: {outcome:?}"
+        );
         assert_same!(rt;
             outcome.fates.items.as_slice(),
             fates.as_slice(),
