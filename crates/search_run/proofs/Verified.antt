@@ -84,7 +84,7 @@ none_told h name text s (Invalid e) named valid found =
 none_told h name text s told named valid found = absurd found
 
 pub texts_faultless : CertifiedTextsAreFaultless
-texts_faultless before now series queries data asked name o v text certified short alike first second named told has =
+texts_faultless before now series queries rows asked name o v text certified short alike first second named told has =
     ⊎_elim
     (λ (found : ShowsInvalid (IsFault (subject_of has.0 has.2.0 v)) (Some now) name told).
     none_told now name text (subject_of has.0 has.2.0 v) told named (record { short = short; sound = sound }) found)
@@ -100,10 +100,10 @@ texts_faultless before now series queries data asked name o v text certified sho
 
     sound : IsSound (subject_of has.0 has.2.0 v) text
     sound =
-        let data_told = ours.2.told in
+        let rows_told = ours.2.told in
         let asked_told = ours.3.told in
-        let one = one_loaded (Some now) data form ours.0 has.0 (data_told.0, first ∙ data_told.1, data_told.2) has.1.told in
+        let one = one_loaded (Some now) rows form ours.0 has.0 (rows_told.0, first ∙ rows_told.1, rows_told.2) has.1.told in
         let two = one_loaded (Some now) asked form ours.1 has.2.0 (asked_told.0, second ∙ asked_told.1, asked_told.2)
-            has.2.1.told in
+        has.2.1.told in
         subst (λ (y : Loaded). IsSound (subject_of has.0 y v) text) two
         (subst (λ (x : Loaded). IsSound (subject_of x ours.1 v) text) one ours.4)

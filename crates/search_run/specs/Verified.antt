@@ -41,10 +41,10 @@ CertifiedTextsAreSound = (held : Option Held) (series queries : List ℕ) (o v :
 -- And where it has at most as many bytes as a certificate may have, `verify` finds no fault in it: in any files, of which one name
 -- holds what the series' file held, one what the queries' file held, and one the text.
 abbrev pub CertifiedTextsAreFaultless : Type 0
-CertifiedTextsAreFaultless = (before now : Held) (series queries data asked name : List ℕ) (o v : Options) (text : List ℕ)
+CertifiedTextsAreFaultless = (before now : Held) (series queries rows asked name : List ℕ) (o v : Options) (text : List ℕ)
     → IsCertifiedText (Some before) series queries o text → length text ≤ most_bytes → AskAlike o v
-    → now data ≡ before series → now asked ≡ before queries → now name ≡ Some text
-    → IsFaultless (Some now) (Verify data asked name v)
+    → now rows ≡ before series → now asked ≡ before queries → now name ≡ Some text
+    → IsFaultless (Some now) (Verify rows asked name v)
 
 -- the text is sound for what the two files hold
 abbrev pub IsSoundForFiles : Option Held → List ℕ → List ℕ → Options → List ℕ → Type 0
