@@ -20,8 +20,8 @@ item_count s Nothing = length s.question.collection.series
 
 -- how many of them are a stretch, but for the last
 abbrev pub stretch_size : ApartBy → ℕ
-stretch_size Means = 64
-stretch_size Codes = 64
+stretch_size Means = 256
+stretch_size Codes = 256
 stretch_size Nothing = 64
 
 -- the numbers of the items of stretch n, where stretches have so many of so many items

@@ -44,7 +44,7 @@ pub(crate) fn scan_stretch<R: Rows>(
 
 // Scans some leaves in a row by the codes of their members' rows alone.
 fn sweep_leaves<R: Rows>(search: &Search<'_, R>, number: u32, limit: u64, list: &mut KBest)
-    requires number { number * 64 < length search.now.index.leaves }
+    requires number { number * 256 < length search.now.index.leaves }
     requires k { list.old.k ≡ search.now.question.k }
     ensures k { list.new.k ≡ search.now.question.k }
     ensures pairs { AreScanned search.now.question limit (stretch search.now Codes number) list.old.pairs list.new.pairs }

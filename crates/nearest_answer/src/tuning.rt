@@ -76,9 +76,9 @@ pub(crate) const VALUES_OF_START: u64 = 160_000;
 /// How many of the leaves that are listed a worker draws at a time.
 pub(crate) const ENTRIES_OF_STRETCH: usize = 16;
 
-/// How many leaves a worker draws at a time. Of noise leaves have two members each, and sixteen of them are swept in a microsecond: workers
-/// that draw so often wait for each other's draws. Of other data leaves have twenty or more, and of 256 of them the last are long waited for.
-pub(crate) const LEAVES_OF_STRETCH: u32 = 64;
+/// How many leaves a worker draws at a time where codes are swept. Of noise leaves have two members each, and sixteen of them are swept in a
+/// microsecond: workers that draw so often wait for each other's draws. With 64 at a time a sixth of the time by four workers went to draws.
+pub(crate) const LEAVES_OF_STRETCH: u32 = 256;
 
 /// How many rows a worker draws at a time where all rows are read.
 pub(crate) const ROWS_OF_STRETCH: u32 = 64;

@@ -9,7 +9,7 @@ use Rattle.nearest_answer.proofs.stretches.sweep_leaves.Goals as goal
 pub loop-leaf-init : goal.loop-leaf-init
 loop-leaf-init g c =
     let s = c.args.search.now in
-    let first = c.args.number * 64 in
+    let first = c.args.number * 256 in
     let none : 0 ≡ first - first = omega arith in
     record {
       k = c.requires.k;
@@ -23,7 +23,7 @@ loop-leaf-preserved g c =
     let s = c.args.search.now in
     record {
       k = c.sweep_leaf.ensures.k;
-      pairs = item_scanned s.question c.args.limit (leaf_series s.index) (c.args.number * 64) c.loop-leaf.leaf c.args.list.now.pairs
+      pairs = item_scanned s.question c.args.limit (leaf_series s.index) (c.args.number * 256) c.loop-leaf.leaf c.args.list.now.pairs
           c.loop-leaf.list.pairs c.sweep_leaf.new.list.pairs (omega arith) c.loop-leaf.invariant.pairs
           c.sweep_leaf.ensures.pairs;
     }
@@ -31,8 +31,8 @@ loop-leaf-preserved g c =
 pub returns-clause-pairs : goal.returns-clause-pairs
 returns-clause-pairs g c =
     let s = c.args.search.now in
-    let first = c.args.number * 64 in
+    let first = c.args.number * 256 in
     subst (λ (is : List ℕ). AreScanned s.question c.args.limit (flat_map (leaf_series s.index) is)
     c.args.list.now.pairs c.loop-leaf.list.pairs)
-    (all_items 64 (length s.index.leaves) c.args.number first c.loop-leaf.leaf refl (omega arith))
+    (all_items 256 (length s.index.leaves) c.args.number first c.loop-leaf.leaf refl (omega arith))
     c.loop-leaf.invariant.pairs

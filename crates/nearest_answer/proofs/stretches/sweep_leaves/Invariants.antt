@@ -8,7 +8,7 @@ use Rattle.nearest_answer.proofs.stretches.sweep_leaves.Given as goal
 abbrev pub invariant-loop-leaf : goal.invariant-loop-leaf
 invariant-loop-leaf g l = record {
   k : l.list.k ≡ l.fn.search.question.k;
-  pairs : let first = l.fn.number * 64 in
+  pairs : let first = l.fn.number * 256 in
       AreScanned l.fn.search.question l.fn.limit
       (flat_map (leaf_series l.fn.search.index) (range_with_len first (l.leaf - first))) l.fn.list.pairs l.list.pairs;
 }
