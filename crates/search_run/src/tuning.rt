@@ -11,15 +11,16 @@ pub const QUERIES_AHEAD: u32 = 2048;
 pub const FIRST_QUERIES_AHEAD: u32 = 32;
 
 /// How many queries a worker draws at a time, where so many would be its share. Those of a draw that are swept go through the codes of the
-/// rows in fours, in two thirds of the time; with fewer draws than two a worker, one would wait for another.
+/// rows in fours, in two thirds of the time. Queries differ in how long they take: with fewer draws than four a worker, the others wait for
+/// whoever drew the last.
 pub fn queries_of_draw(share: u32) -> u32
     ensures { (1 ≤ result) × (result ≤ 16) }
 {
     if share < 8 {
         1
-    } else if share < 16 {
-        4
     } else if share < 32 {
+        4
+    } else if share < 64 {
         8
     } else {
         16

@@ -123,15 +123,16 @@ fn passes<T: Threads + Wait + Sync>(
     Ok((status, gate.passes.load(Ordering::SeqCst)))
 }
 
-// Which write fails, and how often two workers have drawn queries by then, of 3000: before the first text they draw 32, eight at a time, and each
-// once in vain; and once as many as are written are drawn where all of these are written, 16 at a time from the 65th on, until no more are left.
+// Which write fails, and how often two workers have drawn queries by then, of 3000: before the first text they draw 32, four at a time, and each
+// once in vain; and once as many as are written are drawn where all of these are written, eight at a time from the 65th on and 16 from the 129th,
+// until no more are left.
 const AHEAD: [(u64, u64); 6] = [
-    (1, 6),
-    (32, 6),
-    (33, 12),
-    (65, 18),
-    (129, 28),
-    (2049, 208),
+    (1, 10),
+    (32, 10),
+    (33, 20),
+    (65, 30),
+    (129, 40),
+    (2049, 220),
 ];
 
 #[test]
