@@ -1,12 +1,11 @@
 -- Gaps and costs: the gap to a prefix is that to the nearest symbol (`gap_nearest`), a wider prefix
 -- has no greater gap, and the gap is at most the distance of two sums where the prefix holds the
 -- other (`gap_within`).
-use Rattle.std.proofs.Common.{◌≡◌, ℕ, zero, suc, ◌+◌, ◌-◌, ◌*◌, ◌^◌, ◌<◌, ◌≤◌, eqb, arith, refl, sym, ap, ◌∙◌, ⊎_elim, ◌⊎◌, inl, inr, ℤ, pos, negsuc, neg_ℤ, ◌-ℤ◌, ◌*ℤ◌, ◌<ℤ◌, ◌≤ℤ◌}
+use Rattle.std.proofs.Common.{◌≡◌, ℕ, zero, suc, ◌+◌, ◌-◌, ◌*◌, ◌<◌, ◌≤◌, eqb, arith, refl, sym, ap, ◌∙◌, ⊎_elim, ◌⊎◌, inl, inr, ℤ, pos, negsuc, neg_ℤ, ◌-ℤ◌, ◌*ℤ◌, ◌<ℤ◌, ◌≤ℤ◌}
 use Rattle.std.specs.Prelude.{min, max, unsigned_abs}
 use Rattle.std.proofs.lemmas.Int.{ints}
 use Rattle.std.proofs.lemmas.Bool.{ne_eqb, cond-false, cases_lt}
-use Rattle.std.proofs.lemmas.Nat.{mul-le, div_below, pow-add, pow_pos}
-use Rattle.std.proofs.Math.Nat.{mul-le-mul_right}
+use Rattle.std.proofs.lemmas.Nat.{mul-le, div_below}
 use Rattle.breakpoints.specs.declared.table.Table.{Table}
 use Rattle.breakpoints.specs.Breakpoint.{breakpoint}
 use Rattle.breakpoints.proofs.Ascending.{breakpoint_rises, breakpoint_within}

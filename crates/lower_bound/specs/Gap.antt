@@ -1,7 +1,7 @@
 -- How far a query's sum lies outside the sums of a prefix, and what that costs. The symbols from a up to b, b left
 -- out, stand for the sums from l * B_a to l * B_b - 1 of a segment of length l: open below where a is 0, and open
 -- above where b is 256.
-use Rattle.std.specs.Prelude.{ℕ, ℤ, pos, negsuc, ◌+◌, ◌-◌, ◌*◌, ◌/◌, ◌^◌, ◌==◌, if◌then◌else◌, ◌-ℤ◌, ◌*ℤ◌, ◌≤ℤ◌, neg_ℤ, ◌≡◌, ◌<◌, ◌≤◌, List, length, slice_index, min, max}
+use Rattle.std.specs.Prelude.{ℕ, ℤ, pos, negsuc, ◌+◌, ◌-◌, ◌*◌, ◌/◌, ◌==◌, if◌then◌else◌, ◌-ℤ◌, ◌*ℤ◌, ◌≤ℤ◌, neg_ℤ, ◌≡◌, ◌<◌, ◌≤◌, List, length, slice_index, min, max}
 use Rattle.breakpoints.specs.declared.table.Table.{Table}
 use Rattle.breakpoints.specs.Breakpoint.{breakpoint}
 use Rattle.isax_word.specs.declared.word.Part.{Part}

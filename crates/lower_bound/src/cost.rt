@@ -55,22 +55,23 @@ fn above(table: Table, length: u32, sum: i32, end: u32) -> u64
 }
 
 /// How far a sum lies outside the sums of one symbol.
-fn gap_of_symbol(table: Table, length: u32, sum: i32, symbol: u32) -> u64
+fn gap_of_symbol(table: Table, length: u32, sum: i32, symbol: u32) -> u32
     requires is_sum { IsSum length sum }
     requires eight_bits { symbol < 256 }
     ensures value { result ≡ gap table length sum symbol (symbol + 1) }
     ensures bound { result ≤ 4278190080 }
 {
-    below(table, length, sum, symbol) + above(table, length, sum, symbol + 1)
+    let gap = below(table, length, sum, symbol) + above(table, length, sum, symbol + 1);
+    gap as u32
 }
 
 /// The square of a gap by the length of the segment, rounded up. A length that is a power of two needs no division.
-fn cost_over(length: u32, gap: u64) -> u64
+fn cost_over(length: u32, gap: u32) -> u64
     requires some_values { 1 ≤ length }
     requires within_reach { gap ≤ 4278190080 }
     ensures { result ≡ cost_of_gap length gap }
 {
-    let square = gap * gap + u64::from(length - 1);
+    let square = u64::from(gap) * u64::from(gap) + u64::from(length - 1);
     let bits = length.ilog2();
     if length == 1 << bits {
         square >> bits
@@ -90,13 +91,14 @@ fn cost_of_symbol(table: Table, length: u32, sum: i32, symbol: u32) -> u64
 }
 
 /// How far a sum lies outside the sums of the symbols that begin with one bit.
-fn gap_of_bit(table: Table, length: u32, sum: i32, bit: u32) -> u64
+fn gap_of_bit(table: Table, length: u32, sum: i32, bit: u32) -> u32
     requires is_sum { IsSum length sum }
     requires one_bit { bit < 2 }
     ensures value { result ≡ gap table length sum (bit * 128) ((bit + 1) * 128) }
     ensures bound { result ≤ 4278190080 }
 {
-    below(table, length, sum, bit * 128) + above(table, length, sum, (bit + 1) * 128)
+    let gap = below(table, length, sum, bit * 128) + above(table, length, sum, (bit + 1) * 128);
+    gap as u32
 }
 
 /// The cost of one bit as a part, for a segment of this length and sum.
@@ -109,14 +111,12 @@ pub(crate) fn cost_of_bit(table: Table, length: u32, sum: i32, bit: u32) -> u64
     cost_over(length, gap)
 }
 
-/// The costs of all 256 symbols for a segment of this length and sum.
-pub(crate) fn costs_of_symbols(table: Table, length: u32, sum: i32) -> [u64; 256]
+/// Writes the costs of all 256 symbols for a segment of this length and sum.
+pub(crate) fn write_costs(table: Table, length: u32, sum: i32, costs: &mut [u64; 256])
     requires { IsSum length sum }
-    ensures { HoldsCosts table length sum result }
+    ensures { HoldsCosts table length sum costs.new }
 {
-    let mut costs = [0; 256];
     for symbol in 0..256u32 {
         costs[symbol as usize] = cost_of_symbol(table, length, sum, symbol);
     }
-    costs
 }

@@ -5,7 +5,7 @@ ghost use Rattle.std.specs.Prelude.{◌≡◌, ℕ, ◌*◌, ◌<◌, ◌^◌, l
 ghost use Rattle.isax_word.specs.Word.{one_bit_word};
 ghost use Rattle.lower_bound.specs.Bound.{IsView, view_of, word_bound, eight_bit_word};
 
-use crate::cost::costs_of_symbols;
+use crate::cost::write_costs;
 use crate::roots::bounds_of_bits;
 use isax_word::{Full, Layout, Word};
 use std::marker::Model;
@@ -48,7 +48,12 @@ impl QueryView {
         let mut costs = [none; 16];
         for j in 0..layout.cuts.segments() {
             let (from, to) = layout.cuts.cut(j);
-            costs[j as usize] = costs_of_symbols(layout.table, to - from, sums[j as usize]);
+            write_costs(
+                layout.table,
+                to - from,
+                sums[j as usize],
+                &mut costs[j as usize],
+            );
         }
         let full = Full::of(layout, query);
         let segments = layout.cuts.segments();

@@ -5,7 +5,7 @@ ghost use Rattle.std.specs.Prelude.{◌≡◌, ◌≤◌, ◌++◌, IfOk, IsPerm
 ghost use Rattle.list_totals.specs.Totals.{once_below};
 ghost use Rattle.series_core.specs.Answer.{answer};
 ghost use Rattle.search_task.specs.Questions.{ground_of, last_of};
-ghost use Rattle.nearest_answer.specs.Begun.{IsBegun};
+ghost use Rattle.nearest_answer.specs.Begun.{IsBegun, IsLeft};
 ghost use Rattle.nearest_answer.specs.NearLeaves.{AreNear, within_bound};
 
 use crate::all_rows::answer_by_rows;
@@ -70,19 +70,11 @@ pub(crate) fn begin_by_leaves<R: Rows>(
     let Begun {
         mut list,
         limit,
-        left,
+        mut left,
     } = listed;
-    let (closest, others) = split_closest(alloc, left, closest_count(search))?;
+    let (closest, others) = split_closest(alloc, left.as_mut_slice(), closest_count(search))?;
     scan_entries(search, &closest, limit, &mut list);
-    narrowed(
-        alloc,
-        search,
-        Begun {
-            list,
-            limit,
-            left: others,
-        },
-    )
+    narrowed(alloc, search, list, limit, others)
 }
 
 /// The leaves that are left within a first limit: all of them, or where there is no such limit, those that the closest leave.
@@ -153,37 +145,38 @@ fn closest_count<R: Rows>(search: &Search<'_, R>) -> usize {
 }
 
 /// So many entries of least bound and one, in the order of their bounds, and the others; all of them and none where there are no more.
-pub(crate) fn split_closest(
+pub(crate) fn split_closest<'a>(
     alloc: Global,
-    mut entries: Vec<Entry>,
+    entries: &'a mut [Entry],
     count: usize,
-) -> Result<(Vec<Entry>, Vec<Entry>), NoMemory>
-    ensures { IfOk result (λ r. IsPermutation entries.items (r.0.items ++ r.1.items)) }
+) -> Result<(Vec<Entry>, &'a [Entry]), NoMemory>
+    ensures { IfOk result (λ r. IsPermutation entries.old (r.0.items ++ r.1.now)) }
 {
     if entries.len() <= count {
-        return Ok((ordered(entries, Order::Bounds), Vec::new(alloc)));
+        return Ok((ordered(entries.to_vec(alloc)?, Order::Bounds), &[]));
     }
     let (closest, next, others) = entries.select_nth_unstable_by_key(count, |entry| entry.bound);
     let mut first = closest.to_vec(alloc)?;
     first.push(*next)?;
-    let behind = others.to_vec(alloc)?;
-    Ok((ordered(first, Order::Bounds), behind))
+    Ok((ordered(first, Order::Bounds), others))
 }
 
-/// The limit falls to the k-th pair of the list, and what is beyond it is left no more.
+/// A search with this list and limit, and these leaves left: the limit falls to the k-th pair of the list, and what is beyond it is left
+/// no more.
 pub(crate) fn narrowed<R: Rows>(
     alloc: Global,
     search: &Search<'_, R>,
-    begun: Begun,
+    list: KBest,
+    limit: u64,
+    left: &[Entry],
 ) -> Result<Begun, NoMemory>
-    requires begun { IsBegun search.now begun }
+    requires left { IsLeft search.now limit list left.now }
     ensures { IfOk result (λ b. IsBegun search.now b) }
 {
     // for the fact that the index can be searched for the question
     let _k = search.k();
-    let Begun { list, limit, left } = begun;
     let closer = distance_of_worst(&list).min(limit);
-    let within = within_bound(alloc, &left, closer)?;
+    let within = within_bound(alloc, left, closer)?;
     Ok(Begun {
         list,
         limit: closer,

@@ -161,16 +161,11 @@ fn closer_together<T: Threads + Sync, R: Rows + Sync, G: Gate + Sync>(
     let Begun {
         mut list,
         limit,
-        left,
+        mut left,
     } = begun;
-    let (closest, others) = split_closest(crew.alloc, left, shared_first(search))?;
+    let (closest, others) = split_closest(crew.alloc, left.as_mut_slice(), shared_first(search))?;
     scan_together(crew, search, &closest, limit, &mut list)?;
-    let scanned = Begun {
-        list,
-        limit,
-        left: others,
-    };
-    narrowed(crew.alloc, search, scanned)
+    narrowed(crew.alloc, search, list, limit, others)
 }
 
 // All that is left is scanned by all workers.

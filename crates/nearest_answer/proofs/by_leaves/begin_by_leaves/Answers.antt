@@ -1,5 +1,5 @@
 -- The closest are leaves, and where they were scanned the others are left.
-use Rattle.std.proofs.Common.{◌++◌, List, sym, subst}
+use Rattle.std.proofs.Common.{◌++◌, List, sym, subst, IsPermutation}
 use Rattle.std.specs.List.{All}
 use Rattle.series_core.specs.declared.queue_words.Entry.{Entry}
 use Rattle.nearest_answer.specs.NearLeaves.{IsLeafEntry, leaves_in}
@@ -13,9 +13,11 @@ scan_entries-requires-clause-leaves g c =
     let listed = c.in_ok-listed.listed in
     let was = c.in_ok-listed.ensures.left in
     let closest = c.in_ok-closest.closest.items in
-    let others = c.in_ok-closest.others.items in
+    let others = c.in_ok-closest.others.now in
     let ps = listed.list.pairs in
-    let are = left_moved ground listed.limit was.0 ps listed.left.items (closest ++ others) c.in_ok-closest.ensures was.1 in
+    let parted : IsPermutation listed.left.items (closest ++ others)
+    = subst (λ (es : List Entry). IsPermutation es (closest ++ others)) c.as_mut_slice.ensures.value c.in_ok-closest.ensures in
+    let are = left_moved ground listed.limit was.0 ps listed.left.items (closest ++ others) parted was.1 in
     subst (All (IsLeafEntry ground)) (sym c.deref.ensures.value)
     (first_entries ground listed.limit was.0 ps closest others are)
 
@@ -25,12 +27,14 @@ narrowed-requires g c =
     let listed = c.in_ok-listed.listed in
     let was = c.in_ok-listed.ensures.left in
     let closest = c.in_ok-closest.closest.items in
-    let others = c.in_ok-closest.others.items in
+    let others = c.in_ok-closest.others.now in
     let ps = listed.list.pairs in
     let qs = c.scan_entries.new.list.pairs in
-    let are = left_moved ground listed.limit was.0 ps listed.left.items (closest ++ others) c.in_ok-closest.ensures was.1 in
+    let parted : IsPermutation listed.left.items (closest ++ others)
+    = subst (λ (es : List Entry). IsPermutation es (closest ++ others)) c.as_mut_slice.ensures.value c.in_ok-closest.ensures in
+    let are = left_moved ground listed.limit was.0 ps listed.left.items (closest ++ others) parted was.1 in
     record {
-      begun = record {
+      left = record {
         limit = c.in_ok-listed.ensures.limit;
         list = c.scan_entries.ensures.list;
         left = (

@@ -8,15 +8,10 @@ pub returns : goal.returns
 returns c =
     let p = c.select_nth_unstable_by_key-closest.result in
     let copied : c.in_ok-first.first.items ≡ p.0.now = search rules in
-    let behind : c.in_ok-behind.behind.items ≡ p.2.now = search rules in
     let first : c.push.new.self.items ≡ p.0.now ++ p.1.now ∷ []
     = c.in_ok-push.ensures.items ∙ ap (λ (es : List Entry). es ++ p.1.now ∷ []) copied in
-    let whole : IsPermutation c.args.entries.items (p.0.now ++ p.1.now ∷ p.2.now)
-    = subst (λ (es : List Entry). IsPermutation es (p.0.now ++ p.1.now ∷ p.2.now)) c.deref_mut.ensures.value
-    c.select_nth_unstable_by_key-closest.ensures.permutation in
-    let parts : p.0.now ++ p.1.now ∷ p.2.now ≡ c.push.new.self.items ++ c.in_ok-behind.behind.items
-    = sym (append_assoc p.0.now (p.1.now ∷ []) p.2.now) ∙ (λ i. sym first i ++ sym behind i) in
-    IsPermutation-trans c.args.entries.items (c.push.new.self.items ++ c.in_ok-behind.behind.items)
-    (c.ordered-2.result.items ++ c.in_ok-behind.behind.items)
-    (subst (IsPermutation c.args.entries.items) parts whole)
-    (IsPermutation-append_left c.in_ok-behind.behind.items c.push.new.self.items c.ordered-2.result.items c.ordered-2.ensures)
+    let parts : p.0.now ++ p.1.now ∷ p.2.now ≡ c.push.new.self.items ++ p.2.now
+    = sym (append_assoc p.0.now (p.1.now ∷ []) p.2.now) ∙ ap (λ (es : List Entry). es ++ p.2.now) (sym first) in
+    IsPermutation-trans c.args.entries.now (c.push.new.self.items ++ p.2.now) (c.ordered-2.result.items ++ p.2.now)
+    (subst (IsPermutation c.args.entries.now) parts c.select_nth_unstable_by_key-closest.ensures.permutation)
+    (IsPermutation-append_left p.2.now c.push.new.self.items c.ordered-2.result.items c.ordered-2.ensures)

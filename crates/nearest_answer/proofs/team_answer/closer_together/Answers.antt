@@ -1,5 +1,5 @@
 -- The closest are leaves, each listed once, and where they were scanned the others are left.
-use Rattle.std.proofs.Common.{◌++◌, ◌≤◌, ℕ, List, sym, subst}
+use Rattle.std.proofs.Common.{◌++◌, ◌≤◌, ℕ, List, sym, subst, IsPermutation}
 use Rattle.std.specs.List.{All}
 use Rattle.list_totals.specs.Totals.{times}
 use Rattle.series_core.specs.declared.queue_words.Entry.{Entry}
@@ -14,8 +14,10 @@ scan_together-requires-clause-leaves g c κs within =
     let b = c.args.begun in
     let was = c.requires.begun.left in
     let closest = c.in_ok-closest.closest.items in
-    let others = c.in_ok-closest.others.items in
-    let are = left_moved ground b.limit was.0 b.list.pairs b.left.items (closest ++ others) c.in_ok-closest.ensures was.1 in
+    let others = c.in_ok-closest.others.now in
+    let parted : IsPermutation b.left.items (closest ++ others)
+    = subst (λ (es : List Entry). IsPermutation es (closest ++ others)) c.as_mut_slice.ensures.value c.in_ok-closest.ensures in
+    let are = left_moved ground b.limit was.0 b.list.pairs b.left.items (closest ++ others) parted was.1 in
     subst (All (IsLeafEntry ground)) (sym c.deref.ensures.value)
     (first_entries ground b.limit was.0 b.list.pairs closest others are)
 
@@ -25,8 +27,10 @@ scan_together-requires-clause-once g c κs within =
     let b = c.args.begun in
     let was = c.requires.begun.left in
     let closest = c.in_ok-closest.closest.items in
-    let others = c.in_ok-closest.others.items in
-    let are = left_moved ground b.limit was.0 b.list.pairs b.left.items (closest ++ others) c.in_ok-closest.ensures was.1 in
+    let others = c.in_ok-closest.others.now in
+    let parted : IsPermutation b.left.items (closest ++ others)
+    = subst (λ (es : List Entry). IsPermutation es (closest ++ others)) c.as_mut_slice.ensures.value c.in_ok-closest.ensures in
+    let are = left_moved ground b.limit was.0 b.list.pairs b.left.items (closest ++ others) parted was.1 in
     subst (λ (es : List Entry). (l : ℕ) → times l (leaves_in es) ≤ 1) (sym c.deref.ensures.value)
     (first_once ground b.limit was.0 b.list.pairs closest others are)
 
@@ -36,12 +40,14 @@ narrowed-requires g c =
     let b = c.args.begun in
     let was = c.requires.begun.left in
     let closest = c.in_ok-closest.closest.items in
-    let others = c.in_ok-closest.others.items in
+    let others = c.in_ok-closest.others.now in
     let ps = b.list.pairs in
     let qs = c.scan_together.new.list.pairs in
-    let are = left_moved ground b.limit was.0 ps b.left.items (closest ++ others) c.in_ok-closest.ensures was.1 in
+    let parted : IsPermutation b.left.items (closest ++ others)
+    = subst (λ (es : List Entry). IsPermutation es (closest ++ others)) c.as_mut_slice.ensures.value c.in_ok-closest.ensures in
+    let are = left_moved ground b.limit was.0 ps b.left.items (closest ++ others) parted was.1 in
     record {
-      begun = record {
+      left = record {
         limit = c.requires.begun.limit;
         list = c.in_ok-scan_together.ensures.list;
         left = (

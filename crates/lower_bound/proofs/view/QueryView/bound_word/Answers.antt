@@ -1,10 +1,10 @@
 -- One more cost is looked up, that of the nearest symbol, and added; the whole bound is below 2^49.
-use Rattle.std.proofs.Common.{◌≡◌, ◌+◌, ◌<◌, [], arith, ap, ◌∙◌, subst, get_or, drop, length}
+use Rattle.std.proofs.Common.{◌≡◌, arith, ap, ◌∙◌, subst, get_or, drop}
 use Rattle.std.specs.Prelude.{min, max}
 use Rattle.std.proofs.lemmas.List.{drop_all}
 use Rattle.isax_word.specs.Padded.{padded}
-use Rattle.isax_word.specs.Word.{first_symbols, last_symbols}
-use Rattle.lower_bound.specs.Bound.{IsView, HoldsView, parts_bound, word_bound}
+use Rattle.isax_word.specs.Word.{last_symbols}
+use Rattle.lower_bound.specs.Bound.{IsView, HoldsView, parts_bound}
 use Rattle.lower_bound.proofs.Nearest.{bound_next, found_at}
 use Rattle.lower_bound.proofs.Views.{part_bound-lt}
 use Rattle.lower_bound.proofs.view.QueryView.bound_word.Goals as goal

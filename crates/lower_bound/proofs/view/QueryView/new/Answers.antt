@@ -13,8 +13,8 @@ use Rattle.lower_bound.proofs.Views.{HoldsView-view_of}
 use Rattle.lower_bound.proofs.HalfBounds.{view_of_sums, IsView-of_sums}
 use Rattle.lower_bound.proofs.view.QueryView.new.Goals as goal
 
-pub costs_of_symbols-requires : goal.costs_of_symbols-requires
-costs_of_symbols-requires c =
+pub write_costs-requires : goal.write_costs-requires
+write_costs-requires c =
     let fits : FitsSigned w32 (get_or c.sums.new.into c.loop-j.j (pos 0)) = search rules in
     let bounds = sum_bounds c.args.layout.now.cuts c.args.query.now c.sums.new.into _ c.loop-j.j _ _ c.sums.ensures.sums
     c.sums.ensures.not_low c.sums.ensures.not_high (omega (arith, c.segments-j-end.ensures.value)) fits
@@ -29,7 +29,7 @@ costs_of_symbols-requires c =
 pub loop-j-preserved : goal.loop-j-preserved
 loop-j-preserved c =
     let costs = c.loop-j.costs in
-    let made = c.costs_of_symbols.result in
+    let made = c.write_costs.new.costs in
     let layout = c.args.layout.now in
     let cuts = layout.cuts in
     let query = c.args.query.now in
@@ -50,7 +50,7 @@ loop-j-preserved c =
     let here : HoldsCosts layout.table (segment_length cuts j) (segment_sum cuts query j) made
     = subst (λ n. HoldsCosts layout.table n (segment_sum cuts query j) made) long
     (subst (λ s. HoldsCosts layout.table (c.cut-from.result.1 - c.cut-from.result.0) s made) sum
-    c.costs_of_symbols.ensures) in
+    c.write_costs.ensures) in
     record {
       whole = length-set costs j made ∙ c.loop-j.invariant.whole;
       each = below_more _ _

@@ -4,7 +4,7 @@ use Rattle.std.specs.Int.{w32}
 use Rattle.std.proofs.lemmas.Int.{to_z-of_z}
 use Rattle.std.proofs.lemmas.List.{length-set}
 use Rattle.lower_bound.specs.Gap.{HoldsCosts}
-use Rattle.lower_bound.proofs.cost.costs_of_symbols.Goals as goal
+use Rattle.lower_bound.proofs.cost.write_costs.Goals as goal
 
 pub loop-symbol-preserved : goal.loop-symbol-preserved
 loop-symbol-preserved c =

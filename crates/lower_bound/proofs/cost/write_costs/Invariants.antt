@@ -1,7 +1,7 @@
 -- Each cost written so far is that of its symbol.
 use Rattle.std.proofs.Common.{ℕ, ◌≡◌, ◌<◌, get_or, length}
 use Rattle.lower_bound.specs.Gap.{symbol_cost}
-use Rattle.lower_bound.proofs.cost.costs_of_symbols.Given as goal
+use Rattle.lower_bound.proofs.cost.write_costs.Given as goal
 
 abbrev pub invariant-loop-symbol : goal.invariant-loop-symbol
 invariant-loop-symbol l = record {
