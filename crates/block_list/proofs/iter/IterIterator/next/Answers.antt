@@ -20,12 +20,12 @@ standing g c =
     let P : Inside g.row.T.Denot → Type 0 = λ s. Stands c.args.self.now s in
     elim c.if-self.branch [
       | then-self+else-not-self w ↦
-      let told = subst (λ (bs : List (Block g.row.T.Denot)). Tells bs) w.step-block.ensures c.self.invariant.2 in
-      subst P (sym w.self-inside-is) (
-        Entered-next c.args.self.now was.items was.at was.used was.walk.items _ _ w.if-self.true (sym c.self.view_is) w.step-block.ensures,
-        told.0,
-        told.1,
-      )
+          let told = subst (λ (bs : List (Block g.row.T.Denot)). Tells bs) w.step-block.ensures c.self.invariant.2 in
+          subst P (sym w.self-inside-is) (
+            Entered-next c.args.self.now was.items was.at was.used was.walk.items _ _ w.if-self.true (sym c.self.view_is) w.step-block.ensures,
+            told.0,
+            told.1,
+          )
       | else-self w ↦ subst P (sym w.self-inside-is) (
         Entered-inside c.args.self.now was.items was.at was.used (flat was.walk.items) c.self.invariant.0 w.if-self.false (sym c.self.view_is),
         c.self.invariant.1,
