@@ -1,5 +1,5 @@
 -- A bucket in front that is sorted is a run, and so is a run that takes in an entry behind it.
-use Rattle.std.proofs.Common.{◌≡◌, ◌≢◌, ◌⊎◌, ℕ, zero, suc, ◌+◌, ◌-◌, ◌/◌, ◌^◌, ◌<◌, ◌≤◌, List, ◌∷◌, ◌++◌, length, take, drop, get_or, is_lt, nat_cmp, true, false, IsPermutation, sym, ap, ◌∙◌, subst, arith, ⊎_elim, All, length-append}
+use Rattle.std.proofs.Common.{◌≡◌, ◌≢◌, ◌⊎◌, ℕ, zero, suc, ◌+◌, ◌-◌, ◌/◌, ◌^◌, ◌<◌, ◌≤◌, List, ◌++◌, length, take, drop, get_or, is_lt, nat_cmp, true, false, IsPermutation, sym, ap, ◌∙◌, subst, arith, ⊎_elim, All, length-append}
 use Rattle.std.specs.Ordering.{ordering_then}
 use Rattle.std.specs.List.{SwappedAt}
 use Rattle.std.proofs.Math.Numerals.{add-one}
@@ -128,10 +128,6 @@ module _ (n : ℕ) (xs front : List Entry) (inside : n ≤ length xs)
       near_or_far : (j n : ℕ) → (j < n) ⊎ (n ≤ j)
       near_or_far j n = grind arith
 
--- entries that all stand in front are cut behind the last
-pub cut_at_end : (n : ℕ) (xs : List Entry) → length xs ≤ n → IsCut n xs
-cut_at_end n xs all i j d i_in j_in inside = absurd (omega arith)
-
 -- a bound in an earlier bucket is less
 earlier_bucket : (b : Buckets) (x y : ℕ) → bucket_of b x < bucket_of b y → x < y
 earlier_bucket b x y less = ⊎_elim
@@ -248,17 +244,3 @@ pub run_least : (n : ℕ) (xs : List Entry) (x : Entry) → IsRun n xs → 0 < n
 run_least n xs x run some first = λ k d inside.
     subst (λ (e : Entry). NotAfter e (get_or xs k d)) (get_or_default xs 0 d x (omega arith) ∙ sym first)
     (run 0 k d some (omega arith) inside)
-
--- a run without its first
-pub run_without_first : (n : ℕ) (x : Entry) (xs : List Entry) → IsRun n (x ∷ xs) → IsRun (n - 1) xs
-run_without_first n x xs run i j d i_in later inside =
-    run (suc i) (suc j) d (omega arith) (omega arith) (omega arith)
-
--- what is dealt stays so without an entry in front
-pub dealt_without_first : (b : Buckets) (n : ℕ) (x : Entry) (xs : List Entry) → IsDealt b n (x ∷ xs)
-    → IsDealt b (n - 1) xs
-dealt_without_first b n x xs dealt = record {
-  shift = dealt.shift;
-  rises = λ i j d from later inside.
-      dealt.rises (suc i) (suc j) d (omega arith) (omega arith) (omega arith);
-}

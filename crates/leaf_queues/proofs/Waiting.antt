@@ -3,7 +3,7 @@ use Rattle.std.proofs.Common.{◌≡◌, ℕ, zero, suc, ◌+◌, ◌-◌, ◌<�
 use Rattle.std.proofs.lemmas.Bool.Decides.{nat_tests}
 use Rattle.std.proofs.lemmas.List.{append-nil, drop_all, drop_at, drop_more, nil_from_length, get_or-drop, take_at, take_more, take_rest, with_items_is, length-drop, length-take-le}
 use Rattle.std.proofs.lemmas.List.Elements.{All-tail}
-use Rattle.std.proofs.lemmas.List.Sorted.{All-permutation, length_permutation}
+use Rattle.std.proofs.lemmas.List.Sorted.{length_permutation}
 use Rattle.std.specs.List.Sorted.{IsPermutation}
 use Rattle.std.specs.Vec.{with_items}
 use borrow.Rule.Slice.PartMut.{put_mid, mid_of}
@@ -22,12 +22,6 @@ use Rattle.leaf_queues.proofs.Lines.{run_least}
 pub none_left : (o : Option ℕ) → ((v : ℕ) → o ≡ Some v → ⊥) → o ≡ None
 none_left None h = refl
 none_left (Some v) h = absurd (h v refl)
-
--- no entry of the rest comes before an entry that is least in the whole
-pub least_of_rest : (xs ys : List Entry) (x : Entry) → IsPermutation xs (x ∷ ys) → IsLeast x xs
-    → IsLeast x ys
-least_of_rest xs ys x p h =
-    All-tail (NotAfter x) x ys (All-permutation (NotAfter x) xs (x ∷ ys) p h)
 
 -- the test of a run's first entry is that of the least waiting one
 pub first_within : (n : ℕ) (x : Entry) (xs : List Entry) (v : ℕ) → IsRun n xs → 0 < n

@@ -1,8 +1,6 @@
 -- Squares of numbers of at most 16383 do not wrap in 32 bits (`squares_are`), and they add up to at most as many greatest squares
--- (`squares_small`); those of the even and of the odd lanes add up to that (`sums_of_pairs`).
-use Rattle.std.proofs.Common.{◌≡◌, ℕ, ◌+◌, ◌*◌, ◌%◌, ◌<◌, ◌≤◌, refl, ap, arith, List, [], ◌∷◌, map, length, ◌++◌, get_or, sym}
-use Rattle.std.proofs.lemmas.List.FromFn.{fill_by_all}
-use Rattle.std.proofs.Math.ListN.{get_or-append}
+-- (`squares_small`).
+use Rattle.std.proofs.Common.{◌≡◌, ℕ, ◌*◌, ◌%◌, ◌≤◌, refl, arith, List, [], ◌∷◌, map, length}
 use Rattle.std.proofs.Math.Nat.{suc-mul, mul-le-mul}
 use Rattle.std.specs.Simd.Lanes.{zip2, sum_l, Each1}
 use Rattle.mean_bound.specs.MeanBound.{square}
@@ -25,13 +23,3 @@ squares_small most (n ∷ ns) small =
     let fits : n * n ≤ most * most = mul-le-mul small.0 small.0 in
     let rest = squares_small most ns small.1 in
     omega (arith, suc-mul (length ns) (most * most))
-
--- the sums of the even and of the odd lanes add up to the sum of all
-pub sums_of_pairs : (xs : List ℕ) → length xs ≡ 16
-    → let at : ℕ → ℕ = λ i. get_or (xs ++ xs) i 0 in
-    at 0 + (at 2 + (at 4 + (at 6 + (at 8 + (at 10 + (at 12 + (at 14 + 0)))))))
-    + (at 1 + (at 3 + (at 5 + (at 7 + (at 9 + (at 11 + (at 13 + (at 15 + 0)))))))) ≡ sum_l xs
-sums_of_pairs xs long =
-    let at : ℕ → ℕ = λ i. get_or (xs ++ xs) i 0 in
-    let all = fill_by_all at xs 16 0 long (λ i inside. sym (get_or-append xs xs 0 i (omega (arith, long, inside)))) in
-    omega (arith, ap sum_l all)

@@ -152,12 +152,6 @@ counted values n step c same some =
     sym (count_some (length values) n step some) ∙ sym (length-windows values n step)
     ∙ ap (λ (d : Collection). length d.series) same
 
-pub counted_none : (values : List ℤ) (n step : ℕ) (c : Collection) → collection_of values n step ≡ c
-    → length values < n → 0 ≡ length c.series
-counted_none values n step c same none =
-    sym (count_none (length values) n step none) ∙ sym (length-windows values n step)
-    ∙ ap (λ (d : Collection). length d.series) same
-
 -- an entry of the collection ends within the values
 pub entry_fits : (values : List ℤ) (n step i : ℕ) (c : Collection)
     → collection_of values n step ≡ c → 0 < step

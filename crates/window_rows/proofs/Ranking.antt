@@ -94,22 +94,6 @@ module _ (far : ℕ) (pairs : List Pair) where
       let none = chosen_ended k (omega (arith, size, length-append (chosen k) (p ∷ []), h)) in
       absurd (none-some p (sym none ∙ e)))
 
-  -- a choice that has all its ranks stays, whatever follows
-  pub chosen_full : (rest : List Pair) (k : ℕ) → length (chosen k) ≡ k
-      → chosen_apart far (pairs ++ rest) k ≡ chosen k
-  chosen_full rest zero full = refl
-  chosen_full rest (suc k) full =
-      found_or_not (next k)
-      (λ e. absurd (omega (arith, chosen_size k, ap length (chosen_none k e), full)))
-      (λ p e.
-      let size = ap length (chosen_some k p e) in
-      let before = chosen_full rest k
-      (omega (arith, size, length-append (chosen k) (p ∷ []), full)) in
-      ap (λ c. c ++ option_to_list (find (is_apart_from far c) (pairs ++ rest))) before
-      ∙ ap (λ o. chosen k ++ option_to_list o)
-      (find-append (is_apart_from far (chosen k)) pairs rest
-      ∙ ap (λ o. option_or o (find (is_apart_from far (chosen k)) rest)) e ∙ sym e))
-
 module _ (far : ℕ) (some : 0 < far) (pairs : List Pair) (p : Pair) where
   -- the choice before the pair, and with it
   abbrev before : ℕ → List Pair

@@ -1,5 +1,5 @@
 -- One more raised sum stands behind those so far, in place of a zero.
-use Rattle.std.proofs.Common.{rules, zero, suc, ◌≡◌, ◌∙◌, ◌+◌, ◌*◌, ◌-◌, ◌<◌, ◌≤◌, ℕ, pos, arith, ap, subst, below_more, get_or}
+use Rattle.std.proofs.Common.{rules, zero, suc, ◌≡◌, ◌∙◌, ◌*◌, ◌-◌, ◌<◌, ◌≤◌, ℕ, pos, arith, ap, subst, below_more, get_or}
 use Rattle.std.specs.Prelude.{FitsSigned}
 use Rattle.std.specs.Int.{w32}
 use Rattle.std.proofs.lemmas.Int.{to_z-of_z}

@@ -1,5 +1,5 @@
 -- A symbol is below 256.
-use Rattle.std.proofs.Common.{◌≡◌, ◌+◌, ◌-◌, ◌*◌, ◌^◌, arith, ap}
+use Rattle.std.proofs.Common.{◌≡◌, ◌-◌, ◌*◌, ◌^◌, arith, ap}
 use Rattle.isax_word.proofs.Words.{part_symbols}
 use Rattle.isax_word.proofs.word.Part.first_symbol.Goals as goal
 

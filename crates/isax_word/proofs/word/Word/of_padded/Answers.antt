@@ -1,5 +1,5 @@
 -- The symbols of one part more are kept.
-use Rattle.std.proofs.Common.{◌≡◌, ◌<◌, arith, ap, ◌∙◌, refl, subst, sym, get_or, take, length}
+use Rattle.std.proofs.Common.{◌≡◌, ◌<◌, arith, refl, subst, take, length}
 use Rattle.std.proofs.lemmas.List.{get_or-take}
 use Rattle.std.proofs.lemmas.List.Elements.{All-get_or}
 use Rattle.isax_word.specs.Word.{IsPart, no_part, first_symbol, last_symbol}
