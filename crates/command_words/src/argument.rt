@@ -1,5 +1,5 @@
 //! The arguments of a command, and the `clap` command that reads them.
-ghost use Rattle.std.specs.Prelude.{◌≡◌, IfOk, false, map};
+ghost use Rattle.std.specs.Prelude.{◌≡◌, IfOk, false};
 ghost use Rattle.clap.specs.Words.{app_of, rule_of};
 ghost use Rattle.command_words.specs.Argument.{app_of_arguments, rule_for};
 

@@ -19,8 +19,8 @@ pub use command::Command;
 pub use error::WordsError;
 pub use laws::one_command_law;
 pub use limits::{
-    MOST_APART, MOST_LEAF, MOST_NEAREST, MOST_POINTS, MOST_QUERIES, MOST_QUEUES, MOST_RADIUS,
-    MOST_SEGMENTS, MOST_SERIES, MOST_VALUES, MOST_WORKERS, USUAL_LEAF, USUAL_QUEUES, USUAL_WORKERS,
+    MOST_LEAF, MOST_NEAREST, MOST_POINTS, MOST_QUERIES, MOST_QUEUES, MOST_SEGMENTS, MOST_SERIES,
+    MOST_VALUES, MOST_WORKERS, USUAL_LEAF,
 };
 pub use options::Options;
 pub use parse::parse_words;

@@ -18,7 +18,7 @@ pub const MOST_QUEUES: u32 = 64;
 /// The most values of a series.
 pub const MOST_POINTS: u32 = 65536;
 
-/// The most numbers from one chosen window to the next.
+/// The most by which the numbers of two chosen windows may be asked to differ.
 pub const MOST_APART: u32 = 512;
 
 /// The greatest radius: 2 to the power of 48.

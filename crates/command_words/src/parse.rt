@@ -1,5 +1,5 @@
 //! The settings of words, read command by command, and of a whole command line.
-ghost use Rattle.std.specs.Prelude.{◌≡◌, ℕ, List, IfOk, Some, map, option_and_then, slice_get, string_bytes};
+ghost use Rattle.std.specs.Prelude.{◌≡◌, IfOk, map, option_and_then, slice_get, string_bytes};
 ghost use Rattle.command_words.specs.Absence.{HoldsAbsence, IndexStandsAlone};
 ghost use Rattle.command_words.specs.CommandName.{named_by};
 ghost use Rattle.command_words.specs.Limits.{KeepsLimits, OptionsKeepLimits};
@@ -124,8 +124,8 @@ fn command_named(words: &[String]) -> Option<CommandName>
 }
 
 /// What the words ask for. The first word names the command, and the words after it are read by that
-/// command's rules; a number is well spelled and within its limits. Usage comes exactly where the words
-/// have no settings, and yields to NoMemory.
+/// command's rules; a number is well spelled and within its limits. Usage comes only where the words have
+/// no settings; where they have none and memory runs out before that is known, NoMemory comes.
 pub fn parse_words(alloc: Global, words: &[String]) -> Result<Command, WordsError>
     ensures ok { IfOk result (λ c. HasSettings (map string_bytes words.now) c) }
     ensures limits { IfOk result KeepsLimits }

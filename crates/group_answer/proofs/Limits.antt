@@ -1,6 +1,6 @@
 -- What the k nearest of some leaves' members tell: no limit falls below the last distance (`worst_enough`), however many leaves were
 -- scanned, each once (`leaf_more`).
-use Rattle.std.proofs.Common.{◌≡◌, ℕ, ◌≤◌, ◌<◌, ◌+◌, List, [], ◌∷◌, arith}
+use Rattle.std.proofs.Common.{◌≡◌, ℕ, ◌≤◌, ◌<◌, ◌+◌, List, ◌∷◌, arith}
 use Rattle.list_totals.specs.Totals.{times}
 use Rattle.series_core.specs.declared.pair.Pair.{Pair}
 use Rattle.series_core.specs.declared.distance.TheConstants.{NONE}
@@ -8,21 +8,13 @@ use Rattle.search_machine.specs.Ground.{Fits, Ground, last, scan, worst}
 use Rattle.search_machine.specs.Sound.{ListSound}
 use Rattle.search_machine.proofs.Counts.{times_cons}
 use Rattle.search_machine.proofs.PlainList.{last_none, last_worst}
-use Rattle.search_machine.proofs.Scans.{list_none, list_scanned}
+use Rattle.search_machine.proofs.Scans.{list_scanned}
 
 -- the members of some leaves were scanned, each of a number below m
 pub record OfLeavesBelow (g : Ground) (m : ℕ) (ps : List Pair) : Type 0 where
   pub met : List ℕ
   pub below : (l : ℕ) → m ≤ l → times l met ≡ 0
   pub sound : ListSound g met ps
-
--- those of none
-pub no_leaf_yet : (g : Ground) (m : ℕ) → OfLeavesBelow g m []
-no_leaf_yet g m = record {
-  met = [];
-  below = λ l h. omega arith;
-  sound = list_none g (Unit {0});
-}
 
 module _ (g : Ground) (fits : Fits g) where
   -- and those of one leaf more

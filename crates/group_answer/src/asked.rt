@@ -1,6 +1,6 @@
 //! What several queries are asked of, and what is found for them.
-ghost use Rattle.std.specs.Prelude.{◌≡◌, ◌<◌, length};
-ghost use Rattle.group_answer.specs.Asking.{IsAsked, question_of};
+ghost use Rattle.std.specs.Prelude.{◌≡◌, ◌<◌, ◌≤◌, IfSome, length};
+ghost use Rattle.group_answer.specs.Asking.{AreAnswers, IsAsked, answer_to, question_of};
 
 use isax_word::Layout;
 use search_task::Task;
@@ -32,8 +32,8 @@ pub struct Answered {
 }
 
 impl<'a, R: Rows> Asked<'a, R> {
-    // The task of query i.
-    pub(crate) fn task(&self, i: u32) -> Task<'a, R>
+    /// The task of query i.
+    pub fn task(&self, i: u32) -> Task<'a, R>
         requires asked { IsAsked R.collection self.now }
         requires below { i < length self.now.queries.now.series }
         ensures { result ≡ question_of R.collection self.now i }
@@ -41,5 +41,19 @@ impl<'a, R: Rows> Asked<'a, R> {
         // for the fact that the queries are a collection
         let _length = self.queries.length();
         Task::new(self.rows, self.queries.row(i), self.k, self.layout)
+    }
+
+    /// Takes the answer to query i, where it is the last of those found ahead.
+    pub fn take(&self, ahead: &mut Vec<Answered>, i: u32) -> Option<PairList>
+        requires ahead { AreAnswers R.collection self.now ahead.old.items }
+        ensures right { IfSome result (λ pairs. pairs ≡ answer_to R.collection self.now i) }
+        ensures ahead { AreAnswers R.collection self.now ahead.new.items }
+        ensures few { length ahead.new.items ≤ length ahead.old.items }
+    {
+        if ahead.last()?.number != i {
+            return None;
+        }
+        let found = ahead.pop()?;
+        Some(found.pairs)
     }
 }

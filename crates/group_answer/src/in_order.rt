@@ -1,7 +1,8 @@
 //! The answers to queries in their order: from what was found ahead, with those behind, or by one worker alone.
-ghost use Rattle.std.specs.Prelude.{◌≡◌, ◌-◌, ◌<◌, ◌≤◌, IfOk, IfSome, length, map, max};
+ghost use Rattle.std.specs.Prelude.{◌≡◌, ◌-◌, ◌<◌, ◌≤◌, IfOk, length, map, max};
 ghost use Rattle.std.specs.List.{range_with_len};
 ghost use Rattle.group_answer.specs.Asking.{AreAnswers, IsAsked, answer_to};
+ghost use Rattle.group_answer.specs.declared.tuning.TheConstants.{GROUP};
 
 use crate::asked::{Answered, Asked};
 use crate::together::swept_together;
@@ -31,9 +32,9 @@ pub fn answers<R: Rows>(
     Ok(all)
 }
 
-/// The answer to query i: the last of those found ahead, where it is that of this query; else where nothing is ahead, i is a multiple of 4
-/// and a sample chooses it to be swept, with others before query `end`, whose answers are then ahead, 64 at most; and else by one worker
-/// alone.
+/// The answer to query i. Where the last that was found ahead is that of this query, it is taken. Else, where nothing is ahead, i is a
+/// multiple of 4 and a sample chooses the query, it is swept with others before query `end`, whose answers are then ahead; of all there
+/// are at most 64. Else one worker finds it alone.
 pub fn next_answer<R: Rows>(
     alloc: Global,
     asked: &Asked<'_, R>,
@@ -47,28 +48,13 @@ pub fn next_answer<R: Rows>(
     requires ahead { AreAnswers R.collection asked.now ahead.old.items }
     ensures right { IfOk result (λ pairs. pairs ≡ answer_to R.collection asked.now i) }
     ensures ahead { AreAnswers R.collection asked.now ahead.new.items }
-    ensures few { length ahead.new.items ≤ max (length ahead.old.items) 64 }
+    ensures few { length ahead.new.items ≤ max (length ahead.old.items) GROUP }
 {
     if ahead.is_empty() && i % QUERIES_OF_LOOK == 0 {
         *ahead = swept_together(alloc, asked, i, end.min(i.saturating_add(GROUP)))?;
     }
-    if let Some(pairs) = take(asked, ahead, i) {
+    if let Some(pairs) = asked.take(ahead, i) {
         return Ok(pairs);
     }
     one_worker_answer(alloc, &asked.task(i), asked.index)
-}
-
-// Takes the answer to query i, where it is the last of those found ahead.
-fn take<R: Rows>(asked: &Asked<'_, R>, ahead: &mut Vec<Answered>, i: u32) -> Option<PairList>
-    requires ahead { AreAnswers R.collection asked.now ahead.old.items }
-    ensures right { IfSome result (λ pairs. pairs ≡ answer_to R.collection asked.now i) }
-    ensures ahead { AreAnswers R.collection asked.now ahead.new.items }
-    ensures few { length ahead.new.items ≤ length ahead.old.items }
-{
-    let _ = asked;
-    if ahead.last()?.number != i {
-        return None;
-    }
-    let found = ahead.pop()?;
-    Some(found.pairs)
 }

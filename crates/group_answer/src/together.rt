@@ -1,5 +1,5 @@
 //! Queries that are swept together, and their answers. Queries that make no whole four are left out.
-ghost use Rattle.std.specs.Prelude.{◌≡◌, ◌-◌, ◌*◌, ◌+◌, ◌≤◌, All, IfOk, OnOk, length};
+ghost use Rattle.std.specs.Prelude.{◌-◌, ◌*◌, ◌+◌, ◌≤◌, All, IfOk, length};
 ghost use Rattle.group_answer.specs.Asking.{AreAnswers, IsAnswer, IsAsked};
 ghost use Rattle.group_answer.specs.Sweeping.{AreSwept, IsChosen, IsSwept, members_of};
 
@@ -78,27 +78,14 @@ fn push_four<R: Rows>(
     ensures few { IfOk result (λ _. length found.new.items ≤ length found.old.items + 4) }
     ensures right { IfOk result (λ _. AreAnswers R.collection asked.now found.new.items) }
 {
-    push_answer(alloc, asked, &four.d, found)?;
-    push_answer(alloc, asked, &four.c, found)?;
-    push_answer(alloc, asked, &four.b, found)?;
-    push_answer(alloc, asked, &four.a, found)?;
-    Ok(())
-}
-
-// Puts the answer to a query that has met all members behind those that were found.
-fn push_answer<R: Rows>(
-    alloc: Global,
-    asked: &Asked<'_, R>,
-    swept: &Swept<'_, R>,
-    found: &mut Vec<Answered>,
-) -> Result<(), NoMemory>
-    requires swept { IsSwept R.collection asked.now (length (members_of asked.now.index.now)) swept.now }
-    requires right { AreAnswers R.collection asked.now found.old.items }
-    ensures few { IfOk result (λ _. length found.new.items ≤ length found.old.items + 1) }
-    ensures right { IfOk result (λ _. AreAnswers R.collection asked.now found.new.items) }
-{
-    let answer = answer_of(alloc, asked, swept)?;
-    found.push(answer)?;
+    let a = answer_of(alloc, asked, &four.a)?;
+    let b = answer_of(alloc, asked, &four.b)?;
+    let c = answer_of(alloc, asked, &four.c)?;
+    let d = answer_of(alloc, asked, &four.d)?;
+    found.push(d)?;
+    found.push(c)?;
+    found.push(b)?;
+    found.push(a)?;
     Ok(())
 }
 

@@ -2,7 +2,7 @@
 
 /// How many queries are looked at together, at most: so many answers at most wait for those before them. The codes of a stretch go
 /// through the cache once for all of them.
-pub(crate) const GROUP: u32 = 64;
+pub const GROUP: u32 = 64;
 
 /// About how many more of these may go by the tree than are swept, before no more are looked at.
 pub(crate) const MORE_BY_TREE: usize = 8;

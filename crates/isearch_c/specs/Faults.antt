@@ -3,10 +3,12 @@ use Rattle.std.specs.Prelude.{ℕ, ℤ, ◌*◌, ◌/◌, Bool, not, ◌&&◌, c
 use Rattle.std.specs.Option.{is_some}
 use Rattle.segment_sums.specs.Division.{division_of}
 use Rattle.breakpoints.specs.declared.table.Table.TheVariants.{Bent, Flat}
+use Rattle.series_core.specs.declared.best.TheConstants.{MAX_BEST}
 use Rattle.series_core.specs.declared.rows.TheConstants.{MAX_COUNT, MAX_LENGTH, MAX_VALUES}
 use Rattle.series_core.specs.declared.pair.Pair.{Pair}
 use Rattle.subtree_build.specs.declared.settings.Settings.{Settings}
 use Rattle.window_rows.specs.Choice.{enough}
+use Rattle.isearch_c.specs.declared.limits.TheConstants.{MOST_APART, MOST_LEAF, MOST_SEGMENTS}
 use Rattle.isearch_c.specs.declared.held.Held.{Held}
 use Rattle.isearch_c.specs.declared.settings.IsearchSettings.{IsearchSettings}
 use Rattle.isearch_c.specs.declared.status.Status.{Status}
@@ -28,8 +30,8 @@ rows_fit n values =
 -- segments and a leaf size that serve rows of the length
 abbrev pub settings_fit : IsearchSettings → Bool
 settings_fit s =
-    nat_le 1 s.segments && nat_le s.segments 16 && nat_le s.segments s.length && nat_le s.length MAX_LENGTH
-    && nat_le 1 s.leaf && nat_le s.leaf 65535
+    nat_le 1 s.segments && nat_le s.segments MOST_SEGMENTS && nat_le s.segments s.length && nat_le s.length MAX_LENGTH
+    && nat_le 1 s.leaf && nat_le s.leaf MOST_LEAF
 
 -- the settings of an index
 abbrev pub settings_of : IsearchSettings → Settings
@@ -44,7 +46,7 @@ queries_fit n values = nat_eq (values / n * n) values
 
 -- so many of the nearest may be wanted
 abbrev pub count_fits : ℕ → Bool
-count_fits k = nat_le 1 k && nat_le k 1024
+count_fits k = nat_le 1 k && nat_le k MAX_BEST
 
 -- as many places for distances and for numbers as are wanted, k for each query
 abbrev pub places_fit : ℕ → ℕ → ℕ → ℕ → Bool
@@ -93,7 +95,7 @@ windows_fit n values = nat_lt 0 n && nat_le n MAX_LENGTH && nat_le values MAX_CO
 -- so many windows may be wanted that lie so far apart
 abbrev pub choice_fits : ℕ → ℕ → Bool
 choice_fits k apart =
-    nat_le 1 k && nat_le k 1024 && nat_le 1 apart && nat_le apart 512 && nat_le (enough apart k) 1024
+    nat_le 1 k && nat_le k MAX_BEST && nat_le 1 apart && nat_le apart MOST_APART && nat_le (enough apart k) MAX_BEST
 
 -- what is tested of a search for windows of a series of so many values, by queries of so many values
 abbrev pub windows_tests : IsearchSettings → ℕ → ℕ → ℕ → ℕ → ℕ → ℕ → List (Bool × Status)

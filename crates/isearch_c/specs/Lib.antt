@@ -13,4 +13,5 @@ pub mod Handles
 pub mod Kept
 pub mod Faults
 pub mod Found
+pub mod Asking
 pub mod Texts

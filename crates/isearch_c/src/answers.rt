@@ -1,10 +1,9 @@
 //! The answers to many queries, as many pairs for each as are wanted. Its one rule: all of them stand in memory before any place of the
 //! caller's is written.
-ghost use Rattle.std.specs.Prelude.{◌≡◌, ◌<◌, ◌≤◌, ◌*◌, ◌/◌, ◌++◌, None, Some, IfOk, IfSome, OnOk, length};
-ghost use Rattle.series_core.specs.declared.best.TheConstants.{MAX_BEST};
-ghost use Rattle.subtree_build.specs.Fits.{Fits};
+ghost use Rattle.std.specs.Prelude.{◌≡◌, ◌<◌, ◌≤◌, ◌*◌, ◌/◌, ◌++◌, None, Some, IfOk, OnOk, length};
 ghost use Rattle.series_core.specs.Answer.{answer};
-ghost use Rattle.window_rows.specs.Choice.{chosen_apart, enough};
+ghost use Rattle.window_rows.specs.Choice.{chosen_apart};
+ghost use Rattle.isearch_c.specs.Asking.{AreWhole, CanAsk, CanChoose, CanWant, IsGround};
 ghost use Rattle.isearch_c.specs.Faults.{count_fits, places_fit, queries_fit};
 ghost use Rattle.isearch_c.specs.Found.{Hold, answers, filled, queries_in, wanted_of};
 
@@ -75,12 +74,10 @@ impl<'a, R: Rows> Ground<'a, R> {
         apart: u32,
         query: &[i16],
     ) -> Result<PairList, NoMemory>
-        requires fits { Fits (R.collection self.now.rows.now) self.now.layout.now self.now.index.now }
-        requires length { (R.collection self.now.rows.now).points ≡ self.now.layout.now.cuts.row_length }
+        requires ground { IsGround R.collection self.now }
         requires query { length query.now ≡ (R.collection self.now.rows.now).points }
-        requires some { 1 ≤ k }
-        requires apart { (1 ≤ apart) × (apart ≤ 512) }
-        requires k { enough apart k ≤ 1024 }
+        requires k { 1 ≤ k }
+        requires apart { CanChoose k apart }
         ensures { let c = R.collection self.now.rows.now in
             IfOk result (λ found. found ≡ chosen_apart apart (answer c query.now (length c.series)) k) }
     {
@@ -93,10 +90,9 @@ impl<'a, R: Rows> Ground<'a, R> {
 
     /// The k nearest rows to a query.
     fn nearest(&self, alloc: Global, k: u32, query: &[i16]) -> Result<PairList, NoMemory>
-        requires fits { Fits (R.collection self.now.rows.now) self.now.layout.now self.now.index.now }
-        requires length { (R.collection self.now.rows.now).points ≡ self.now.layout.now.cuts.row_length }
+        requires ground { IsGround R.collection self.now }
         requires query { length query.now ≡ (R.collection self.now.rows.now).points }
-        requires k { (1 ≤ k) × (k ≤ 1024) }
+        requires k { CanWant k }
         ensures { IfOk result (λ found. found ≡ answer (R.collection self.now.rows.now) query.now k) }
     {
         let task = Task::new(self.rows, query, k, self.layout);
@@ -105,11 +101,9 @@ impl<'a, R: Rows> Ground<'a, R> {
 
     /// What is wanted of one query.
     fn wanted(&self, alloc: Global, asked: Asked, query: &[i16]) -> Result<PairList, NoMemory>
-        requires fits { Fits (R.collection self.now.rows.now) self.now.layout.now self.now.index.now }
-        requires length { (R.collection self.now.rows.now).points ≡ self.now.layout.now.cuts.row_length }
+        requires ground { IsGround R.collection self.now }
         requires query { length query.now ≡ (R.collection self.now.rows.now).points }
-        requires k { (1 ≤ asked.k) × (asked.k ≤ 1024) }
-        requires apart { IfSome asked.apart (λ apart. (1 ≤ apart) × (apart ≤ 512) × (enough apart asked.k ≤ 1024)) }
+        requires asked { CanAsk asked }
         ensures { IfOk result (λ pairs. pairs ≡ wanted_of asked (R.collection self.now.rows.now) query.now) }
     {
         match asked.apart {
@@ -125,12 +119,9 @@ impl<'a, R: Rows> Ground<'a, R> {
         asked: Asked,
         queries: &[i16],
     ) -> Result<Vec<Pair>, NoMemory>
-        requires fits { Fits (R.collection self.now.rows.now) self.now.layout.now self.now.index.now }
-        requires length { (R.collection self.now.rows.now).points ≡ self.now.layout.now.cuts.row_length }
-        requires whole { let n = (R.collection self.now.rows.now).points in
-            length queries.now / n * n ≡ length queries.now }
-        requires k { (1 ≤ asked.k) × (asked.k ≤ 1024) }
-        requires apart { IfSome asked.apart (λ apart. (1 ≤ apart) × (apart ≤ 512) × (enough apart asked.k ≤ 1024)) }
+        requires ground { IsGround R.collection self.now }
+        requires whole { AreWhole (R.collection self.now.rows.now).points queries.now }
+        requires asked { CanAsk asked }
         ensures { let c = R.collection self.now.rows.now in
             IfOk result (λ pairs. pairs.items ≡ answers asked c (queries_in c.points queries.now)) }
     {

@@ -6,6 +6,7 @@ mod answers;
 mod building;
 mod handle;
 mod held;
+mod limits;
 mod making;
 mod pieces;
 mod searching;

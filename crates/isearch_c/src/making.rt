@@ -3,6 +3,7 @@ ghost use Rattle.std.specs.Prelude.{◌≡◌, ◌≤◌, IfErr, IfOk};
 ghost use Rattle.subtree_build.specs.Fits.{IsTreeOf};
 ghost use Rattle.saved_index.specs.Loading.{Refuses};
 ghost use Rattle.isearch_c.specs.Texts.{IsOfText};
+ghost use Rattle.isearch_c.specs.declared.limits.TheConstants.{MOST_LEAF};
 
 use crate::held::Searchable;
 use outside::NoMemory;
@@ -15,7 +16,7 @@ impl Searchable {
     /// The collection with its index, which one worker builds in this thread.
     pub fn of_rows(alloc: Global, rows: Flat, settings: &Settings) -> Result<Searchable, NoMemory>
         requires length { rows.points ≡ settings.now.layout.cuts.row_length }
-        requires leaf { (1 ≤ settings.now.leaf_size) × (settings.now.leaf_size ≤ 65535) }
+        requires leaf { (1 ≤ settings.now.leaf_size) × (settings.now.leaf_size ≤ MOST_LEAF) }
         ensures rows { IfOk result (λ s. s.rows ≡ rows) }
         ensures settings { IfOk result (λ s. s.settings ≡ settings.now) }
         ensures tree { IfOk result (λ s. IsTreeOf rows settings.now.layout settings.now.leaf_size s.index) }

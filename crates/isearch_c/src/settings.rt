@@ -2,6 +2,7 @@
 ghost use Rattle.std.specs.Prelude.{◌≡◌, true};
 ghost use Rattle.isearch_c.specs.Faults.{settings_fit, settings_of};
 
+use crate::limits::{MOST_LEAF, MOST_SEGMENTS};
 use breakpoints::Table;
 use series_core::MAX_LENGTH;
 use subtree_build::Settings;
@@ -26,11 +27,11 @@ impl IsearchSettings {
         ensures { result ≡ settings_fit self.now }
     {
         1 <= self.segments
-            && self.segments <= 16
+            && self.segments <= MOST_SEGMENTS
             && self.segments <= self.length
             && self.length <= MAX_LENGTH
             && 1 <= self.leaf
-            && self.leaf <= 65535
+            && self.leaf <= MOST_LEAF
     }
 
     /// The settings of an index.

@@ -24,6 +24,15 @@ const NO_DISTANCE: u64 = u64::MAX;
 
 const NO_NUMBER: u32 = u32::MAX;
 
+/// A handle with the index of the rows.
+fn built(alloc: Global) -> Result<IsearchIndex, Fail> {
+    let mut index = IsearchIndex::empty(alloc);
+    if isearch_build(&mut index, &ROWS, &SETTINGS, alloc) != 0 {
+        return Err(Fail::new("build"));
+    }
+    Ok(index)
+}
+
 /// Status, distances and numbers of the k nearest to these queries, where there are so many places.
 fn nearest(
     alloc: Global,
@@ -48,12 +57,7 @@ fn nearest(
 #[test]
 fn the_nearest_of_two_queries(rt: HostRuntime) -> Result<(), Fail> {
     let alloc = rt.alloc();
-    let mut index = IsearchIndex::empty(alloc);
-    assert_same!(rt;
-        isearch_build(&mut index, &ROWS, &SETTINGS, alloc),
-        0,
-        "build"
-    );
+    let mut index = built(alloc)?;
     let queries = [1, 1, 1, 1, 9, 9, 9, 9];
     let (status, distances, numbers) = nearest(alloc, &mut index, &queries, 5, 10)?;
     let want = [
@@ -119,12 +123,7 @@ fn a_share_outlives_the_first_handle(rt: HostRuntime) -> Result<(), Fail> {
 #[test]
 fn each_refusal_of_a_search(rt: HostRuntime) -> Result<(), Fail> {
     let alloc = rt.alloc();
-    let mut index = IsearchIndex::empty(alloc);
-    assert_same!(rt;
-        isearch_build(&mut index, &ROWS, &SETTINGS, alloc),
-        0,
-        "build"
-    );
+    let mut index = built(alloc)?;
     let cases: [(&str, &[i16], u32, usize, i32); 7] = [
         ("a part of a query", &[1; 5], 1, 1, 5),
         ("k of 0", &[1; 4], 0, 0, 6),
@@ -176,12 +175,7 @@ fn each_refusal_of_rows(rt: HostRuntime) -> Result<(), Fail> {
 #[test]
 fn rows_within_a_radius(rt: HostRuntime) -> Result<(), Fail> {
     let alloc = rt.alloc();
-    let mut index = IsearchIndex::empty(alloc);
-    assert_same!(rt;
-        isearch_build(&mut index, &ROWS, &SETTINGS, alloc),
-        0,
-        "build"
-    );
+    let mut index = built(alloc)?;
     let mut distances = [7; 3];
     let mut numbers = [7; 3];
     // the radius, how many places there are, and what is told: status, how many are found, distances and numbers
@@ -243,10 +237,7 @@ fn text(alloc: Global, index: &mut IsearchIndex, places: usize) -> Result<(i32, 
 
 /// A handle with the index of the rows, and its text.
 fn saved(alloc: Global) -> Result<(IsearchIndex, Vec<u8>), Fail> {
-    let mut index = IsearchIndex::empty(alloc);
-    if isearch_build(&mut index, &ROWS, &SETTINGS, alloc) != 0 {
-        return Err(Fail::new("build"));
-    }
+    let mut index = built(alloc)?;
     let (status, bytes) = text(alloc, &mut index, 200)?;
     if status != 0 {
         return Err(Fail::new("save"));

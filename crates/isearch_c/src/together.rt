@@ -1,7 +1,7 @@
 //! The k nearest rows to several queries. Those of which means tell little are swept together, so that the codes of the rows go through the
 //! cache once for many queries; the others are searched one by one. Its one rule: how a query is answered changes no answer.
-ghost use Rattle.std.specs.Prelude.{◌≡◌, ◌≤◌, ◌*◌, ◌/◌, true, IfOk, length};
-ghost use Rattle.subtree_build.specs.Fits.{Fits};
+ghost use Rattle.std.specs.Prelude.{◌≡◌, IfOk, length};
+ghost use Rattle.isearch_c.specs.Asking.{AreWhole, CanWant, IsGround};
 ghost use Rattle.isearch_c.specs.Faults.{rows_fit};
 ghost use Rattle.isearch_c.specs.Found.{all_nearest};
 
@@ -20,48 +20,30 @@ impl<'a, R: Rows> Ground<'a, R> {
         k: u32,
         queries: &[i16],
     ) -> Result<Vec<Pair>, NoMemory>
-        requires fits { Fits (R.collection self.now.rows.now) self.now.layout.now self.now.index.now }
-        requires length { (R.collection self.now.rows.now).points ≡ self.now.layout.now.cuts.row_length }
-        requires whole { let n = (R.collection self.now.rows.now).points in
-            length queries.now / n * n ≡ length queries.now }
-        requires k { (1 ≤ k) × (k ≤ 1024) }
+        requires ground { IsGround R.collection self.now }
+        requires whole { AreWhole (R.collection self.now.rows.now).points queries.now }
+        requires k { CanWant k }
         ensures { IfOk result (λ pairs. pairs.items ≡ all_nearest k (R.collection self.now.rows.now) queries.now) }
     {
         let length = self.rows.length();
         if queries.len() > length as usize && rows_fit(length, queries.len()) {
-            return self.nearest_together(alloc, k, queries);
+            let flat = Flat::from_values(length, queries.to_vec(alloc)?);
+            let count = flat.count();
+            let together = Together {
+                rows: self.rows,
+                queries: &flat,
+                k,
+                layout: self.layout,
+                index: self.index,
+            };
+            let mut found = Vec::new(alloc);
+            let mut ahead = Vec::new(alloc);
+            for i in 0..count {
+                let pairs = next_answer(alloc, &together, i, count, &mut ahead)?;
+                put(&mut found, &pairs.items, k)?;
+            }
+            return Ok(found);
         }
         self.answers(alloc, Asked { k, apart: None }, queries)
-    }
-
-    /// The k nearest rows to each of several queries, filled up to k.
-    fn nearest_together(
-        &self,
-        alloc: Global,
-        k: u32,
-        queries: &[i16],
-    ) -> Result<Vec<Pair>, NoMemory>
-        requires fits { Fits (R.collection self.now.rows.now) self.now.layout.now self.now.index.now }
-        requires length { (R.collection self.now.rows.now).points ≡ self.now.layout.now.cuts.row_length }
-        requires queries { rows_fit (R.collection self.now.rows.now).points (length queries.now) ≡ true }
-        requires k { (1 ≤ k) × (k ≤ 1024) }
-        ensures { IfOk result (λ pairs. pairs.items ≡ all_nearest k (R.collection self.now.rows.now) queries.now) }
-    {
-        let flat = Flat::from_values(self.rows.length(), queries.to_vec(alloc)?);
-        let count = flat.count();
-        let together = Together {
-            rows: self.rows,
-            queries: &flat,
-            k,
-            layout: self.layout,
-            index: self.index,
-        };
-        let mut found = Vec::new(alloc);
-        let mut ahead = Vec::new(alloc);
-        for i in 0..count {
-            let pairs = next_answer(alloc, &together, i, count, &mut ahead)?;
-            put(&mut found, &pairs.items, k)?;
-        }
-        Ok(found)
     }
 }

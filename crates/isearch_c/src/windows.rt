@@ -1,13 +1,14 @@
 //! The windows of one long series that are nearest and lie apart, with an index that lasts as long as the call. Its one rule: no window is
 //! copied.
-ghost use Rattle.std.specs.Prelude.{◌≡◌, ◌≢◌, ◌≤◌, ◌*◌, ◌/◌, true, IfOk, IfSome, length, pos};
+ghost use Rattle.std.specs.Prelude.{◌≡◌, ◌≢◌, ◌*◌, ◌/◌, true, IfOk, length, pos};
 ghost use Rattle.window_rows.specs.Windows.{collection_of};
 ghost use Rattle.isearch_c.specs.Faults.{choice_fits, settings_fit, windows_fault, windows_fit};
-ghost use Rattle.window_rows.specs.Choice.{enough};
+ghost use Rattle.isearch_c.specs.Asking.{AreWhole, CanAsk};
 ghost use Rattle.isearch_c.specs.Found.{Hold, all_apart, answers, queries_in};
 ghost use Rattle.isearch_c.specs.Statuses.{EndsBy};
 
 use crate::answers::{Asked, Ground, places_fit, queries_fit, write};
+use crate::limits::MOST_APART;
 use crate::settings::IsearchSettings;
 use crate::status::Status;
 use outside::NoMemory;
@@ -15,9 +16,6 @@ use series_core::{MAX_BEST, MAX_COUNT, MAX_LENGTH, Pair};
 use std::alloc::Global;
 use subtree_build::build_alone;
 use window_rows::Windows;
-
-/// The farthest that windows may be asked to lie apart.
-const MOST_APART: u32 = 512;
 
 /// Whether windows of `length` values may be taken of a series of so many values; there may be none.
 fn windows_fit(length: u32, values: usize) -> bool
@@ -97,9 +95,8 @@ fn found(
 ) -> Result<Vec<Pair>, NoMemory>
     requires windows { windows_fit settings.now.length (length series.now) ≡ true }
     requires settings { settings_fit settings.now ≡ true }
-    requires whole { length queries.now / settings.now.length * settings.now.length ≡ length queries.now }
-    requires k { (1 ≤ asked.k) × (asked.k ≤ 1024) }
-    requires apart { IfSome asked.apart (λ apart. (1 ≤ apart) × (apart ≤ 512) × (enough apart asked.k ≤ 1024)) }
+    requires whole { AreWhole settings.now.length queries.now }
+    requires asked { CanAsk asked }
     ensures { let c = collection_of series.now settings.now.length 1 in
         IfOk result (λ pairs. pairs.items ≡ answers asked c (queries_in c.points queries.now)) }
 {

@@ -48,7 +48,7 @@ pub struct LiveReply {
 /// Why a batch was not appended.
 #[derive(Clone, Copy, Debug, PartialEq, Eq, Error)]
 pub enum AppendError {
-    /// As many batches stand as may, or these series and the batch's are more than may stand.
+    /// So many batches and series stand, and leave no room for the batch.
     #[error("{0} batches with {1} series stand, and no room is left for the batch")]
     Full(u32, u32),
     /// Memory ran out.

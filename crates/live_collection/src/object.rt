@@ -124,7 +124,7 @@ impl Object for LiveObject {
 // Each part is put behind its list.
 fn link_each(lists: &mut Vec<PartList>, call: Append)
     requires count { call.parts ≡ length lists.old.items }
-    requires room { All (λ l. length l < 1024) lists.old.items }
+    requires room { All (λ l. length l < MAX_BATCHES) lists.old.items }
     ensures { lists.new.items ≡ map (λ l. l ++ call.batch ∷ []) lists.old.items }
 {
     let mut parts = call.into_parts();

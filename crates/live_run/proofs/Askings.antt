@@ -1,9 +1,7 @@
 -- The files of askings, one more behind the others; and how many queries they have.
 use Rattle.std.proofs.Common.{◌≡◌, ℕ, suc, ◌+◌, ◌*◌, ◌<◌, ◌≤◌, List, [], ◌∷◌, ◌++◌, All, length, take, drop, get_or, refl, sym, ap, ◌∙◌, subst, length-append, arith}
 use Rattle.std.specs.List.{AllZip, AllByRecursion, flat_map}
-use Rattle.std.specs.Prelude.{Option, Some, ℤ, slice_get}
-use Rattle.std.proofs.lemmas.Option.{get_or_from_slice_get}
-use Rattle.series_core.specs.Collection.{Collection, IsCollection}
+use Rattle.std.specs.Prelude.{Option, Some, ℤ}
 use Rattle.std.proofs.lemmas.List.{drop_more, length-map, take-append-drop, take_more}
 use Rattle.std.proofs.lemmas.List.Elements.{All-from_recursion, All-head, All-push, All-tail}
 use Rattle.outside.specs.Files.{Held}
@@ -46,12 +44,6 @@ queries_few n (f ∷ fs) all =
     let l = length-append (file_queries f) (flat_map file_queries fs) in
     let s = file_size f in
     omega arith
-
--- each series of a collection is as long as it says
-pub row_length : (c : Collection) (i : ℕ) (v : List ℤ) → IsCollection c → i < length c.series → slice_get c.series i ≡ Some v
-    → length v ≡ c.points
-row_length c i v sound low at =
-    subst (λ (x : List ℤ). length x ≡ c.points) (get_or_from_slice_get c.series i v v at) (sound.each i v low).points
 
 -- one file more behind the others
 pub can_more : (n : ℕ) (fs gs : List QueryFile) (f : QueryFile) → gs ≡ fs ++ f ∷ [] → All (CanAsk n) fs → CanAsk n f → All (CanAsk n) gs

@@ -1,12 +1,12 @@
--- How the end of a script's groups, or a script that is refused, is the end of a run with these words.
+-- How the end of a script's groups is the end of a run with these words.
 use Rattle.std.proofs.Common.{ℕ, ◌≤◌, List, [], ◌∷◌, ◌++◌, length, Option, None, Some, inl, inr, ap, length-append, arith}
 use Rattle.live_script.specs.Grammar.{lines_text, script_lines}
 use Rattle.live_script.specs.declared.script.Group.{Group}
 use Rattle.live_script.specs.declared.script.NamedFile.{NamedFile}
 use Rattle.live_run.specs.Ends.{Ends, GroupsEnd, Names}
-use Rattle.run_traffic.specs.Traffic.{Reading, Writing, WroteNothing}
+use Rattle.run_traffic.specs.Traffic.{Reading, Writing}
 use Rattle.live_run.specs.Groups.{RefusesGroup, StopsAt, want_of}
-use Rattle.live_run.specs.Loads.{HoldsScript, IsShortScript, RefusesFitting, RefusesScript, most_bytes}
+use Rattle.live_run.specs.Loads.{HoldsScript, IsShortScript, RefusesFitting, most_bytes}
 use Rattle.live_run.specs.declared.group.Contents.{Contents}
 use Rattle.live_run.specs.declared.status.LiveStatus.{LiveStatus}
 use Rattle.live_run.specs.declared.status.LiveStatus.TheVariants.{Done, Usage, Missing, ReadFault, Format, Mismatch, WriteFault, Memory, Script, Full}
@@ -43,21 +43,7 @@ stop_not_usage reading ahead [] x = x
 stop_not_usage reading ahead (g ∷ gs) (inl x) = group_not_usage reading (want_of ahead) g x
 stop_not_usage reading ahead (g ∷ gs) (inr x) = x.2
 
--- a script that is refused ends a run
-pub refused_ends : (words : List (List ℕ)) (reading : Reading) (writing : Writing) (name : List ℕ) (status : LiveStatus)
-    → Names words name → RefusesScript reading name status → WroteNothing writing → Ends words reading writing status
-refused_ends words reading writing name Usage names x wrote = absurd x
-refused_ends words reading writing name Done names x wrote = (name, names, inl (x, wrote))
-refused_ends words reading writing name (Missing l) names x wrote = (name, names, inl (x, wrote))
-refused_ends words reading writing name (ReadFault l) names x wrote = (name, names, inl (x, wrote))
-refused_ends words reading writing name (Format l e) names x wrote = (name, names, inl (x, wrote))
-refused_ends words reading writing name (Mismatch l a b) names x wrote = (name, names, inl (x, wrote))
-refused_ends words reading writing name WriteFault names x wrote = (name, names, inl (x, wrote))
-refused_ends words reading writing name Memory names x wrote = (name, names, inl (x, wrote))
-refused_ends words reading writing name (Script at) names x wrote = (name, names, inl (x, wrote))
-refused_ends words reading writing name (Full b t) names x wrote = (name, names, inl (x, wrote))
-
--- so does the end of its groups
+-- the end of a script's groups is the end of a run with its name
 pub groups_end : (words : List (List ℕ)) (reading : Reading) (writing : Writing) (name : List ℕ) (groups : List Group)
     (status : LiveStatus) → Names words name → HoldsScript reading.held name groups → GroupsEnd reading writing groups status
     → Ends words reading writing status

@@ -1,16 +1,22 @@
 -- A live collection with its one writer and its one reader, between two groups.
-use Rattle.std.specs.Prelude.{◌≡◌, ℕ, ◌+◌, ◌<◌, ◌≤◌, ◌⊎◌, List, [], ◌∷◌, ◌++◌, length, map, vec_capacity, Option, None, Some}
+use Rattle.std.specs.Prelude.{◌≡◌, ℕ, ◌+◌, ◌<◌, ◌≤◌, ◌⊎◌, ◌^◌, List, [], ◌∷◌, ◌++◌, length, map, vec_capacity, Option, None, Some, Result, IfOk}
+use Rattle.std.specs.List.{All, flat_map}
+use Rattle.outside.specs.declared.faults.NoMemory.{NoMemory}
 use mathlib.Core.List.{IsPrefix}
 use Rattle.series_core.specs.Collection.{Collection}
 use Rattle.series_core.specs.declared.rows.TheConstants.{MAX_COUNT}
 use Rattle.live_collection.specs.declared.object.TheConstants.{MAX_BATCHES}
 use Rattle.live_collection.specs.declared.batch.Batch.{Batch}
+use Rattle.live_collection.specs.declared.live.LiveCollection.{LiveCollection}
 use Rattle.live_collection.specs.declared.live.Writer.{Writer}
 use Rattle.live_collection.specs.declared.live.Reader.{Reader}
 use Rattle.live_collection.specs.Histories.{appended, series_of}
 use Rattle.live_collection.specs.Sides.{IsReaderOf, IsWriterOf, points_of, reader_saw, writer_made}
-use Rattle.live_run.specs.Texts.{Scene, IsQueriesText, all_queries, queries_of}
+use Rattle.live_run.specs.Replies.{CanAsk, IsAskedText}
+use Rattle.live_run.specs.Texts.{Scene, IsQueriesText, all_queries, file_queries, queries_of}
+use Rattle.live_run.specs.declared.answering.Answers.{Answers}
 use Rattle.live_run.specs.declared.group.Contents.{Contents}
+use Rattle.live_run.specs.declared.group.QueryFile.{QueryFile}
 use Rattle.live_run.specs.declared.dialogue.Dialogue.{Dialogue}
 use Rattle.live_run.specs.declared.status.LiveStatus.{LiveStatus}
 use Rattle.live_run.specs.declared.status.LiveStatus.TheVariants.{Memory, Full}
@@ -22,6 +28,21 @@ batches_of w = appended (writer_made w)
 -- the batches whose appends the reader has seen, in order
 abbrev pub batches_seen : Reader → List Batch
 batches_seen r = appended (reader_saw r)
+
+-- the reader may ask the queries of these files, the first of which has this number
+pub record CanAskAll (live : LiveCollection) (reader : Reader) (askings : List QueryFile) (first : ℕ) : Type 0 where
+  pub own : IsReaderOf live reader
+  pub askable : All (CanAsk (points_of live)) askings
+  pub numbers : first + length (flat_map file_queries askings) < 2 ^ 64
+
+-- it asked them: it is still a reader of the collection, and where memory sufficed, these are the answers
+pub record AsksAll (live : LiveCollection) (old new : Reader) (askings : List QueryFile) (first : ℕ)
+    (given : Result Answers NoMemory) : Type 0 where
+  pub reader : IsReaderOf live new
+  pub number : new.pass.number ≡ old.pass.number
+  pub text : IfOk given (λ answers. IsAskedText (points_of live) first (batches_seen old) (flat_map file_queries askings)
+      answers.text.items (batches_seen new))
+  pub next : IfOk given (λ answers. answers.next ≡ first + length (flat_map file_queries askings))
 
 -- the writer and the one reader are those of the collection, there is room for the reader, and it has seen all appends
 pub record IsDialogue (s : Dialogue) : Type 0 where

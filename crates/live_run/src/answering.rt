@@ -1,10 +1,9 @@
-//! How one reader answers the queries of a group in order, while the writer appends.
+//! How one reader asks the queries of a group in order, while the writer appends.
 
-ghost use Rattle.std.specs.Prelude.{◌≡◌, ℕ, ◌+◌, ◌<◌, ◌^◌, ◌++◌, List, All, IfOk, OnOk, length};
-ghost use Rattle.std.specs.List.{flat_map};
+ghost use Rattle.std.specs.Prelude.{◌≡◌, ℕ, ◌+◌, ◌<◌, ◌^◌, ◌++◌, List, OnOk, length};
 ghost use Rattle.live_collection.specs.Sides.{IsReaderOf, points_of};
 ghost use Rattle.live_run.specs.Replies.{CanAsk, IsAskedText};
-ghost use Rattle.live_run.specs.Dialogues.{batches_seen};
+ghost use Rattle.live_run.specs.Dialogues.{AsksAll, CanAskAll, batches_seen};
 ghost use Rattle.live_run.specs.Texts.{file_queries};
 
 use crate::group::QueryFile;
@@ -33,13 +32,8 @@ pub fn answer_all<H: Wait>(
     askings: &[QueryFile],
     first: u64,
 ) -> Result<Answers, NoMemory>
-    requires reader { IsReaderOf live.now reader.old }
-    requires askings { All (CanAsk (points_of live.now)) askings.now }
-    requires numbers { first + length (flat_map file_queries askings.now) < 2 ^ 64 }
-    ensures reader { IsReaderOf live.now reader.new × (reader.new.pass.number ≡ reader.old.pass.number) }
-    ensures text { IfOk result (λ answers. IsAskedText (points_of live.now) first (batches_seen reader.old)
-        (flat_map file_queries askings.now) answers.text.items (batches_seen reader.new)) }
-    ensures next { IfOk result (λ answers. answers.next ≡ first + length (flat_map file_queries askings.now)) }
+    requires { CanAskAll live.now reader.old askings.now first }
+    ensures { AsksAll live.now reader.old reader.new askings.now first result }
 {
     let mut text = Vec::new(alloc);
     let mut next = first;

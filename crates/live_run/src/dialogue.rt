@@ -2,17 +2,16 @@
 //! and the reader tell each other what they have seen.
 
 ghost use Rattle.std.specs.Prelude.{◌≡◌, ◌+◌, ◌<◌, ◌≤◌, ◌^◌, All, IfOk, IfErr, List, length};
-ghost use Rattle.std.specs.List.{flat_map};
 ghost use Rattle.std.specs.Thread.{IsSync};
 ghost use Rattle.command_words.specs.declared.limits.TheConstants.{MOST_LEAF};
 ghost use Rattle.series_core.specs.declared.rows.TheConstants.{MAX_LENGTH};
-ghost use Rattle.live_collection.specs.Sides.{IsReaderOf, IsWriterOf, points_of};
+ghost use Rattle.live_collection.specs.Sides.{IsWriterOf, points_of};
 ghost use Rattle.live_collection.specs.Steps.{Appends};
 ghost use Rattle.live_run.specs.Loads.{FitsLength};
-ghost use Rattle.live_run.specs.Replies.{CanAsk, IsAskedText};
-ghost use Rattle.live_run.specs.Dialogues.{HasTaken, IsNew, IsDialogue, IsTextOfGroup, RefusesBatch, Stands, Takes};
-ghost use Rattle.live_run.specs.Dialogues.{batches_seen, length_of};
-ghost use Rattle.live_run.specs.Texts.{file_queries, queries_of};
+ghost use Rattle.live_run.specs.Replies.{CanAsk};
+ghost use Rattle.live_run.specs.Dialogues.{AsksAll, CanAskAll, HasTaken, IsNew, IsDialogue, IsTextOfGroup, RefusesBatch, Stands, Takes};
+ghost use Rattle.live_run.specs.Dialogues.{length_of};
+ghost use Rattle.live_run.specs.Texts.{queries_of};
 
 use crate::answering::{Answers, answer_all};
 use crate::group::{Contents, QueryFile};
@@ -97,13 +96,8 @@ impl Dialogue {
                 ensures { IsWriterOf live result.0 × Appends live batch writer result.0 result.1 }
             { append_side(rt, alloc, &live, writer, batch, gate, turn) },
             || -> (Reader, Result<Answers, NoMemory>)
-                requires { IsSync H.row × IsSync G.row × IsReaderOf live reader
-                    × All (CanAsk (points_of live)) askings.items
-                    × (asked + length (flat_map file_queries askings.items) < 2 ^ 64) }
-                ensures { IsReaderOf live result.0 × (result.0.pass.number ≡ reader.pass.number)
-                    × IfOk result.1 (λ answers. IsAskedText (points_of live) asked (batches_seen reader)
-                    (flat_map file_queries askings.items) answers.text.items (batches_seen result.0)
-                    × (answers.next ≡ asked + length (flat_map file_queries askings.items))) }
+                requires { IsSync H.row × IsSync G.row × CanAskAll live reader askings.items asked }
+                ensures { AsksAll live reader result.0 askings.items asked result.1 }
             { answer_side(rt, alloc, &live, reader, &askings, asked, gate, turn) },
         );
         appended?;
@@ -204,13 +198,8 @@ fn answer_side<H: Wait, G: Gate>(
     gate: &G,
     turn: u64,
 ) -> (Reader, Result<Answers, NoMemory>)
-    requires reader { IsReaderOf live.now reader }
-    requires askings { All (CanAsk (points_of live.now)) askings.now }
-    requires numbers { first + length (flat_map file_queries askings.now) < 2 ^ 64 }
-    ensures reader { IsReaderOf live.now result.0 × (result.0.pass.number ≡ reader.pass.number) }
-    ensures text { IfOk result.1 (λ answers. IsAskedText (points_of live.now) first (batches_seen reader)
-        (flat_map file_queries askings.now) answers.text.items (batches_seen result.0)) }
-    ensures next { IfOk result.1 (λ answers. answers.next ≡ first + length (flat_map file_queries askings.now)) }
+    requires { CanAskAll live.now reader askings.now first }
+    ensures { AsksAll live.now reader result.0 askings.now first result.1 }
 {
     gate.pass(1, turn);
     let answers = answer_all(rt, alloc, live, &mut reader, askings, first);

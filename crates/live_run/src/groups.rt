@@ -1,4 +1,5 @@
-//! The groups of a script, one after another: its files are loaded, it is appended and asked, and then its text is written whole.
+//! The groups of a script, one after another: the files of a group are loaded, its batch is appended while its queries are asked, and
+//! then its text is written whole.
 
 ghost use Rattle.std.specs.Prelude.{◌≡◌, ◌≤◌, length};
 ghost use Rattle.std.specs.List.{AllByRecursion};

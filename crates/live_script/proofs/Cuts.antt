@@ -47,12 +47,6 @@ lacks_not byte [] behind lacking =
 lacks_not byte (c ∷ front) behind lacking =
     lacks_not byte front behind (and_parts (not (c == byte)) (lacks byte (front ++ (byte ∷ behind))) lacking).1
 
--- what a joined text lacks, its second part lacks
-pub lacks_right : (byte : ℕ) (front behind : List ℕ) → lacks byte (front ++ behind) ≡ true → lacks byte behind ≡ true
-lacks_right byte front behind lacking =
-    (and_parts (lacks byte front) (lacks byte behind)
-    (sym (list_all-append (λ c. not (c == byte)) front behind) ∙ lacking)).1
-
 -- what two texts lack, both together lack
 pub lacks_both : (byte : ℕ) (front behind : List ℕ) → lacks byte front ≡ true → lacks byte behind ≡ true
     → lacks byte (front ++ behind) ≡ true

@@ -10,4 +10,4 @@ mod script;
 pub use error::ScriptError;
 pub use laws::one_script_law;
 pub use reader::read_script;
-pub use script::{Asking, AskingList, Group, NamedFile, Script};
+pub use script::{Asking, Group, NamedFile, Script};

@@ -1,5 +1,5 @@
 -- How a command ends, from what it did: its clauses of completeness and of causes follow from `Concludes`.
-use Rattle.std.proofs.Common.{◌≡◌, ◌≢◌, ℕ, ◌++◌, List, inl, inr, refl, subst, sym, arith, ⊎_elim, length-append}
+use Rattle.std.proofs.Common.{◌≢◌, ℕ, ◌++◌, List, inl, inr, refl, subst, arith, ⊎_elim, length-append}
 use Rattle.outside.specs.Sink.{AppendsPrefix}
 use Rattle.search_run.specs.Ends.{Answers, Concludes, ConcludesBy, Ends, Finishes, IsAnswered, IsFaultless, TellsCause, TellsFault, WroteNothing}
 use Rattle.search_run.specs.Commands.{CanAnswer, plan_of}
@@ -65,11 +65,6 @@ concludes_map A B C R Q writing status whole begun refused = by_status status
     by_status (Settings w n) x = (refused (Settings w n) x.0, x.1)
     by_status (Invalid e) x = (refused (Invalid e) x.0, x.1)
     by_status (Index e) x = (refused (Index e) x.0, x.1)
-
--- what was answered of a command was answered of the same by another name
-pub answers_as : (reading : Reading) (writing : Writing) (command same : Command) (status : Status) → command ≡ same
-    → Answers reading writing same status → Answers reading writing command status
-answers_as reading writing command same status is = subst (λ c. Answers reading writing c status) (sym is)
 
 -- no command ends as words that are none
 pub answers_not_usage : (reading : Reading) (writing : Writing) (command : Command) (status : Status)

@@ -2,6 +2,7 @@ pub mod StatusLines
 pub mod Pieces
 pub mod Short
 pub mod Summing
+pub mod Asks
 pub mod Loading
 pub mod Writing
 pub mod Piecewise

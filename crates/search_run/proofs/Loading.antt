@@ -1,6 +1,5 @@
 -- A file that was opened and refused by its bytes is held with that fault.
-use Rattle.std.proofs.Common.{◌≡◌, ℕ, ◌≤◌, List, length, Option, None, Some, IfSome, subst, sym, refl}
-use Rattle.std.proofs.lemmas.Option.{none-some}
+use Rattle.std.proofs.Common.{◌≡◌, ℕ, ◌≤◌, List, Option, None, Some, IfSome, subst, refl}
 use Rattle.outside.specs.Count.{Rose}
 use Rattle.outside.specs.Files.{Opens}
 use Rattle.series_file.specs.Faults.{fault}
@@ -8,9 +7,6 @@ use Rattle.series_file.specs.Stages.{Explains}
 use Rattle.series_file.specs.declared.error.Form.{Form}
 use Rattle.series_file.specs.declared.error.FileError.{FileError}
 use Rattle.series_file.specs.declared.error.FileError.TheVariants.{ReadFault as FileReadFault, NoMemory}
-use Rattle.series_file.specs.Format.{HasForm, HasText}
-use Rattle.series_file.specs.declared.error.Form.TheVariants.{Headed, Raw}
-use Rattle.series_file.specs.declared.error.Loaded.{Loaded}
 use Rattle.saved_index.specs.Faults.{index_fault}
 use Rattle.saved_index.specs.Loading.{Explains as ExplainsIndex, IsTextFor}
 use Rattle.saved_index.specs.declared.loading.LoadedIndex.{LoadedIndex}
@@ -20,7 +16,6 @@ use Rattle.series_core.specs.Collection.{Collection}
 use Rattle.search_run.specs.Certificates.{RefusesCertificate, ShowsInvalid}
 use Rattle.search_run.specs.Indexes.{IsFitIndex, RefusesIndex, ShowsIndexFault, index_refusal}
 use Rattle.search_run.specs.Loads.{RefusesFile, RefusesNamed, ShowsFault, refusal_of}
-use Rattle.search_run.specs.Pairs.{HasLabels}
 use Rattle.run_traffic.specs.Traffic.{EndsReading, Reading}
 use Rattle.run_traffic.proofs.Named.{absent_wider, blamed_open, failed_wider, opened_holds}
 use Rattle.search_run.specs.declared.status.CertFault.{CertFault}
@@ -138,13 +133,3 @@ lent_file_wider w whole part lent name made form status refused same formed kept
     subst (λ f. RefusesFile w whole name f status) formed
     (subst (λ n. RefusesFile w whole n made status) same
     (file_wider w whole part lent made status kept less fewer later more blames refused))
-
--- a collection that has a text has a label for each series, where it has labels
-pub labels_fit : (form : Form) (loaded : Loaded) → HasText form loaded.rows loaded.labels → HasLabels loaded
-labels_fit form loaded fits = by_form form loaded.labels fits.fits
-  where
-    by_form : (form : Form) (labels : Option (List ℕ)) → HasForm form loaded.rows labels
-        → IfSome labels (λ ls. length ls ≡ length loaded.rows.series)
-    by_form form None has = tt
-    by_form Headed (Some ls) has = has.0
-    by_form (Raw n) (Some ls) has = absurd (none-some ls (sym has.1))

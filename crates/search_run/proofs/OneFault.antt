@@ -11,7 +11,7 @@ use Rattle.certificate.proofs.FileLines.{file_text_lines}
 use Rattle.certificate.proofs.Running.{run}
 use Rattle.certificate.proofs.Walks.{fault_alone}
 use Rattle.certificate.proofs.WholeRuns.{file_run}
-use Rattle.search_run.specs.Certificates.{CanBeFault, IsFault, IsValid, Subject, verdict_of}
+use Rattle.search_run.specs.Certificates.{IsFault, IsValid, Subject, verdict_of}
 use Rattle.search_run.specs.declared.status.CertFault.{CertFault}
 use Rattle.search_run.specs.declared.status.CertFault.TheVariants.{Line, TooLong, Rejected}
 
@@ -78,9 +78,3 @@ holds_without s bytes (Line at) valid fault =
 holds_without s bytes (Rejected why) valid fault =
     let same = spells_once _ _ bytes valid.sound.blocks fault.2.0 (omega (arith, valid.short)) valid.sound.spelled fault.2.1 in
     none-some why (sym valid.sound.passed ∙ ap (verdict_of s) same ∙ fault.2.2)
-
--- a fault of a certificate is none of want of memory
-pub fault_can_be : (s : Subject) (bytes : List ℕ) (e : CertFault) → IsFault s e bytes → CanBeFault e
-fault_can_be s bytes TooLong fault = tt
-fault_can_be s bytes (Line at) fault = tt
-fault_can_be s bytes (Rejected why) fault = fault.1

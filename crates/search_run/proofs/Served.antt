@@ -13,10 +13,10 @@ use Rattle.search_run.specs.Plans.{Plan, Refuses, Writes}
 use Rattle.search_run.specs.Serves.{Serves}
 use Rattle.search_run.specs.Stops.{Stops}
 use Rattle.search_run.specs.Texts.{IsTextOf}
-use Rattle.search_run.specs.Traffic.{Reading, Writing, read_from, wrote_to}
+use Rattle.search_run.specs.Traffic.{read_from, wrote_to}
 use Rattle.search_run.proofs.Stopped.{refused_ends, stop_reads_nothing, stopped_ends}
 use Rattle.search_run.specs.declared.status.Status.{Status}
-use Rattle.search_run.specs.declared.status.Status.TheVariants.{Done, Memory, ReadFault}
+use Rattle.search_run.specs.declared.status.Status.TheVariants.{Memory, ReadFault}
 use Rattle.search_run.specs.declared.status.Which.{Which}
 
 -- this status as the error of a call

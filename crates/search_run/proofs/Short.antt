@@ -1,7 +1,6 @@
 -- An answer has no more pairs than were asked for (`answer_short`).
-use Rattle.std.proofs.Common.{◌≡◌, ℕ, ◌≤◌, List, length, ap, arith}
-use Rattle.std.specs.Prelude.{ℤ, Result, Ok, Err, IfOk}
-use Rattle.outside.specs.declared.faults.NoMemory.{NoMemory}
+use Rattle.std.proofs.Common.{ℕ, ◌≤◌, List, length, ap, arith}
+use Rattle.std.specs.Prelude.{ℤ}
 use Rattle.std.proofs.lemmas.List.{length-take}
 use Rattle.series_core.specs.Answer.{answer, pairs_of}
 use Rattle.series_core.specs.Collection.{Collection}
@@ -15,9 +14,3 @@ answer_short c q k =
     let some : List Pair = ascending (pairs_of c q) in
     let same = ap (λ (ps : List Pair). length ps) (answer-smallest c q k) in
     omega (arith, same, length-take k some)
-
--- nor has one that ended well
-pub few_found : (c : Collection) (q : List ℤ) (k most : ℕ) (r : Result (List Pair) NoMemory) → k ≤ most
-    → IfOk r (λ pairs. pairs ≡ answer c q k) → IfOk r (λ pairs. length pairs ≤ most)
-few_found c q k most (Ok pairs) less is = omega (arith, ap length is, answer_short c q k, less)
-few_found c q k most (Err e) less is = tt

@@ -1,14 +1,5 @@
--- The line of each status but the one that has none.
-use Rattle.std.proofs.Common.{◌≡◌, ℕ, List, ◌++◌, ◌∷◌, [], refl, append_assoc}
-use Rattle.std.specs.Prelude.{codes}
-use Rattle.search_run.specs.declared.status.Status.{Status}
-use Rattle.search_run.specs.declared.status.Status.TheVariants.{Done}
-use Rattle.search_run.specs.Status.{fault_line, cause_of}
-
--- where the whole text was not written the line has its head, its cause and its end
-pub fault_line_other : (s : Status) → (s ≡ Done → ⊥) → fault_line s ≡ codes "isearch: " ++ cause_of s ++ 10 ∷ []
-fault_line_other Done other = absurd (other refl)
-fault_line_other s other = refl
+-- Numbers and counted texts behind a line, put together one after another.
+use Rattle.std.proofs.Common.{◌≡◌, ℕ, List, ◌++◌, append_assoc}
 
 -- two counted texts behind a line
 pub two_counted : (line a b c d : List ℕ) → (line ++ (a ++ b)) ++ (c ++ d) ≡ line ++ (((a ++ b) ++ c) ++ d)

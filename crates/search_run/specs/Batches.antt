@@ -1,12 +1,12 @@
 -- A batch of queries: what they are asked of, the answers that are found ahead, and teams that search one query together.
-use Rattle.std.specs.Prelude.{◌≡◌, ℕ, ℤ, ◌+◌, ◌*◌, ◌<◌, ◌≤◌, ⊤, List, [], length, get_or, Option, None, Result, IfOk}
+use Rattle.std.specs.Prelude.{◌≡◌, ℕ, ℤ, ◌+◌, ◌*◌, ◌<◌, ◌≤◌, ⊤, List, [], length, Option, None, Result, IfOk}
 use Rattle.std.specs.Borrow.{Bor}
-use Rattle.std.specs.List.{All}
 use Rattle.outside.specs.declared.faults.NoMemory.{NoMemory}
+use Rattle.command_words.specs.Limits.{IsWithin}
 use Rattle.command_words.specs.declared.limits.TheConstants.{MOST_QUEUES, MOST_WORKERS}
 use Rattle.command_words.specs.declared.options.Options.{Options}
 use Rattle.claim_word.specs.Passes.{Claim, fresh_pass}
-use Rattle.group_answer.specs.declared.asked.Answered.{Answered}
+use Rattle.group_answer.specs.Asking.{IsAsked}
 use Rattle.series_core.specs.Answer.{answer}
 use Rattle.series_core.specs.Collection.{Collection}
 use Rattle.series_core.specs.declared.best.TheConstants.{MAX_BEST}
@@ -20,14 +20,11 @@ use Rattle.search_run.specs.declared.finding.Asking.{Asking}
 use Rattle.search_run.specs.declared.batch.Batch.{Batch}
 use Rattle.search_run.specs.declared.dealing.Deal.{Deal}
 use Rattle.search_run.specs.declared.dealing.Share.{Share}
+use Rattle.search_run.specs.declared.tuning.TheConstants.{MOST_QUERIES_OF_DRAW}
 use Rattle.search_run.specs.declared.answers.Telling.{Telling}
 use Rattle.search_run.specs.declared.answers.Telling.TheVariants.{Nearest, Apart}
 use Rattle.search_run.specs.Texts.{AppendsPieces, query_text}
 use Rattle.window_rows.specs.Choice.{chosen_apart}
-
--- the answer to query i
-abbrev pub answer_to : {R : Type 0} → (R → Collection) → Batch R → ℕ → List Pair
-answer_to collection b i = answer (collection b.rows.now) (get_or b.queries.now.series i []) b.asking.k
 
 -- what these options ask for
 abbrev pub asking_of : Options → Asking
@@ -42,15 +39,16 @@ pub record IsAsking (a : Asking) : Type 0 where
   pub some_queue : 1 ≤ a.queues
   pub few_queues : a.queues ≤ MOST_QUEUES
 
--- the tree is one of the rows, the queries are as long as they, and what is asked is within its limits
+-- what the queries are asked of can be searched for them, and there are workers, within their limits
 pub record IsBatch {R : Type 0} (collection : R → Collection) (b : Batch R) : Type 0 where
-  pub tree : IsTreeFor (collection b.rows.now) b.tree.now
-  pub length : b.queries.now.points ≡ (collection b.rows.now).points
-  pub asking : IsAsking b.asking
+  pub asked : IsAsked collection b.asked
+  pub workers : IsWithin 1 MOST_WORKERS b.workers
 
--- what was found for a query is the answer to it
-abbrev pub AreRight : {R : Type 0} → (R → Collection) → Batch R → List Answered → Type 0
-AreRight collection b = All (λ f. f.pairs ≡ answer_to collection b f.number)
+-- it asks these queries of these rows, each for k of the nearest
+pub record Asks {R : Type 0} (rows : Bor R) (queries : Bor Collection) (k : ℕ) (b : Batch R) : Type 0 where
+  pub rows_are : b.asked.rows ≡ rows
+  pub queries_are : b.asked.queries ≡ queries
+  pub k_is : b.asked.k ≡ k
 
 -- a worker that has drawn no query of these and found nothing
 pub record IsFresh (claims : Claim) (share : Share) : Type 0 where
@@ -60,7 +58,7 @@ pub record IsFresh (claims : Claim) (share : Share) : Type 0 where
 -- so many draws of some queries each, and each of them has a query of those that are dealt
 pub record IsDeal (d : Deal) (draws queries : ℕ) : Type 0 where
   pub some : 1 ≤ d.each
-  pub few : d.each ≤ 16
+  pub few : d.each ≤ MOST_QUERIES_OF_DRAW
   pub end : d.end ≤ queries
   pub real : (n : ℕ) → n < draws → d.first + n * d.each < d.end
 

@@ -2,6 +2,7 @@
 //! or each worker another query. The text of a query is written once all of it stands in memory, and before that of the next.
 
 ghost use Rattle.std.specs.Prelude.{◌≡◌, ◌<◌, ◌≤◌, IfErr, IfOk, OnOk, length};
+ghost use Rattle.group_answer.specs.Asking.{AreAnswers, answer_to};
 ghost use Rattle.search_run.specs.Stops.{Stops};
 ghost use Rattle.search_run.specs.Traffic.{wrote_to};
 
@@ -9,7 +10,7 @@ use crate::batch::Batch;
 use crate::crew::Crew;
 use crate::output::text::query_text;
 use crate::status::Status;
-use group_answer::Answered;
+use group_answer::{Answered, next_answer};
 use outside::{Gate, NoMemory, Sink, write_whole};
 use series_core::{LabelList, PairList, Rows};
 use std::alloc::Global;
@@ -21,11 +22,11 @@ use window_rows::choose;
 pub enum Telling<'a> {
     /// All of them, with their labels.
     Nearest(&'a Option<LabelList>),
-    /// The first `k` whose numbers differ by at least so much.
+    /// Some of them, chosen so that their numbers lie apart: by how much they differ at least, and how many.
     Apart(u32, u32),
 }
 
-ghost use Rattle.search_run.specs.Batches.{AppendsTold, AreRight, CanBeTold, IsBatch, IsTold, answer_to, told};
+ghost use Rattle.search_run.specs.Batches.{AppendsTold, CanBeTold, IsBatch, IsTold, told};
 
 impl Telling<'_> {
     /// The text of query i, to which these pairs are nearest.
@@ -57,12 +58,12 @@ enum Way {
 impl<R: Rows> Batch<'_, R> {
     /// How query i is answered.
     fn way(&self, i: u32) -> Way
-        requires below { i < length self.now.queries.now.series }
+        requires below { i < length self.now.asked.queries.now.series }
     {
-        let left = self.queries.count() - i;
-        if self.asking.workers == 1 {
+        let left = self.asked.queries.count() - i;
+        if self.workers == 1 {
             Way::Alone
-        } else if left < self.asking.workers {
+        } else if left < self.workers {
             Way::Team
         } else {
             Way::SideBySide
@@ -79,20 +80,23 @@ impl<R: Rows + Sync> Batch<'_, R> {
         ahead: &mut Vec<Answered>,
     ) -> Result<PairList, NoMemory>
         requires batch { IsBatch R.collection self.now }
-        requires below { i < length self.now.queries.now.series }
-        requires ahead { AreRight R.collection self.now ahead.old.items }
-        ensures right { IfOk result (λ pairs. pairs ≡ answer_to R.collection self.now i) }
-        ensures ahead { AreRight R.collection self.now ahead.new.items }
+        requires below { i < length self.now.asked.queries.now.series }
+        requires ahead { AreAnswers R.collection self.now.asked ahead.old.items }
+        ensures right { IfOk result (λ pairs. pairs ≡ answer_to R.collection self.now.asked i) }
+        ensures ahead { AreAnswers R.collection self.now.asked ahead.new.items }
     {
-        if let Some(pairs) = self.take(ahead, i) {
+        if let Some(pairs) = self.asked.take(ahead, i) {
             return Ok(pairs);
         }
         match self.way(i) {
-            Way::Alone => self.next(crew.alloc, i, self.queries.count(), ahead),
+            Way::Alone => {
+                let end = self.asked.queries.count();
+                next_answer(crew.alloc, &self.asked, i, end, ahead)
+            }
             Way::Team => self.by_team(crew, i),
             Way::SideBySide => {
                 *ahead = self.side_by_side(crew, i)?;
-                match self.take(ahead, i) {
+                match self.asked.take(ahead, i) {
                     Some(pairs) => Ok(pairs),
                     None => Err(NoMemory),
                 }
@@ -110,14 +114,14 @@ pub fn write_answers<T: Threads + Sync, R: Rows + Sync, G: Gate + Sync, S: Sink>
 ) -> Result<(), Status>
     requires batch { IsBatch R.collection batch.now }
     requires telling { CanBeTold telling.now }
-    ensures ok { OnOk result (AppendsTold telling.now (R.collection batch.now.rows.now) batch.now.asking.k
-        batch.now.queries.now.series (S.written out.old) (S.written out.new)) }
-    ensures stops { IfErr result (Stops (IsTold telling.now (R.collection batch.now.rows.now) batch.now.asking.k)
-        batch.now.queries.now.series (wrote_to S.Sink out.old out.new)) }
+    ensures ok { OnOk result (AppendsTold telling.now (R.collection batch.now.asked.rows.now) batch.now.asked.k
+        batch.now.asked.queries.now.series (S.written out.old) (S.written out.new)) }
+    ensures stops { IfErr result (Stops (IsTold telling.now (R.collection batch.now.asked.rows.now) batch.now.asked.k)
+        batch.now.asked.queries.now.series (wrote_to S.Sink out.old out.new)) }
     ensures counts { S.faults out.old ≤ S.faults out.new }
 {
     let mut ahead = Vec::new(crew.alloc);
-    for i in 0..batch.queries.count() {
+    for i in 0..batch.asked.queries.count() {
         let pairs = batch.answer(crew, i, &mut ahead)?;
         let text = telling.text(crew.alloc, i, &pairs)?;
         write_whole(out, &text)?;

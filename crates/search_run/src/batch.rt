@@ -1,94 +1,65 @@
 //! The queries of a run and what they are asked of: each is answered by one worker, alone or with others, or by all.
 //! Its one rule: what is found ahead stands beside the number of its query, and is the answer to that query.
 
-ghost use Rattle.std.specs.Prelude.{◌≡◌, ◌<◌, ◌≤◌, ℕ, IfOk, IfSome, length};
-ghost use Rattle.group_answer.specs.Asking.{IsAsked, answer_to as answer_in_group};
-ghost use Rattle.search_run.specs.Batches.{AreRight, IsBatch, answer_to};
+ghost use Rattle.std.specs.Prelude.{◌≡◌, ◌<◌, ◌≤◌, IfOk, length};
+ghost use Rattle.command_words.specs.Limits.{IsWithin};
+ghost use Rattle.command_words.specs.declared.limits.TheConstants.{MOST_WORKERS};
+ghost use Rattle.group_answer.specs.Asking.{answer_to};
+ghost use Rattle.series_core.specs.declared.best.TheConstants.{MAX_BEST};
+ghost use Rattle.search_run.specs.Batches.{Asks, IsBatch};
+ghost use Rattle.search_run.specs.Finding.{IsTreeFor};
 
 use crate::crew::Crew;
-use crate::finding::{Asking, nearest_shared};
-use crate::row::row_of;
 use crate::tree::Tree;
-use group_answer::{Answered, Asked, next_answer};
+use group_answer::Asked;
+use nearest_answer::answer_by_team;
 use outside::{Gate, NoMemory};
 use series_core::{Flat, PairList, Rows};
-use std::alloc::Global;
 use std::thread::Threads;
 
-/// Queries, what they are asked of, and how.
+/// Queries with what they are asked of, and how many workers there are.
 #[derive(Drop)]
 pub struct Batch<'a, R> {
-    /// What is searched.
-    pub rows: &'a R,
-    /// The tree of it.
-    pub tree: &'a Tree,
-    /// The queries.
-    pub queries: &'a Flat,
-    /// How many of the nearest are asked for, by how many workers, over how many queues.
-    pub asking: Asking,
+    /// The queries, and what they are asked of.
+    pub asked: Asked<'a, R>,
+    /// How many workers answer them.
+    pub workers: u32,
 }
 
-impl<R: Rows> Batch<'_, R> {
-    /// Takes the pairs of query i, where they stand next among those that were found ahead.
-    pub fn take(&self, ahead: &mut Vec<Answered>, i: u32) -> Option<PairList>
-        requires ahead { AreRight R.collection self.now ahead.old.items }
-        ensures right { IfSome result (λ pairs. pairs ≡ answer_to R.collection self.now i) }
-        ensures ahead { AreRight R.collection self.now ahead.new.items }
+impl<'a, R: Rows> Batch<'a, R> {
+    /// Queries of the series that a tree is of: of each the `k` nearest are wanted.
+    pub fn new(rows: &'a R, tree: &'a Tree, queries: &'a Flat, k: u32, workers: u32) -> Batch<'a, R>
+        requires tree { IsTreeFor (R.collection rows.now) tree.now }
+        requires length { queries.now.points ≡ (R.collection rows.now).points }
+        requires k { (1 ≤ k) × (k ≤ MAX_BEST) }
+        requires workers { IsWithin 1 MOST_WORKERS workers }
+        ensures batch { IsBatch R.collection result }
+        ensures asks { Asks rows.entry queries.entry k result }
     {
-        if ahead.last()?.number != i {
-            return None;
-        }
-        let found = ahead.pop()?;
-        Some(found.pairs)
-    }
-
-    /// The answer to query i, by one worker: alone, or with others before query `end`, whose answers are then ahead.
-    pub fn next(
-        &self,
-        alloc: Global,
-        i: u32,
-        end: u32,
-        ahead: &mut Vec<Answered>,
-    ) -> Result<PairList, NoMemory>
-        requires batch { IsBatch R.collection self.now }
-        requires below { i < end }
-        requires end { end ≤ length self.now.queries.now.series }
-        requires ahead { AreRight R.collection self.now ahead.old.items }
-        ensures right { IfOk result (λ pairs. pairs ≡ answer_to R.collection self.now i) }
-        ensures ahead { AreRight R.collection self.now ahead.new.items }
-    {
-        next_answer(alloc, &self.asked(), i, end, ahead)
-    }
-
-    // The queries, as a group of them is asked.
-    fn asked(&self) -> Asked<'_, R>
-        requires batch { IsBatch R.collection self.now }
-        ensures asked { IsAsked R.collection result }
-        ensures queries { result.queries.now ≡ self.now.queries.now }
-        ensures answers { (i : ℕ) → answer_in_group R.collection result i ≡ answer_to R.collection self.now i }
-    {
-        Asked {
-            rows: self.rows,
-            queries: self.queries,
-            k: self.asking.k,
-            layout: &self.tree.settings.layout,
-            index: &self.tree.index,
-        }
+        let asked = Asked {
+            rows,
+            queries,
+            k,
+            layout: &tree.settings.layout,
+            index: &tree.index,
+        };
+        Batch { asked, workers }
     }
 }
 
 impl<R: Rows + Sync> Batch<'_, R> {
-    /// The answer to query i, by all workers.
+    /// The answer to query i, by all workers, who share what is left to scan where that is much.
     pub fn by_team<T: Threads + Sync, G: Gate + Sync>(
         &self,
         crew: &Crew<'_, T, G>,
         i: u32,
     ) -> Result<PairList, NoMemory>
         requires batch { IsBatch R.collection self.now }
-        requires below { i < length self.now.queries.now.series }
-        ensures { IfOk result (λ pairs. pairs ≡ answer_to R.collection self.now i) }
+        requires below { i < length self.now.asked.queries.now.series }
+        ensures { IfOk result (λ pairs. pairs ≡ answer_to R.collection self.now.asked i) }
     {
-        let query = row_of(self.queries, i);
-        nearest_shared(crew, self.rows, self.tree, query, self.asking)
+        let task = self.asked.task(i);
+        let index = self.asked.index;
+        answer_by_team(crew.rt, crew.alloc, &task, index, self.workers, crew.gate)
     }
 }

@@ -2,13 +2,16 @@
 //! queries take longer. Each draw passes the gate. Its one rule: what is found for a query stands beside its number.
 ghost use Rattle.std.specs.Prelude.{◌≡◌, ◌+◌, ◌*◌, ◌<◌, ◌≤◌, ℕ, All, IfOk, length, vec_len};
 ghost use Rattle.claim_word.specs.Passes.{Claim, fresh_pass};
-ghost use Rattle.search_run.specs.Batches.{AreRight, IsBatch, IsDeal, IsFresh};
+ghost use Rattle.group_answer.specs.Asking.{AreAnswers};
+ghost use Rattle.command_words.specs.declared.limits.TheConstants.{MOST_WORKERS};
+ghost use Rattle.search_run.specs.Batches.{IsBatch, IsDeal, IsFresh};
+ghost use Rattle.search_run.specs.declared.tuning.TheConstants.{MOST_QUERIES_OF_DRAW};
 
 use crate::batch::Batch;
 use crate::crew::Crew;
 use crate::tuning::{FIRST_QUERIES_AHEAD, QUERIES_AHEAD, queries_of_draw};
 use claim_word::{ClaimPass, Claims};
-use group_answer::Answered;
+use group_answer::{Answered, next_answer};
 use outside::{Gate, NoMemory};
 use series_core::Rows;
 use std::alloc::Global;
@@ -31,7 +34,7 @@ pub struct Share {
 pub struct Deal {
     /// The first of them.
     pub first: u32,
-    /// Behind the last.
+    /// The number behind the last.
     pub end: u32,
     /// How many a worker draws at a time.
     pub each: u32,
@@ -44,7 +47,7 @@ impl Deal {
         requires workers { 1 ≤ workers }
         ensures first { result.first ≡ first }
         ensures end { (first < result.end) × (result.end ≤ count) }
-        ensures each { (1 ≤ result.each) × (result.each ≤ 16) }
+        ensures each { (1 ≤ result.each) × (result.each ≤ MOST_QUERIES_OF_DRAW) }
     {
         let most = first.max(FIRST_QUERIES_AHEAD).min(QUERIES_AHEAD);
         let size = most.min(count - first);
@@ -65,9 +68,9 @@ impl Deal {
     }
 }
 
-// A share for each pass, of which there are at most 64, with nothing found.
+// A share for each pass, of which there are no more than workers, with nothing found.
 fn shares(alloc: Global, passes: Vec<ClaimPass>) -> Result<Vec<Share>, NoMemory>
-    requires few { vec_len passes ≤ 64 }
+    requires few { vec_len passes ≤ MOST_WORKERS }
     ensures { (claims : Claim) → All (λ p. p ≡ fresh_pass claims) passes.items
         → IfOk result (λ shares. All (IsFresh claims) shares.items) }
 {
@@ -94,12 +97,12 @@ impl<R: Rows> Batch<'_, R> {
         share: &mut Share,
     )
         requires batch { IsBatch R.collection self.now }
-        requires deal { IsDeal deal claims.now.count (length self.now.queries.now.series) }
+        requires deal { IsDeal deal claims.now.count (length self.now.asked.queries.now.series) }
         requires fresh { IsFresh claims.now share.old }
-        ensures { AreRight R.collection self.now share.new.found.items }
+        ensures { AreAnswers R.collection self.now.asked share.new.found.items }
     {
         // for the fact that their number fits
-        let _count = self.queries.count();
+        let _count = self.asked.queries.count();
         let mut turn = 0u64;
         loop {
             crew.gate.pass(share.number, turn);
@@ -127,13 +130,13 @@ impl<R: Rows> Batch<'_, R> {
         found: &mut Vec<Answered>,
     ) -> Result<(), NoMemory>
         requires batch { IsBatch R.collection self.now }
-        requires end { to ≤ length self.now.queries.now.series }
-        requires found { AreRight R.collection self.now found.old.items }
-        ensures { AreRight R.collection self.now found.new.items }
+        requires end { to ≤ length self.now.asked.queries.now.series }
+        requires found { AreAnswers R.collection self.now.asked found.old.items }
+        ensures { AreAnswers R.collection self.now.asked found.new.items }
     {
         let mut ahead = Vec::new(alloc);
         for number in from..to {
-            if let Ok(pairs) = self.next(alloc, number, to, &mut ahead) {
+            if let Ok(pairs) = next_answer(alloc, &self.asked, number, to, &mut ahead) {
                 found.push(Answered { number, pairs })?;
             }
         }
@@ -142,8 +145,8 @@ impl<R: Rows> Batch<'_, R> {
 
     // All that was found, the last query first.
     fn gather(&self, alloc: Global, shares: Vec<Share>) -> Result<Vec<Answered>, NoMemory>
-        requires { All (λ s. AreRight R.collection self.now s.found.items) shares.items }
-        ensures { IfOk result (λ found. AreRight R.collection self.now found.items) }
+        requires { All (λ s. AreAnswers R.collection self.now.asked s.found.items) shares.items }
+        ensures { IfOk result (λ found. AreAnswers R.collection self.now.asked found.items) }
     {
         let mut all = Vec::new(alloc);
         for share in shares {
@@ -165,15 +168,11 @@ impl<R: Rows + Sync> Batch<'_, R> {
         first: u32,
     ) -> Result<Vec<Answered>, NoMemory>
         requires batch { IsBatch R.collection self.now }
-        requires below { first < length self.now.queries.now.series }
-        ensures { IfOk result (λ found. AreRight R.collection self.now found.items) }
+        requires below { first < length self.now.asked.queries.now.series }
+        ensures { IfOk result (λ found. AreAnswers R.collection self.now.asked found.items) }
     {
-        let deal = Deal::of(first, self.queries.count(), self.asking.workers);
-        let (claims, passes) = Claims::begin(
-            crew.alloc,
-            u64::from(deal.draws()),
-            self.asking.workers,
-        )?;
+        let deal = Deal::of(first, self.asked.queries.count(), self.workers);
+        let (claims, passes) = Claims::begin(crew.alloc, u64::from(deal.draws()), self.workers)?;
         let mut shares = shares(crew.alloc, passes)?;
         self.draw_together(crew, &claims, deal, shares.as_mut_slice());
         self.gather(crew.alloc, shares)
@@ -188,9 +187,9 @@ impl<R: Rows + Sync> Batch<'_, R> {
         shares: &mut [Share],
     )
         requires batch { IsBatch R.collection self.now }
-        requires deal { IsDeal deal claims.now.count (length self.now.queries.now.series) }
+        requires deal { IsDeal deal claims.now.count (length self.now.asked.queries.now.series) }
         requires fresh { All (IsFresh claims.now) shares.old }
-        ensures { All (λ s. AreRight R.collection self.now s.found.items) shares.new }
+        ensures { All (λ s. AreAnswers R.collection self.now.asked s.found.items) shares.new }
     {
         for_each_mut(
             crew.rt,

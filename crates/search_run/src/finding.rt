@@ -1,22 +1,23 @@
-//! What finds the answers to a query: a search of the tree for the k nearest, by one worker or by a team, or for all within a
-//! radius.
+//! What finds all series within a radius, the discords of a collection, and the nearest with the whole outcome of their search, which a
+//! certificate tells.
 
 ghost use Rattle.std.specs.Prelude.{◌≡◌, ◌≤◌, length, IfOk};
-ghost use Rattle.series_core.specs.Answer.{answer, within};
+ghost use Rattle.series_core.specs.Answer.{within};
 ghost use Rattle.command_words.specs.Limits.{OptionsKeepLimits};
 ghost use Rattle.command_words.specs.declared.limits.TheConstants.{MOST_WORKERS};
+ghost use Rattle.discord_query.specs.Discords.{discords};
 ghost use Rattle.search_run.specs.Batches.{CanAsk, HasRightOutcome, IsAsking, asking_of};
 ghost use Rattle.search_run.specs.Finding.{IsTreeFor};
 
 use crate::crew::Crew;
 use crate::tree::Tree;
 use command_words::Options;
+use discord_query::{DiscordList, discord};
 use live_query::nearest_sealed;
-use nearest_answer::answer_by_team;
 use outside::{Gate, NoMemory};
 use query_core::{Outcome, Task, one_worker};
 use range_query::within;
-use series_core::{PairList, Rows};
+use series_core::{Flat, PairList, Rows};
 use std::alloc::Global;
 use std::sync::Wait;
 use std::thread::Threads;
@@ -43,28 +44,6 @@ pub fn asking_of(options: &Options) -> Asking
         workers: options.workers,
         queues: options.queues,
     }
-}
-
-/// The k series nearest to a query of their length, by all workers, who share what is left to scan where that is much.
-pub fn nearest_shared<T: Threads + Sync, R: Rows + Sync, G: Gate + Sync>(
-    crew: &Crew<'_, T, G>,
-    rows: &R,
-    tree: &Tree,
-    query: &[i16],
-    asking: Asking,
-) -> Result<PairList, NoMemory>
-    requires { CanAsk (R.collection rows.now) tree.now query.now asking }
-    ensures { IfOk result (λ pairs. pairs ≡ answer (R.collection rows.now) query.now asking.k) }
-{
-    let task = Task::new(rows, query, asking.k, &tree.settings.layout);
-    answer_by_team(
-        crew.rt,
-        crew.alloc,
-        &task,
-        &tree.index,
-        asking.workers,
-        crew.gate,
-    )
 }
 
 /// The whole outcome of the search for the series nearest to a query of their length, over sealed runs: by a team that never waits, or
@@ -160,4 +139,27 @@ pub fn near<T: Threads + Sync, R: Rows + Sync, G: Gate + Sync>(
         crew.gate,
     )?;
     Ok(PairList { items })
+}
+
+/// The series whose nearest other is farthest, by the tree of all of them.
+pub fn farthest<T: Threads + Sync, G: Gate + Sync>(
+    crew: &Crew<'_, T, G>,
+    rows: &Flat,
+    tree: &Tree,
+    options: &Options,
+) -> Result<DiscordList, NoMemory>
+    requires options { OptionsKeepLimits options.now }
+    requires tree { IsTreeFor rows.now tree.now }
+    ensures { IfOk result (λ found. found ≡ discords rows.now options.now.k) }
+{
+    discord(
+        crew.rt,
+        crew.alloc,
+        rows,
+        &tree.index,
+        &tree.settings.layout,
+        options.k,
+        options.workers,
+        crew.gate,
+    )
 }

@@ -8,6 +8,7 @@ mod commands;
 mod crew;
 mod dealing;
 mod finding;
+mod growing;
 mod input;
 mod laws;
 mod layout;
@@ -19,7 +20,7 @@ mod status;
 mod tree;
 mod tuning;
 
-pub use command_words::{Command, Options, Text, WordsError, parse_words};
+pub use command_words::{Command, WordsError, parse_words};
 pub use laws::{certificate_law, convert_law};
 pub use random_walks::walks;
 pub use running::{run, run_free};

@@ -1,7 +1,6 @@
 //! One command, answered by what each command does. The calls by which a team searches are handed down, so that only a caller that may
 //! wait hands down calls that wait.
 
-ghost use Rattle.std.specs.Prelude.{◌≡◌};
 ghost use Rattle.std.specs.Thread.{IsSync};
 ghost use Rattle.command_words.specs.Limits.{KeepsLimits};
 ghost use Rattle.search_run.specs.Batches.{CanAsk, HasRightOutcome, IsTeam};

@@ -21,11 +21,11 @@ pub enum Which {
 /// Why a certificate does not hold.
 #[derive(Clone, Copy, Debug, PartialEq, Eq)]
 pub enum CertFault {
-    /// The first line, counted from 1, with which the lines begin no certificate; it is one past the last where a block is not finished.
+    /// The first line, counted from 1, with which the lines so far begin no certificate; where a block is not finished, one past the last.
     Line(u64),
     /// It is longer than a certificate may be.
     TooLong,
-    /// The first test that fails, of what the certificate says.
+    /// What it says fails a test: this is the first that fails.
     Rejected(Reject),
 }
 

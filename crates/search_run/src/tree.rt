@@ -1,19 +1,6 @@
-//! The tree of a collection, by the options of a command.
+//! A tree with what it goes by. Its one rule: how it came to be is told by the call that gives it.
 
-ghost use Rattle.std.specs.Prelude.{◌≡◌, IfOk};
-ghost use Rattle.command_words.specs.Limits.{OptionsKeepLimits};
-ghost use Rattle.segment_sums.specs.Division.{IsDivision};
-ghost use Rattle.subtree_build.specs.Index.{IsIndex};
-ghost use Rattle.search_run.specs.Layouts.{settings_of};
-ghost use Rattle.search_run.specs.Plans.{HasSegments};
-
-use crate::crew::Crew;
-use crate::layout::layout_of;
-use command_words::Options;
-use outside::{Gate, NoMemory};
-use series_core::Rows;
-use std::thread::Threads;
-use subtree_build::{Index, Settings, build};
+use subtree_build::{Index, Settings};
 
 /// The tree of a collection, and the settings that it goes by.
 #[derive(Drop)]
@@ -22,38 +9,4 @@ pub struct Tree {
     pub index: Index,
     /// How series become words, and how many members a leaf may have.
     pub settings: Settings,
-}
-
-ghost use Rattle.search_run.specs.Finding.{IsBuiltOf, IsTreeFor};
-
-/// Builds the tree of series with the asked segments, leaf size, breakpoints and workers.
-pub fn tree_of<T: Threads + Sync, R: Rows + Sync, G: Gate + Sync>(
-    crew: &Crew<'_, T, G>,
-    rows: &R,
-    options: &Options,
-) -> Result<Tree, NoMemory>
-    requires limits { OptionsKeepLimits options.now }
-    requires segments { HasSegments options.now.segments (R.collection rows.now).points }
-    ensures fits { IfOk result (IsTreeFor (R.collection rows.now)) }
-    ensures built { IfOk result (IsBuiltOf (R.collection rows.now)) }
-    ensures index { IfOk result (λ tree. IsIndex tree.index) }
-    ensures cuts { IfOk result (λ tree. IsDivision tree.settings.layout.cuts) }
-    ensures settings { IfOk result (λ tree. tree.settings ≡ settings_of (R.collection rows.now).points options.now) }
-{
-    let settings = Settings {
-        layout: layout_of(rows.length(), options.segments, options.table),
-        leaf_size: options.leaf,
-    };
-    let index = build(
-        crew.rt,
-        crew.alloc,
-        rows,
-        &settings,
-        options.workers,
-        crew.gate,
-    )?;
-    // for the facts that the index is one, and that the cuts divide a series
-    let _leaves = index.leaf_count();
-    let _segments = settings.layout.cuts.segments();
-    Ok(Tree { index, settings })
 }

@@ -17,11 +17,12 @@ use crate::batch::Batch;
 use crate::commands::search::{Ground, answer_search};
 use crate::crew::Crew;
 use crate::finding::{Asking, asking_of};
+use crate::growing::tree_of;
 use crate::input::index_file::load_index;
 use crate::input::pair::{Both, Search, read_alike, read_both};
 use crate::output::text::query_text;
 use crate::status::Status;
-use crate::tree::{Tree, tree_of};
+use crate::tree::Tree;
 use certificate::print;
 use command_words::{Options, Text};
 use outside::{Files, Gate, NoMemory, Sink};
@@ -117,12 +118,9 @@ impl<
             both.now.queries.rows.series (wrote_to S.Sink out.old out.new)) }
         ensures counts { S.faults out.old ≤ S.faults out.new }
     {
-        let batch = Batch {
-            rows: &both.series.rows,
-            tree,
-            queries: &both.queries.rows,
-            asking: asking_of(self.search.options),
-        };
+        let options = self.search.options;
+        let (rows, queries) = (&both.series.rows, &both.queries.rows);
+        let batch = Batch::new(rows, tree, queries, options.k, options.workers);
         let telling = Telling::Nearest(&both.series.labels);
         write_answers(self.crew, &batch, &telling, out)
     }

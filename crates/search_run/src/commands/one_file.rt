@@ -4,31 +4,25 @@
 ghost use Rattle.std.specs.Prelude.{◌≡◌, ◌≢◌, ◌⊎◌, Option, IfOk, IfErr};
 ghost use Rattle.outside.specs.Files.{Held};
 ghost use Rattle.command_words.specs.Limits.{OptionsKeepLimits};
-ghost use Rattle.discord_query.specs.Discords.{discords};
 ghost use Rattle.search_run.specs.Commands.{file_plan, file_rest};
-ghost use Rattle.search_run.specs.DiscordLines.{discord_lines};
-ghost use Rattle.search_run.specs.Finding.{IsTreeFor};
-ghost use Rattle.search_run.specs.Indexes.{IsTreeText};
-ghost use Rattle.search_run.specs.Layouts.{settings_of};
 ghost use Rattle.search_run.specs.Pairs.{HasLabels};
-ghost use Rattle.search_run.specs.Plans.{HasSegments, Refuses, Writes};
+ghost use Rattle.search_run.specs.Plans.{Refuses, Writes};
 ghost use Rattle.search_run.specs.Serves.{Serves};
 ghost use Rattle.search_run.specs.Traffic.{Reading};
 ghost use Rattle.search_run.specs.declared.status.Status.{Status};
 ghost use Rattle.search_run.specs.declared.status.Which.{Which};
 
 use crate::crew::Crew;
+use crate::finding::farthest;
+use crate::growing::{tree_of, tree_text};
 use crate::input::file::{form_of, load};
 use crate::input::lengths::check_segments;
 use crate::output::converted::converted;
 use crate::output::discords::discord_text;
 use crate::status::{Status, Which};
-use crate::tree::{Tree, tree_of};
 use command_words::{Options, Text};
-use discord_query::discord;
-use outside::{Files, Gate, NoMemory, Sink, write_whole};
-use saved_index::save;
-use series_core::{Flat, Rows};
+use outside::{Files, Gate, Sink, write_whole};
+use series_core::Rows;
 use series_file::Loaded;
 use std::thread::Threads;
 
@@ -88,46 +82,9 @@ impl FileText {
             FileText::Discords => {
                 check_segments(options.segments, rows.length())?;
                 let tree = tree_of(crew, rows, options)?;
-                Ok(discord_lines(crew, rows, &tree, options)?)
+                let found = farthest(crew, rows, &tree, options)?;
+                Ok(discord_text(crew.alloc, &found)?)
             }
         }
     }
-}
-
-// The text of the tree of these series.
-fn tree_text<T: Threads + Sync, G: Gate + Sync>(
-    crew: &Crew<'_, T, G>,
-    rows: &Flat,
-    options: &Options,
-) -> Result<Vec<u8>, NoMemory>
-    requires options { OptionsKeepLimits options.now }
-    requires segments { HasSegments options.now.segments rows.now.points }
-    ensures { IfOk result (λ text. IsTreeText rows.now (settings_of rows.now.points options.now) text.items) }
-{
-    let tree = tree_of(crew, rows, options)?;
-    save(crew.alloc, &tree.settings, rows.count(), &tree.index)
-}
-
-// The lines of the discords of these series, which are those of this tree.
-fn discord_lines<T: Threads + Sync, G: Gate + Sync>(
-    crew: &Crew<'_, T, G>,
-    rows: &Flat,
-    tree: &Tree,
-    options: &Options,
-) -> Result<Vec<u8>, NoMemory>
-    requires options { OptionsKeepLimits options.now }
-    requires tree { IsTreeFor rows.now tree.now }
-    ensures { IfOk result (λ text. text.items ≡ discord_lines 1 (discords rows.now options.now.k)) }
-{
-    let discords = discord(
-        crew.rt,
-        crew.alloc,
-        rows,
-        &tree.index,
-        &tree.settings.layout,
-        options.k,
-        options.workers,
-        crew.gate,
-    )?;
-    discord_text(crew.alloc, &discords)
 }

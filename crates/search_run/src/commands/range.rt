@@ -1,6 +1,6 @@
 //! The command `range`: for each query all series within a radius, by a search of the tree.
 
-ghost use Rattle.std.specs.Prelude.{◌≡◌, ◌≤◌, length, IfOk};
+ghost use Rattle.std.specs.Prelude.{◌≡◌, length, IfOk};
 ghost use Rattle.std.specs.Thread.{IsSync};
 ghost use Rattle.command_words.specs.Limits.{OptionsKeepLimits};
 ghost use Rattle.series_core.specs.Answer.{within};

@@ -9,10 +9,11 @@ ghost use Rattle.search_run.specs.declared.status.Status.{Status};
 ghost use Rattle.search_run.specs.declared.status.Which.{Which};
 
 use crate::crew::Crew;
+use crate::growing::tree_of;
 use crate::input::pair::{Search, read_both};
 use crate::output::pieces::write_pieces;
 use crate::status::{Status, Which};
-use crate::tree::{Tree, tree_of};
+use crate::tree::Tree;
 use outside::{Files, Gate, NoMemory, Sink};
 use series_file::Loaded;
 use std::thread::Threads;

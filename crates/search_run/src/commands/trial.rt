@@ -15,11 +15,10 @@ ghost use Rattle.search_run.specs.declared.status.Which.{Which};
 
 use crate::batch::Batch;
 use crate::crew::Crew;
-use crate::finding::asking_of;
+use crate::growing::tree_of;
 use crate::input::lengths::check_segments;
 use crate::output::summary::{Summary, summary_text};
 use crate::status::{Status, Which};
-use crate::tree::tree_of;
 use command_words::Options;
 use outside::{Gate, NoMemory, Sink, write_whole};
 use random_walks::{generator, walks};
@@ -81,23 +80,19 @@ fn text_of<T: Threads + Sync, G: Gate + Sync>(
     ensures { IfOk result (λ text. text.items ≡ trial_text trial.now.seed trial.now.count trial.now.length
         trial.now.queries trial.now.options.now.k) }
 {
+    let options = trial.options;
     let mut rng = generator(trial.seed);
     let series = walks(crew.alloc, &mut rng, trial.count, trial.length)?;
     let asked = walks(crew.alloc, &mut rng, trial.queries, trial.length)?;
-    let tree = tree_of(crew, &series, trial.options)?;
-    let batch = Batch {
-        rows: &series,
-        tree: &tree,
-        queries: &asked,
-        asking: asking_of(trial.options),
-    };
+    let tree = tree_of(crew, &series, options)?;
+    let batch = Batch::new(&series, &tree, &asked, options.k, options.workers);
     let summary = summary_of(crew, &batch)?;
     summary_text(
         crew.alloc,
         trial.count,
         trial.length,
         trial.queries,
-        trial.options.k,
+        options.k,
         &summary,
     )
 }
@@ -108,13 +103,13 @@ fn summary_of<T: Threads + Sync, R: Rows + Sync, G: Gate + Sync>(
     batch: &Batch<'_, R>,
 ) -> Result<Summary, NoMemory>
     requires batch { IsBatch R.collection batch.now }
-    requires few { length batch.now.queries.now.series ≤ MOST_QUERIES }
+    requires few { length batch.now.asked.queries.now.series ≤ MOST_QUERIES }
     ensures { IfOk result (λ summary. summary
-        ≡ summed (answers_of (R.collection batch.now.rows.now) batch.now.asking.k batch.now.queries.now.series)) }
+        ≡ summed (answers_of (R.collection batch.now.asked.rows.now) batch.now.asked.k batch.now.asked.queries.now.series)) }
 {
     let mut summary = Summary::NONE;
     let mut ahead = Vec::new(crew.alloc);
-    for i in 0..batch.queries.count() {
+    for i in 0..batch.asked.queries.count() {
         let pairs = batch.answer(crew, i, &mut ahead)?;
         summary.add(&pairs.items);
     }

@@ -1,8 +1,8 @@
 //! The command `windows`: for each query the nearest windows of one long series, chosen so that they lie apart.
 //! The windows are lent, not copied. So many of the nearest are sought that the choice from them is that from all.
 
-ghost use Rattle.std.specs.Prelude.{◌≡◌, ◌≢◌, ◌<◌, ◌≤◌, List, ℕ, length, None, IfOk, IfErr};
-ghost use Rattle.command_words.specs.Limits.{IsWithin, OptionsKeepLimits};
+ghost use Rattle.std.specs.Prelude.{◌≡◌, ◌≢◌, ◌≤◌, length, IfOk, IfErr};
+ghost use Rattle.command_words.specs.Limits.{OptionsKeepLimits};
 ghost use Rattle.command_words.specs.Options.{windows_needed};
 ghost use Rattle.series_core.specs.declared.best.TheConstants.{MAX_BEST};
 ghost use Rattle.series_file.specs.Stages.{IsForm};
@@ -17,12 +17,11 @@ ghost use Rattle.search_run.specs.declared.status.Which.{Which};
 use crate::answers::{Telling, write_answers};
 use crate::batch::Batch;
 use crate::crew::Crew;
-use crate::finding::{Asking, asking_of};
+use crate::growing::tree_of;
 use crate::input::file::{form_of, load};
 use crate::input::lengths::check_segments;
 use crate::input::pair::{Both, Search};
 use crate::status::{Status, Which};
-use crate::tree::tree_of;
 use outside::{Files, Gate, Sink};
 use series_core::Rows;
 use series_file::Form;
@@ -49,15 +48,8 @@ pub fn answer_windows<T: Threads + Sync, F: Files, S: Sink, G: Gate + Sync>(
     let both = read_long(crew.alloc, files, search)?;
     let windows = Windows::new(both.series.rows.values(), both.queries.rows.length(), step);
     let tree = tree_of(crew, &windows, options)?;
-    let batch = Batch {
-        rows: &windows,
-        tree: &tree,
-        queries: &both.queries.rows,
-        asking: Asking {
-            k: options.windows_needed(),
-            ..asking_of(options)
-        },
-    };
+    let needed = options.windows_needed();
+    let batch = Batch::new(&windows, &tree, &both.queries.rows, needed, options.workers);
     let telling = Telling::Apart(options.apart, options.k);
     write_answers(crew, &batch, &telling, out)?;
     Ok(())

@@ -1,6 +1,6 @@
 //! The text of discords, line by line, in the form of the lines of answers.
 
-ghost use Rattle.std.specs.Prelude.{◌≡◌, ◌+◌, IfOk};
+ghost use Rattle.std.specs.Prelude.{◌≡◌, IfOk};
 ghost use Rattle.search_run.specs.DiscordLines.{discord_lines};
 
 use discord_query::DiscordList;

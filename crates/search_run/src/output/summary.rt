@@ -38,9 +38,9 @@ impl Summary {
         ensures answers { self.new.answers ≡ self.old.answers + length pairs.now }
         ensures distances { self.new.distances ≡ self.old.distances + total (λ p. p.distance) pairs.now }
         ensures numbers { self.new.numbers ≡ self.old.numbers + total (λ p. p.number) pairs.now }
-        ensures few { self.new.answers ≤ self.old.answers + 1024 }
-        ensures near { self.new.distances ≤ self.old.distances + 1024 * 2 ^ 64 }
-        ensures low { self.new.numbers ≤ self.old.numbers + 1024 * 2 ^ 32 }
+        ensures few { self.new.answers ≤ self.old.answers + MAX_BEST }
+        ensures near { self.new.distances ≤ self.old.distances + MAX_BEST * 2 ^ 64 }
+        ensures low { self.new.numbers ≤ self.old.numbers + MAX_BEST * 2 ^ 32 }
     {
         self.answers += pairs.len() as u64;
         for pair in pairs {

@@ -1,9 +1,6 @@
 //! The line that tells how a run ended. It takes no memory, and a fault of its sink changes nothing of the status.
 
-ghost use Rattle.std.specs.Prelude.{◌≡◌, ◌+◌, ◌≤◌, ◌++◌, ◌⊎◌, length, codes, decimal};
-ghost use Rattle.std.specs.Io.KnownBytes.{append_known};
-ghost use Rattle.outside.specs.Count.{Rose};
-ghost use Rattle.outside.specs.Sink.{AppendsPrefix};
+ghost use Rattle.std.specs.Prelude.{◌≡◌, ◌+◌, ◌≤◌, ◌++◌, length, codes, decimal};
 ghost use Rattle.run_traffic.specs.Traffic.{Tells};
 ghost use Rattle.certificate.specs.Spelling.{limit_text};
 ghost use Rattle.search_run.specs.Status.{fault_line, cause_of, file_cause, file_word};

@@ -1,7 +1,6 @@
 //! The text of a search, line by line. Fields are parted by one space, and each line ends with a line feed.
 
-ghost use Rattle.std.specs.Prelude.{◌≡◌, ◌+◌, ◌<◌, ◌++◌, ◌∷◌, length, OnOk, IfOk, IfSome, decimal};
-ghost use Rattle.std.specs.List.{All as Each};
+ghost use Rattle.std.specs.Prelude.{◌≡◌, ◌++◌, OnOk, IfOk};
 ghost use Rattle.search_run.specs.Texts.{query_line, query_text, answer_line, answer_lines};
 
 use outside::NoMemory;

@@ -4,9 +4,10 @@ use Rattle.isearch_c.proofs.Fitting.{Fits-had}
 use Rattle.isearch_c.proofs.Filling.{found_fill}
 use Rattle.isearch_c.proofs.searching.nearest.Goals as goal
 
-pub nearest_to_all-requires-clause-fits : goal.nearest_to_all-requires-clause-fits
-nearest_to_all-requires-clause-fits c =
-    let kept = c.args.searchable.now in Fits-had kept.rows kept.settings.layout kept.index kept.fits
+pub nearest_to_all-requires-clause-ground : goal.nearest_to_all-requires-clause-ground
+nearest_to_all-requires-clause-ground c =
+    let kept = c.args.searchable.now in
+    record { fits = Fits-had kept.rows kept.settings.layout kept.index kept.fits; length = kept.points }
 
 pub write-requires-clause-distances : goal.write-requires-clause-distances
 write-requires-clause-distances c =

@@ -10,11 +10,11 @@ loop-i-init g c = (search rules, ([], refl, Going-start g.S.Sink c.args.out.now)
 
 pub returns : goal.returns
 returns g c =
-    let batch = c.args.batch.now in
-    let all : length batch.queries.now.series ≤ c.loop-i.i = omega (arith, c.loop-i-test.false, c.count-i-end.ensures.count) in
+    let asked = c.args.batch.now.asked in
+    let all : length asked.queries.now.series ≤ c.loop-i.i = omega (arith, c.loop-i-test.false, c.count-i-end.ensures.count) in
     record {
-      ok = all_written (IsTold c.args.telling.now (g.R.Rows.collection batch.rows.now) batch.asking.k) c.loop-i.i
-          batch.queries.now.series all c.loop-i.invariant.1;
+      ok = all_written (IsTold c.args.telling.now (g.R.Rows.collection asked.rows.now) asked.k) c.loop-i.i
+          asked.queries.now.series all c.loop-i.invariant.1;
       stops = tt;
       counts = c.loop-i.invariant.1.2.counts;
     }
@@ -29,12 +29,12 @@ returns-in_err-text-clause-stops g c =
 
 pub returns-in_err-write_whole-clause-stops : goal.returns-in_err-write_whole-clause-stops
 returns-in_err-write_whole-clause-stops g c =
-    let batch = c.args.batch.now in
+    let asked = c.args.batch.now.asked in
     let new = c.deref.ensures.value ∙ c.in_ok-text.ensures
     ∙ ap (λ (ps : List Pair). told c.args.telling.now c.loop-i.i ps) c.in_ok-pairs.ensures.right in
     let failed = c.in_err-write_whole.ensures in
     failed_stops g.S.Sink c.args.out.now c.loop-i.out c.write_whole.new.sink
-    (IsTold c.args.telling.now (g.R.Rows.collection batch.rows.now) batch.asking.k) c.loop-i.i batch.queries.now.series
+    (IsTold c.args.telling.now (g.R.Rows.collection asked.rows.now) asked.k) c.loop-i.i asked.queries.now.series
     c.deref.result.now c.from_residual-in_err-write_whole.result c.from_residual-in_err-write_whole.ensures.1
     (omega (arith, c.loop-i-test.true, c.count-i-end.ensures.count)) new c.loop-i.invariant.1 failed.prefix failed.failed
     (λ room. false_is_not_true (failed.sure room).0)
@@ -43,10 +43,10 @@ pub loop-i-preserved : goal.loop-i-preserved
 loop-i-preserved g c =
     let new = c.deref.ensures.value ∙ c.in_ok-text.ensures
     ∙ ap (λ (ps : List Pair). told c.args.telling.now c.loop-i.i ps) c.in_ok-pairs.ensures.right in
-    let batch = c.args.batch.now in
+    let asked = c.args.batch.now.asked in
     let wrote = c.in_ok-write_whole.ensures in (
       c.in_ok-pairs.ensures.ahead,
-      goes_on (IsTold c.args.telling.now (g.R.Rows.collection batch.rows.now) batch.asking.k) c.loop-i.i
-          batch.queries.now.series c.deref.result.now (omega (arith, c.loop-i-test.true, c.count-i-end.ensures.count)) new
+      goes_on (IsTold c.args.telling.now (g.R.Rows.collection asked.rows.now) asked.k) c.loop-i.i
+          asked.queries.now.series c.deref.result.now (omega (arith, c.loop-i-test.true, c.count-i-end.ensures.count)) new
           c.loop-i.invariant.1 wrote.ok wrote.counts wrote.spent,
     )

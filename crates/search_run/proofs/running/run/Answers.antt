@@ -10,69 +10,41 @@ use Rattle.search_run.proofs.Concluding.{answer_ends, answers_cause, answers_exa
 use Rattle.search_run.proofs.Served.{never_read}
 use Rattle.search_run.proofs.running.run.Goals as goal
 
-pub returns-in-Ok-clause-ends : goal.returns-in-Ok-clause-ends
-returns-in-Ok-clause-ends g c =
+pub returns-in-Ok : goal.returns-in-Ok
+returns-in-Ok g c =
     let reading = read_from g.F.Files c.args.files.now c.answer_waiting.new.files in
     let writing = wrote_to g.S.Sink c.args.out.now c.answer_waiting.new.out in
-    let answered = subst (Answers reading writing c.in-Ok.command) (sym c.ended-status.ensures) c.answer_waiting.ensures.answers in
-    answer_ends _ reading writing c.in-Ok.command c.ended-status.result c.in-Ok.ensures.asks
-    (answers_not_usage reading writing c.in-Ok.command c.ended-status.result answered) answered
-
-pub returns-in-Ok-clause-complete : goal.returns-in-Ok-clause-complete
-returns-in-Ok-clause-complete g c command can =
-    let reading = read_from g.F.Files c.args.files.now c.answer_waiting.new.files in
-    let writing = wrote_to g.S.Sink c.args.out.now c.answer_waiting.new.out in
-    let answered = subst (Answers reading writing c.in-Ok.command) (sym c.ended-status.ensures) c.answer_waiting.ensures.answers in
-    let same = c.in-Ok.ensures.same command can.0 in
-    let able = subst (CanAnswer reading.held) (sym same) can.1 in
-    subst
-    (λ asked. Finishes reading.held asked reading.faults reading.later writing.faults writing.later
-    c.ended-status.result)
-    same
-    (answers_finish reading writing c.in-Ok.command c.ended-status.result answered able)
-
-pub returns-in-Ok-clause-valid : goal.returns-in-Ok-clause-valid
-returns-in-Ok-clause-valid g c command can faultless =
-    let reading = read_from g.F.Files c.args.files.now c.answer_waiting.new.files in
-    let writing = wrote_to g.S.Sink c.args.out.now c.answer_waiting.new.out in
-    let answered = subst (Answers reading writing c.in-Ok.command) (sym c.ended-status.ensures) c.answer_waiting.ensures.answers in
-    let same = c.in-Ok.ensures.same command can.0 in
-    let able = subst (CanAnswer reading.held) (sym same) can.1 in
-    answers_faultless reading writing c.in-Ok.command c.ended-status.result answered able
-    (subst (IsFaultless reading.held) (sym same) faultless)
-
-pub returns-in-Ok-clause-exact : goal.returns-in-Ok-clause-exact
-returns-in-Ok-clause-exact g c command can told has =
-    let reading = read_from g.F.Files c.args.files.now c.answer_waiting.new.files in
-    let writing = wrote_to g.S.Sink c.args.out.now c.answer_waiting.new.out in
-    let answered = subst (Answers reading writing c.in-Ok.command) (sym c.ended-status.ensures) c.answer_waiting.ensures.answers in
-    let same = c.in-Ok.ensures.same command can.0 in
-    let able = subst (CanAnswer reading.held) (sym same) can.1 in
-    answers_exactly reading writing c.in-Ok.command c.ended-status.result answered able told
-    (subst (λ asked. HasFault reading.held (plan_of asked) told) (sym same) has)
-
-pub returns-in-Ok-clause-cause : goal.returns-in-Ok-clause-cause
-returns-in-Ok-clause-cause g c =
-    let reading = read_from g.F.Files c.args.files.now c.answer_waiting.new.files in
-    let writing = wrote_to g.S.Sink c.args.out.now c.answer_waiting.new.out in
-    let answered = subst (Answers reading writing c.in-Ok.command) (sym c.ended-status.ensures) c.answer_waiting.ensures.answers in
-    answers_cause reading writing c.in-Ok.command c.ended-status.result answered
-
-pub returns-in-Ok-clause-certifies : goal.returns-in-Ok-clause-certifies
-returns-in-Ok-clause-certifies g c command asks =
-    let reading = read_from g.F.Files c.args.files.now c.answer_waiting.new.files in
-    let writing = wrote_to g.S.Sink c.args.out.now c.answer_waiting.new.out in
-    let answered = subst (Answers reading writing c.in-Ok.command) (sym c.ended-status.ensures) c.answer_waiting.ensures.answers in
-    subst (λ asked. Certifies reading.held asked writing c.ended-status.result) (c.in-Ok.ensures.same command asks)
-    (answers_certify reading writing c.in-Ok.command c.ended-status.result c.in-Ok.ensures.limits c.in-Ok.ensures.alone
-    answered)
+    let command = c.in-Ok.command in
+    let status = c.ended-status.result in
+    let served = c.answer_waiting.ensures in
+    let answered = subst (Answers reading writing command) (sym c.ended-status.ensures) served.answers in
+    let asked = c.in-Ok.ensures in
+    record {
+      ends = answer_ends _ reading writing command status asked.asks (answers_not_usage reading writing command status answered) answered;
+      complete = λ other can.
+          subst (λ named. Finishes reading.held named reading.faults reading.later writing.faults writing.later status)
+          (asked.same other can.0)
+          (answers_finish reading writing command status answered
+          (subst (CanAnswer reading.held) (sym (asked.same other can.0)) can.1));
+      valid = λ other can faultless.
+          answers_faultless reading writing command status answered
+          (subst (CanAnswer reading.held) (sym (asked.same other can.0)) can.1)
+          (subst (IsFaultless reading.held) (sym (asked.same other can.0)) faultless);
+      exact = λ other can told has.
+          answers_exactly reading writing command status answered
+          (subst (CanAnswer reading.held) (sym (asked.same other can.0)) can.1) told
+          (subst (λ named. HasFault reading.held (plan_of named) told) (sym (asked.same other can.0)) has);
+      cause = answers_cause reading writing command status answered;
+      certifies = λ other asks.
+          subst (λ named. Certifies reading.held named writing status) (asked.same other asks)
+          (answers_certify reading writing command status asked.limits asked.alone answered);
+      told = c.tell.ensures;
+      kept = served.kept;
+      reliable = λ sound w. never_read _ status w c.ended-status.ensures (served.reliable sound w);
+    }
 
 pub returns-in-Err-clause-certifies : goal.returns-in-Err-clause-certifies
 returns-in-Err-clause-certifies g c command asks =
     only_done (g.F.Files.held c.args.files.now) command
     (wrote_to g.S.Sink c.args.out.now c.args.out.now) c.in-Err.status
     (none_done (map string_bytes c.args.words.now) c.in-Err.status c.in-Err.ensures.refused)
-
-pub returns-in-Ok-clause-reliable : goal.returns-in-Ok-clause-reliable
-returns-in-Ok-clause-reliable g c sound w =
-    never_read _ c.ended-status.result w c.ended-status.ensures (c.answer_waiting.ensures.reliable sound w)

@@ -1,18 +1,14 @@
-use Rattle.std.proofs.Common.{◌≡◌, ◌+◌, refl, ap, ◌∙◌, subst, length}
-use Rattle.std.specs.Prelude.{IfOk}
+use Rattle.std.proofs.Common.{refl, ap, ◌∙◌, subst}
 use Rattle.std.specs.List.{flat_map}
 use Rattle.std.proofs.Crossing.{crosses}
 use Rattle.std.proofs.lemmas.Result.{err_from_is_err_and}
 use denote.Exit.{no}
 use denote.Param.Send.{IsSync, arg_send, param_send, sendable}
 use Rattle.live_collection.specs.Histories.{appended}
-use Rattle.live_collection.specs.Sides.{points_of}
 use Rattle.live_collection.specs.Steps.{Appends}
 use Rattle.live_collection.proofs.Sends.{writer_sends}
-use Rattle.live_run.specs.Replies.{IsAskedText}
-use Rattle.live_run.specs.Dialogues.{batches_seen}
+use Rattle.live_run.specs.Dialogues.{AsksAll, batches_seen}
 use Rattle.live_run.specs.Texts.{file_queries}
-use Rattle.live_run.specs.declared.answering.Answers.{Answers}
 use Rattle.live_run.proofs.Sends.{side_sends}
 use Rattle.live_run.proofs.Taking.{all_seen, group_told, refuses_append, stands_limits, stands_more}
 use Rattle.live_run.proofs.dialogue.Dialogue.take.Goals as goal
@@ -45,15 +41,14 @@ returns-clause-takes g c =
     let told = c.tell.ensures in
     let writer = c.requires.dialogue.writer in
     let limits = stands_limits k batch s.writer mid new c.in_ok-appended.field-0 writer stands told.same.0 in
-    let answered = subst (λ x. IfOk x (λ (a : Answers). IsAskedText (points_of k) s.asked (batches_seen s.reader)
-    (flat_map file_queries c.args.contents.askings.items) a.text.items (batches_seen c.join-writer.result.1.0)
-    × (a.next ≡ s.asked + length (flat_map file_queries c.args.contents.askings.items)))) c.in_ok-text.was c.join-writer.ensures.second.2 in
+    let answered = subst (AsksAll k s.reader c.join-writer.result.1.0 c.args.contents.askings.items s.asked) c.in_ok-text.was
+    c.join-writer.ensures.second in
     record {
       dialogue = record {
         writer = told.sides.0;
         reader = told.sides.1;
         readers = c.requires.dialogue.readers;
-        number = told.same.2 ∙ c.join-writer.ensures.second.1 ∙ c.requires.dialogue.number;
+        number = told.same.2 ∙ c.join-writer.ensures.second.number ∙ c.requires.dialogue.number;
         empty = c.requires.dialogue.empty;
         room = c.requires.dialogue.room;
         points = c.requires.dialogue.points;
@@ -66,7 +61,7 @@ returns-clause-takes g c =
           ∙ stands_more k batch s.writer mid c.in_ok-appended.field-0 writer stands;
       few = limits.0;
       fits = limits.1;
-      asked = answered.1;
+      asked = answered.next;
     }
 
 pub returns-clause-text : goal.returns-clause-text
@@ -74,10 +69,9 @@ returns-clause-text g c =
     let s = c.args.self in
     let stands = subst (Appends s.live c.args.contents.batch s.writer c.join-writer.result.0.0) c.in_ok-appended.was
     c.join-writer.ensures.first.1 in
-    let answered = subst (λ x. IfOk x (λ (a : Answers). IsAskedText (points_of s.live) s.asked (batches_seen s.reader)
-    (flat_map file_queries c.args.contents.askings.items) a.text.items (batches_seen c.join-writer.result.1.0)
-    × (a.next ≡ s.asked + length (flat_map file_queries c.args.contents.askings.items)))) c.in_ok-text.was c.join-writer.ensures.second.2 in
+    let answered = subst (AsksAll s.live s.reader c.join-writer.result.1.0 c.args.contents.askings.items s.asked) c.in_ok-text.was
+    c.join-writer.ensures.second in
     group_told s.live c.args.contents.batch s.writer c.join-writer.result.0.0 c.in_ok-appended.field-0 s.points s.asked
     (batches_seen s.reader) (batches_seen c.join-writer.result.1.0) (flat_map file_queries c.args.contents.askings.items)
     c.in_ok-text.field-0.text.items c.requires.dialogue.writer stands c.requires.dialogue.points c.requires.dialogue.seen
-    c.tell.ensures.first answered.0
+    c.tell.ensures.first answered.text

@@ -1,6 +1,6 @@
 -- What was found so far is right, and the pass goes on.
 use Rattle.std.proofs.Common.{◌≡◌, ◌≤◌, ◌-◌, false}
-use Rattle.search_run.specs.Batches.{AreRight}
+use Rattle.group_answer.specs.Asking.{AreAnswers}
 use Rattle.search_run.proofs.batch.Batch.draw_all.Given as goal
 
 abbrev pub invariant-loop-drawn : goal.invariant-loop-drawn
@@ -8,7 +8,7 @@ invariant-loop-drawn g l = record {
   own : l.share.pass.claims ≡ l.claims;
   goes_on : l.share.pass.ended ≡ false;
   met : l.share.pass.met ≤ l.claims.count;
-  right : AreRight g.R.Rows.collection l.self l.share.found.items;
+  right : AreAnswers g.R.Rows.collection l.self.asked l.share.found.items;
 }
 
 -- each draw comes from behind what was met

@@ -1,17 +1,17 @@
 -- What a share has found is right, and so is all of it in whatever order.
-use Rattle.std.proofs.Common.{◌≡◌, List, All, subst, sym}
+use Rattle.std.proofs.Common.{List, All, subst, sym}
 use Rattle.std.specs.Vec.Iter.{into_iter_items}
 use Rattle.std.proofs.lemmas.List.Elements.{All-head, All-push, All-tail}
 use Rattle.std.proofs.lemmas.List.Sorted.{All-permutation}
+use Rattle.group_answer.specs.Asking.{AreAnswers, IsAnswer}
 use Rattle.group_answer.specs.declared.asked.Answered.{Answered}
-use Rattle.search_run.specs.Batches.{AreRight, answer_to}
 use Rattle.search_run.specs.declared.dealing.Share.{Share}
 use Rattle.search_run.proofs.batch.Batch.gather.Goals as goal
 
 pub loop-found-init : goal.loop-found-init
 loop-found-init g c =
     let was = c.loop-share.invariant in
-    let Right : List Answered → Type 0 = AreRight g.R.Rows.collection c.args.self.now in
+    let Right : List Answered → Type 0 = AreAnswers g.R.Rows.collection c.args.self.now.asked in
     let P : Share → Type 0 = λ s. Right s.found.items in
     let rest = into_iter_items c.next.new.self in
     let all = subst (All P) c.in-Some.ensures.steps.0 was.left in
@@ -24,7 +24,7 @@ loop-found-init g c =
 pub loop-found-preserved : goal.loop-found-preserved
 loop-found-preserved g c =
     let was = c.loop-found.invariant in
-    let P : Answered → Type 0 = λ f. f.pairs ≡ answer_to g.R.Rows.collection c.args.self.now f.number in
+    let P : Answered → Type 0 = IsAnswer g.R.Rows.collection c.args.self.now.asked in
     let found = c.in-Some-found.found in
     let rest = into_iter_items c.next-in-loop-found.new.self in
     let here = subst (All P) c.in-Some-found.ensures.steps.0 was.here in
@@ -37,6 +37,6 @@ loop-found-preserved g c =
 
 pub returns : goal.returns
 returns g c =
-    All-permutation (λ (f : Answered). f.pairs ≡ answer_to g.R.Rows.collection c.args.self.now f.number)
+    All-permutation (IsAnswer g.R.Rows.collection c.args.self.now.asked)
     c.loop-share.all.items c.sort_unstable_by_key.new.self.items c.sort_unstable_by_key.ensures.permutation
     c.loop-share.invariant.right

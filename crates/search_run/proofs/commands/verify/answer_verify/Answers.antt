@@ -1,4 +1,4 @@
-use Rattle.std.proofs.Common.{rules, ◌≡◌, ◌<◌, ◌≤◌, ◌∙◌, length, inl, inr, refl}
+use Rattle.std.proofs.Common.{rules, ◌∙◌, inl, inr, refl}
 use Rattle.search_run.specs.Certificates.{IsFault, subject_of}
 use Rattle.search_run.specs.Commands.{verify_plan, verify_rest}
 use Rattle.search_run.proofs.Both.{files_refused}

@@ -1,3 +1,4 @@
+use Rattle.series_core.specs.Collection.{Collection}
 use Rattle.std.proofs.Common.{rules, ◌≡◌, None, refl, subst}
 use Rattle.std.specs.Prelude.{Result, Ok, Err, IfErr, OnOk}
 use Rattle.search_run.specs.Batches.{AppendsTold, IsTold}
@@ -9,6 +10,7 @@ use Rattle.search_run.specs.Windows.{AppendsChoices, IsChoice, found_apart, wind
 use Rattle.search_run.specs.declared.answers.Telling.TheVariants.{Apart}
 use Rattle.search_run.specs.declared.input.pair.Both.{Both}
 use Rattle.search_run.specs.declared.status.Status.{Status}
+use Rattle.search_run.proofs.Asks.{asked_so}
 use Rattle.search_run.proofs.Served.{done_serves, memory_serves, refused_serves, stopped_serves}
 use Rattle.search_run.proofs.Windowed.{chosen_done, chosen_stopped, long_refused}
 use Rattle.search_run.proofs.commands.windows.answer_windows.Goals as goal
@@ -45,7 +47,9 @@ returns-in_err-write_answers g c =
     let stopped = subst (λ w. IfErr gave (Stops (IsChoice o w) y.rows.series writing)) over
     (chosen_stopped o c.requires.limits.apart.0 c.new-windows.result y.rows.series writing gave
     (subst (λ k. IfErr gave (Stops (IsTold (Apart o.apart o.k) c.new-windows.result k) y.rows.series writing))
-    c.windows_needed.ensures c.in_err-write_answers.ensures.stops)) in
+    c.windows_needed-needed.ensures
+    (asked_so (λ (all : Collection). all) _ _ _ _ (λ rows k queries. IfErr gave (Stops (IsTold (Apart o.apart o.k) rows k) queries writing))
+    c.new-batch.ensures.asks c.in_err-write_answers.ensures.stops))) in
     stopped_serves g.F.Files g.S.Sink (windows_plan asked.series.now asked.queries.now c.args.step o) _ _ _ _ (IsChoice o all)
     (λ i q. (query_text None i (found_apart o all q), refl)) y.rows.series
     (λ text is. (x, fit.first, (y, fit.second, (fit.segments, is)))) stop
@@ -66,6 +70,8 @@ returns g c =
     let wrote = subst (λ w. OnOk gave (AppendsChoices o w y.rows.series before now)) over
     (chosen_done o c.requires.limits.apart.0 c.new-windows.result y.rows.series before now gave
     (subst (λ k. OnOk gave (AppendsTold (Apart o.apart o.k) c.new-windows.result k y.rows.series before now))
-    c.windows_needed.ensures c.in_ok-write_answers.ensures.ok)) in
+    c.windows_needed-needed.ensures
+    (asked_so (λ (all : Collection). all) _ _ _ _ (λ rows k queries. OnOk gave (AppendsTold (Apart o.apart o.k) rows k queries before now))
+    c.new-batch.ensures.asks c.in_ok-write_answers.ensures.ok))) in
     done_serves g.F.Files g.S.Sink (windows_plan asked.series.now asked.queries.now c.args.step o) _ _ _ _ wrote.0
     (x, fit.first, (y, fit.second, (fit.segments, wrote.1))) wrote.2 c.in_ok-both.ensures.kept

@@ -1,4 +1,4 @@
-use Rattle.std.proofs.Common.{rules, ◌≡◌, ◌∙◌, false, inl, inr, refl}
+use Rattle.std.proofs.Common.{rules, ◌∙◌, false, inl, inr, refl}
 use Rattle.series_core.specs.Answer.{answer}
 use Rattle.search_run.specs.Commands.{indexed_plan, pieces_rest}
 use Rattle.search_run.specs.Indexes.{IsFitIndex}

@@ -4,7 +4,7 @@ use Rattle.std.specs.Prelude.{None}
 use Rattle.series_core.specs.declared.pair.Pair.{Pair}
 use Rattle.isearch_c.specs.declared.answers.Asked.{Asked}
 use Rattle.isearch_c.proofs.Filling.{few_wanted}
-use Rattle.isearch_c.proofs.answers.Ground.nearest_together.Goals as goal
+use Rattle.isearch_c.proofs.answers.Ground.nearest_to_all.Goals as goal
 
 pub put-requires : goal.put-requires
 put-requires g c =

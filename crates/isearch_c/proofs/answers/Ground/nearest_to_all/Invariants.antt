@@ -4,7 +4,7 @@ use Rattle.std.specs.Prelude.{None}
 use Rattle.group_answer.specs.Asking.{AreAnswers}
 use Rattle.isearch_c.specs.declared.answers.Asked.{Asked}
 use Rattle.isearch_c.specs.Found.{answers, queries_in}
-use Rattle.isearch_c.proofs.answers.Ground.nearest_together.Given as goal
+use Rattle.isearch_c.proofs.answers.Ground.nearest_to_all.Given as goal
 
 abbrev pub invariant-loop-i : goal.invariant-loop-i
 invariant-loop-i g l =

@@ -9,7 +9,7 @@ use Rattle.subtree_build.specs.declared.settings.Settings.{Settings}
 use Rattle.saved_index.specs.IndexText.{CanSave, IndexText}
 use Rattle.saved_index.proofs.TreeSaves.{tree_can_save}
 use Rattle.search_run.specs.Indexes.{IsTreeText}
-use Rattle.search_run.proofs.commands.one_file.tree_text.Goals as goal
+use Rattle.search_run.proofs.growing.tree_text.Goals as goal
 
 -- the text of the tree by its own settings is that by equal ones
 tree_text : (c : Collection) (s t : Settings) (n : ℕ) (ix : IndexParts) (r : Result (Vec ℕ) NoMemory) → s ≡ t
