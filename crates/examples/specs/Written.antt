@@ -1,15 +1,21 @@
--- What stands in a certificate that is written for one query.
-use Rattle.std.specs.Prelude.{◌≡◌, ◌++◌, ℕ, ℤ, List}
+-- What the text is that is written of one query: a whole certificate.
+use Rattle.std.specs.Prelude.{◌≡◌, ℕ, ℤ, List, [], ◌∷◌, None, length}
 use Rattle.series_core.specs.Collection.{Collection}
 use Rattle.isax_word.specs.declared.layout.Layout.{Layout}
-use Rattle.certificate.specs.Printed.{IsCertificate}
-use Rattle.search_task.specs.Questions.{Question}
+use Rattle.certificate.specs.Certified.{Asked, CertifiesQuery}
+use Rattle.certificate.specs.Spelling.{file_text}
+use Rattle.certificate.specs.declared.block.Block.{Block}
 
--- the question for the k nearest of a collection to a query, by words of a layout
-abbrev pub asked : Collection → List ℤ → ℕ → Layout → Question
-asked c q k layout = record { collection = c; query = q; k = k; layout = layout }
+-- what is asked: the k nearest of a collection without labels to one query, by words of a layout
+abbrev pub asked : Collection → List ℤ → ℕ → Layout → Asked
+asked c q k layout = record {
+  rows = c;
+  labels = None;
+  queries = record { points = length q; series = q ∷ [] };
+  k = k;
+  layout = layout;
+}
 
--- behind answer lines stand lines that certify the answers to a question
-abbrev pub HasCertificate : Question → ℕ → List ℕ → Type 0
-HasCertificate a leaf_size text =
-    (answers : List ℕ) × (lines : List ℕ) × IsCertificate a leaf_size 1 lines × (text ≡ answers ++ lines)
+-- the text is that of one block, which has the answers to the query and certifies them, over one queue
+abbrev pub IsWritten : Asked → ℕ → List ℤ → List ℕ → Type 0
+IsWritten x leaf_size q text = (b : Block) × CertifiesQuery x leaf_size 1 q b × (text ≡ file_text (b ∷ []))
