@@ -19,13 +19,14 @@ use Rattle.search_machine.specs.Ground.{Ground, scan}
 use Rattle.search_machine.specs.Workers.{Worker, after_pop, after_reply, fills, improves, in_phase, is_new, round_queue, scanned_by}
 use Rattle.search_machine.specs.Calls.{call_in}
 use Rattle.search_machine.specs.OwnRecord.{RecordedWorker, nothing_yet}
-use Rattle.query_core.specs.Turning.{Turns, search_of}
+use Rattle.query_core.specs.Turning.{Lowers, Turns, search_of}
 use Rattle.query_core.specs.Working.{IsOf}
 use Rattle.live_query.specs.DrainHands.{DrainKept, DrainDid}
 use Rattle.live_query.specs.SealedQueues.{PopsRun, SealedKept, SealedPops, run_count}
 use Rattle.live_query.specs.Parts.{Draining, MayDrain}
 use Rattle.live_query.specs.Efforts.{drain_left, open_left, round_left, run_left}
 use Rattle.live_query.proofs.SealedTies.{visit_here, visit_other}
+use Rattle.live_query.proofs.WordTies.{went_by}
 
 -- a sum where one number's part changed
 sum_changed : (n m : ℕ) (f g : ℕ → ℕ) → ((x : ℕ) → (x ≡ m → ⊥) → f x ≡ g x) → m < n
@@ -124,21 +125,29 @@ pop_less g w h k m j v (Leaf e) (inr d) =
 pop_less g w h k m j v (Closed told) (inr d) =
     let a = closed_round g w j v told in let b = shut_less h k m v told d in omega arith
 
--- a reply in the drain part leaves less
-drain_reply_left : (g : Ground) (i : ℕ) (w : Worker) (h k : DrainKept SealedKept) (phase : Phase) (reply : Reply)
-    → fills phase ≡ false → (phase ≡ Done → ⊥) → DrainDid SealedPops h (call_in g i w phase) reply k
-    → of g (after_reply g w phase reply) + 3 * all_left k.queues < round_left g.queues phase + 3 * all_left h.queues
-drain_reply_left g i w h k (Aim j) (Seen v) f ne d = let s = ap (λ (k : DrainKept SealedKept). all_left k.queues) d.1 in omega arith
-drain_reply_left g i w h k (Pop j v) (PopTold reply) f ne d = pop_less g w h.queues k.queues (round_queue g i j) j v reply d.0
-drain_reply_left g i w h k (Offer (ToAim j)) (Offered v) f ne d =
-    let s = ap (λ (k : DrainKept SealedKept). all_left k.queues) d.1 in omega arith
-drain_reply_left g i w h k Done reply f ne d = absurd (ne refl)
-drain_reply_left g i w h k Claim reply f ne d = absurd (true≢false f)
-drain_reply_left g i w h k Look reply f ne d = absurd (true≢false f)
-drain_reply_left g i w h k (Give l) reply f ne d = absurd (true≢false f)
-drain_reply_left g i w h k (Late l) reply f ne d = absurd (true≢false f)
-drain_reply_left g i w h k (Offer ToLook) reply f ne d = absurd (true≢false f)
-drain_reply_left g i w h k _ _ f ne d = absurd d
+-- a reply in the drain part leaves less, whatever lower limit the worker goes by
+drain_reply_left : (g : Ground) (i : ℕ) (w : Worker) (h k : DrainKept SealedKept) (phase : Phase) (reply by : Reply)
+    → fills phase ≡ false → (phase ≡ Done → ⊥) → Lowers reply by → DrainDid SealedPops h (call_in g i w phase) reply k
+    → of g (after_reply g w phase by) + 3 * all_left k.queues < round_left g.queues phase + 3 * all_left h.queues
+drain_reply_left g i w h k (Aim j) (Seen v) by f ne lower d =
+    let s = ap (λ (k : DrainKept SealedKept). all_left k.queues) d.1 in
+    let b = ap (λ (by : Reply). of g (after_reply g w (Aim j) by)) (went_by v by lower).1 in
+    omega arith
+drain_reply_left g i w h k (Pop j v) (PopTold reply) by f ne lower d =
+    let b = ap (λ (by : Reply). of g (after_reply g w (Pop j v) by)) lower in
+    let less = pop_less g w h.queues k.queues (round_queue g i j) j v reply d.0 in
+    omega arith
+drain_reply_left g i w h k (Offer (ToAim j)) (Offered v) by f ne lower d =
+    let s = ap (λ (k : DrainKept SealedKept). all_left k.queues) d.1 in
+    let b = ap (λ (by : Reply). of g (after_reply g w (Offer (ToAim j)) by)) lower in
+    omega arith
+drain_reply_left g i w h k Done reply by f ne lower d = absurd (ne refl)
+drain_reply_left g i w h k Claim reply by f ne lower d = absurd (true≢false f)
+drain_reply_left g i w h k Look reply by f ne lower d = absurd (true≢false f)
+drain_reply_left g i w h k (Give l) reply by f ne lower d = absurd (true≢false f)
+drain_reply_left g i w h k (Late l) reply by f ne lower d = absurd (true≢false f)
+drain_reply_left g i w h k (Offer ToLook) reply by f ne lower d = absurd (true≢false f)
+drain_reply_left g i w h k _ _ by f ne lower d = absurd d
 
 -- a turn in the drain part leaves less
 pub drain_less : (c d : Draining) → MayDrain run_count c → IsOf c.worker.question c.worker.index c.worker.queues c.worker.number d.worker
@@ -147,9 +156,9 @@ drain_less c d ready is t =
     let w = c.worker in
     let shows = ready.serves.shows in
     let x : RecordedWorker = record { worker = ready.serves.shown; own = nothing_yet } in
-    let next = t.1.next 1 x shows in
-    let less = drain_reply_left (search_of w 1) w.number x.worker c.hand d.hand x.worker.phase t.0 (ap fills shows.phase ∙ ready.filled)
-    (λ e. ready.running (sym shows.phase ∙ e)) (t.1.called 1 x shows) in
+    let next = t.2.next 1 x shows in
+    let less = drain_reply_left (search_of w 1) w.number x.worker c.hand d.hand x.worker.phase t.0 t.1 (ap fills shows.phase ∙ ready.filled)
+    (λ e. ready.running (sym shows.phase ∙ e)) t.2.lowers (t.2.called 1 x shows) in
     let a = ap (round_left w.queues) next.phase in
     let b = ap (round_left w.queues) shows.phase in
     let c = ap (λ m. round_left m d.worker.phase) is.queues in

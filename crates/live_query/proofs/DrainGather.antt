@@ -1,9 +1,9 @@
 -- From searchers that have filled, with hands over new queues, to what the drain part made of them (`came_at`).
-use Rattle.std.proofs.Common.{◌≡◌, ◌≢◌, ℕ, ◌≤◌, ◌++◌, List, [], ◌∷◌, Some, All, length, map, refl, sym, ap, ◌∙◌, subst, length-append, arith}
+use Rattle.std.proofs.Common.{◌≡◌, ◌≢◌, ℕ, ◌++◌, List, [], ◌∷◌, Some, All, length, map, refl, sym, ap, ◌∙◌, subst, length-append, arith}
 use Rattle.std.specs.Prelude.{slice_get}
 use Rattle.std.proofs.lemmas.List.{length-map}
 use Rattle.std.proofs.lemmas.Option.{slice_get_within}
-use Rattle.best_word.specs.Passes.{Best}
+use Rattle.best_word.specs.Passes.{Best, Pass}
 use Rattle.subtree_build.specs.Index.{IndexParts}
 use Rattle.search_machine.specs.declared.phase.Phase.TheVariants.{Done}
 use Rattle.search_machine.specs.Ground.{Fits, Ground}
@@ -23,25 +23,25 @@ use Rattle.live_query.specs.DrainHands.{DrainKept, drain_over}
 use Rattle.live_query.specs.Knowing.{DrainServes, DrainsBy, DrainsOn}
 use Rattle.live_query.specs.Parts.{AllFilled, AreEquipped, Drainer, EachOn, IsEquipped, MayDrain, Resting}
 use Rattle.live_query.specs.Resting.{Kept}
+use Rattle.live_query.specs.WordPasses.{PassTied}
 use Rattle.live_query.proofs.GoingOn.{hand_taken}
 use Rattle.live_query.proofs.Openers.{search_at}
 use Rattle.live_query.proofs.Places.{all_from, by_place}
 use Rattle.live_query.proofs.PutsKept.{HasRecord, has_at}
 
--- one more searcher: it let its hand go, and took one over new queues with the bound word
+-- one more searcher: it let its hand go, and took one over new queues with its pass of the bound word
 pub equipped_more : {Q : Type 0} (IsNew : ℕ → Q → Type 0) (roots : ℕ) (team : List Resting) (cells : List (Drainer Q)) (c : Resting)
-    (d : Drainer Q) (q : Q) (best : Best) {more : List (Drainer Q)} {rest : Searcher Working (Unit {0})} {hand : DrainKept Q} {floor : ℕ}
+    (d : Drainer Q) (q : Q) {more : List (Drainer Q)} {rest : Searcher Working (Unit {0})} {hand : DrainKept Q} {seen : Pass}
     → AreEquipped IsNew roots team cells → more ≡ cells ++ d ∷ [] → rest ≡ with_hand c tt → d ≡ with_hand rest hand
-    → hand ≡ drain_over best floor roots q → floor ≡ c.hand.floor → c.hand.best ≡ best → IsNew (length team) q
+    → hand ≡ drain_over seen roots q → seen ≡ c.hand.seen → IsNew (length team) q
     → AreEquipped IsNew roots (team ++ c ∷ []) more
-equipped_more {Q} IsNew roots team cells c d q best {more} {rest} {hand} {floor} e pushed go took is same word new =
+equipped_more {Q} IsNew roots team cells c d q {more} {rest} {hand} {seen} e pushed go took is same new =
     subst (AreEquipped IsNew roots (team ++ c ∷ [])) (sym pushed) (record {
       count = let a = length-append cells (d ∷ []) in let b = length-append team (c ∷ []) in let s = e.count in omega arith;
       each = push_both (IsEquipped IsNew roots) team cells c d (sym e.count) e.each (record {
         worker = ap (λ (d : Drainer Q). d.worker) taken;
         queues = q;
-        hand = ap (λ (d : Drainer Q). d.hand) taken ∙ is ∙ ap (λ (f : ℕ). drain_over best f roots q) same
-            ∙ ap (λ (b : Best). drain_over b c.hand.floor roots q) (sym word);
+        hand = ap (λ (d : Drainer Q). d.hand) taken ∙ is ∙ ap (λ (p : Pass). drain_over p roots q) same;
         new = new;
       });
     })
@@ -112,8 +112,7 @@ module _ {Q : Type 0} {count : Q → ℕ} {Agrees : Q → List PopMade → Type 
         stands = subst (λ (j : ℕ). StandsFor (search_of b.was.from.worker 1) j b.was.record_of) (sym b.was.has.place.number)
             (subst (λ (h : Ground). StandsFor h i b.was.record_of) (sym (search_at a ix m i b.was.from.worker b.was.has.place)) b.was.has.stands);
         tied = record {
-          reads = λ v n.
-              subst (λ (k : Kept). (k.floor ≤ v) × (v ≤ k.best.start)) (sym b.was.has.rests) (b.was.has.tied.reads v n);
+          word = subst (λ (k : Kept). PassTied k.seen b.was.record_of.own) (sym b.was.has.rests) b.was.has.tied.word;
           pops = subst (Agrees b.is.queues) (sym b.was.has.tied.pops) (outset.agrees i b.is.queues b.is.new);
         };
       }))

@@ -2,6 +2,8 @@
 use Rattle.std.proofs.Common.{◌≡◌, ◌≢◌, ℕ, None, List, false, length, sym, refl, ap, ◌∙◌, subst}
 use Rattle.series_core.specs.declared.queue_words.PutReply.TheVariants.{Filled}
 use Rattle.series_core.specs.declared.queue_words.PopReply.{PopReply}
+use Rattle.best_word.specs.Passes.{Pass}
+use Rattle.best_word.specs.declared.rule.Event.{Event}
 use Rattle.search_machine.specs.declared.calls.Call.{Call}
 use Rattle.search_machine.specs.declared.calls.Call.TheVariants.{Claim, Read, Offer, Put, Pop}
 use Rattle.search_machine.specs.declared.calls.Reply.{Reply}
@@ -15,7 +17,7 @@ use Rattle.search_machine.specs.Stands.{StandsFor}
 use Rattle.search_machine.proofs.EveryReply.{reply_stands}
 use Rattle.search_machine.proofs.Draining.{drains_on}
 use Rattle.search_task.specs.Questions.{last_of}
-use Rattle.query_core.specs.Turning.{Turns, search_of}
+use Rattle.query_core.specs.Turning.{ReplyNotLow, Turns, search_of}
 use Rattle.query_core.specs.Working.{IsOf, Working}
 use Rattle.live_query.specs.DrainHands.{DrainKept, DrainDid}
 use Rattle.live_query.specs.Parts.{Drainer, MayDrain}
@@ -28,8 +30,8 @@ module _ {Q : Type 0} {count : Q → ℕ} {Pops : Q → ℕ → ℕ → PopReply
     {Agrees : Q → List PopMade → Type 0} (laws : LawfulQueues count Pops Same Agrees) where
   -- a call leaves the objects of the hand as they are, and of the queues what Same says
   record SameDrain (h k : DrainKept Q) : Type 0 where
-    best : k.best ≡ h.best
-    floor : k.floor ≡ h.floor
+    best : k.seen.best ≡ h.seen.best
+    floor : k.seen.floor ≡ h.seen.floor
     roots : k.roots ≡ h.roots
     queues : Same h.queues k.queues
 
@@ -37,10 +39,19 @@ module _ {Q : Type 0} {count : Q → ℕ} {Pops : Q → ℕ → ℕ → PopReply
   same_of h k e =
       subst (SameDrain h) (sym e) (record { best = refl; floor = refl; roots = refl; queues = laws.stays h.queues })
 
+  same_seen : (h k : DrainKept Q) {trace : List Event} → k ≡ record h { seen = k.seen } → k.seen ≡ record h.seen { trace = trace }
+      → SameDrain h k
+  same_seen h k only seen = subst (SameDrain h) (sym only) (record {
+    best = ap (λ (p : Pass). p.best) seen;
+    floor = ap (λ (p : Pass). p.floor) seen;
+    roots = refl;
+    queues = laws.stays h.queues;
+  })
+
   did_same : (h k : DrainKept Q) (call : Call) (reply : Reply) → DrainDid Pops h call reply k → SameDrain h k
   did_same h k Claim (Claimed None) d = same_of h k d
-  did_same h k Read (Seen v) d = same_of h k d.1
-  did_same h k (Offer x) (Offered v) d = same_of h k d.1
+  did_same h k Read (Seen v) d = same_seen h k d.1 d.0.after
+  did_same h k (Offer x) (Offered v) d = same_seen h k d.1 d.0.after
   did_same h k (Put m e) (PutTold (Filled c)) d = same_of h k d.1
   did_same h k (Pop m v) (PopTold reply) d =
       subst (SameDrain h) (sym d.1) (record {
@@ -53,7 +64,7 @@ module _ {Q : Type 0} {count : Q → ℕ} {Pops : Q → ℕ → ℕ → PopReply
 
   -- a turn: the worker and its hand before, and after it
   module _ (w v : Working) (h k : DrainKept Q) (serves : DrainServes count w h) (drains : fills w.phase ≡ false)
-      (is : IsOf w.question w.index w.queues w.number v) (t : Turns (DrainDid Pops) h k w v) where
+      (running : w.phase ≢ Done) (is : IsOf w.question w.index w.queues w.number v) (t : Turns (DrainDid Pops) h k w v) where
     abbrev g : Ground
     g = search_of w 1
 
@@ -62,12 +73,12 @@ module _ {Q : Type 0} {count : Q → ℕ} {Pops : Q → ℕ → ℕ → PopReply
     x = record { worker = serves.shown; own = nothing_yet }
 
     same : SameDrain h k
-    same = did_same h k _ t.0 (t.1.called 1 x serves.shows)
+    same = did_same h k _ t.0 (t.2.called 1 x serves.shows)
 
     drain_serves : DrainServes count v k
     drain_serves = record {
-      shown = (after g w.number x t.0).worker;
-      shows = t.1.next 1 x serves.shows;
+      shown = (after g w.number x t.1).worker;
+      shows = t.2.next 1 x serves.shows;
       fits = subst (λ (g : Ground). Fits g) (sym (same_search w v is)) serves.fits;
       roots = same.roots ∙ serves.roots ∙ sym (ap (λ ix. length ix.roots) is.index);
       floor = same.floor ∙ serves.floor ∙ sym (ap last_of is.question);
@@ -77,21 +88,22 @@ module _ {Q : Type 0} {count : Q → ℕ} {Pops : Q → ℕ → ℕ → PopReply
     -- it fills no more
     still_drains : fills v.phase ≡ false
     still_drains =
-        ap fills (sym (t.1.next 1 x serves.shows).phase)
-        ∙ (drains_on g w.number x.worker x.own x.worker.phase t.0 refl (ap fills serves.shows.phase ∙ drains)).0
+        ap fills (sym (t.2.next 1 x serves.shows).phase)
+        ∙ (drains_on g w.number x.worker x.own x.worker.phase t.1 refl (ap fills serves.shows.phase ∙ drains)).0
 
-    later : (y : RecordedWorker) → DrainsBy Agrees w h y → IsLater Agrees y v k (after g w.number y t.0)
+    later : (y : RecordedWorker) → DrainsBy Agrees w h y → IsLater Agrees y v k (after g w.number y t.1)
     later y known =
         let filled : fills y.worker.phase ≡ false = ap fills known.shows.phase ∙ drains in
-        let kept = drains_on g w.number y.worker y.own y.worker.phase t.0 refl filled in
+        let kept = drains_on g w.number y.worker y.own y.worker.phase t.1 refl filled in
         record {
           known = record {
-            shows = t.1.next 1 y known.shows;
-            stands = subst (λ (i : ℕ). StandsFor (search_of v 1) i (after g w.number y t.0)) (sym is.number)
-                (subst (λ (g : Ground). StandsFor g w.number (after (search_of w 1) w.number y t.0)) (sym (same_search w v is))
-                (reply_stands g serves.fits w.number y t.0 (t.1.fits 1) known.stands));
-            tied = drain_ties laws g w.number y.worker y.own h k y.worker.phase t.0 serves.queues serves.fits.some_queue filled
-                known.tied (t.1.called 1 y known.shows);
+            shows = t.2.next 1 y known.shows;
+            stands = subst (λ (i : ℕ). StandsFor (search_of v 1) i (after g w.number y t.1)) (sym is.number)
+                (subst (λ (g : Ground). StandsFor g w.number (after (search_of w 1) w.number y t.1)) (sym (same_search w v is))
+                (reply_stands g serves.fits w.number y t.1 (t.2.fits 1) known.stands));
+            tied = drain_ties laws g w.number y.worker y.own h k y.worker.phase t.0 t.1 serves.queues serves.fits.some_queue filled
+                (λ e. running (sym known.shows.phase ∙ e))
+                known.tied t.2.lowers (subst (λ (n : ℕ). ReplyNotLow n t.1) (sym serves.floor) t.2.not_low) (t.2.called 1 y known.shows);
           };
           claims = kept.1;
           puts = kept.2;
@@ -104,7 +116,7 @@ module _ {Q : Type 0} {count : Q → ℕ} {Pops : Q → ℕ → ℕ → PopReply
       best = same.best;
       floor = same.floor;
       queues = same.queues;
-      on = λ y known. (after g w.number y t.0, later y known);
+      on = λ y known. (after g w.number y t.1, later y known);
     }
 
   pub drain_stays : (w : Working) (h : DrainKept Q) → DrainsOn Same Agrees w h w h
@@ -135,12 +147,12 @@ module _ {Q : Type 0} {count : Q → ℕ} {Pops : Q → ℕ → ℕ → PopReply
       (t : Turns (DrainDid Pops) before.hand later.hand before.worker later.worker) where
     pub ready_on : later.worker.phase ≢ Done → MayDrain count later
     ready_on running = record {
-      serves = drain_serves before.worker later.worker before.hand later.hand ready.serves ready.filled is t;
-      filled = still_drains before.worker later.worker before.hand later.hand ready.serves ready.filled is t;
+      serves = drain_serves before.worker later.worker before.hand later.hand ready.serves ready.filled ready.running is t;
+      filled = still_drains before.worker later.worker before.hand later.hand ready.serves ready.filled ready.running is t;
       running = running;
     }
 
     pub goes_on : (w : Working) (h : DrainKept Q) → DrainsOn Same Agrees w h before.worker before.hand
         → DrainsOn Same Agrees w h later.worker later.hand
     goes_on w h so_far = drain_then w before.worker later.worker h before.hand later.hand so_far
-        (drain_on before.worker later.worker before.hand later.hand ready.serves ready.filled is t)
+        (drain_on before.worker later.worker before.hand later.hand ready.serves ready.filled ready.running is t)

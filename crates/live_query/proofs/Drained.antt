@@ -29,6 +29,7 @@ use Rattle.live_query.proofs.Endings.{ends_as}
 use Rattle.live_query.proofs.Openers.{moved, search_at}
 use Rattle.live_query.proofs.Places.{Chosen, all_at, choose}
 use Rattle.live_query.proofs.PutsKept.{AreBehind, all_claimed, once, placed_all}
+use Rattle.live_query.proofs.WordTies.{in_range as within_word}
 
 -- what is known after the drain part of a search by n workers: each has made its turns and is done
 pub record AllDone {Q : Type 0} (team : List Resting) (later : List (Drainer Q)) (n : ℕ) : Type 0 where
@@ -97,12 +98,12 @@ module _ {Q : Type 0} {count : Q → ℕ} {Agrees : Q → List PopMade → Type 
   in_range : (i : ℕ) (y : RecordedWorker) (v : ℕ) → slice_get ended_records i ≡ Some y → In v y.own.reads → Between g v
   in_range i y v at read =
       let e = ended_at i y at in
-      let r = e.later_is.known.tied.reads v read in
+      let r = within_word e.cell.hand.seen y.own e.later_is.known.tied.word v read in
       let hand = e.way.began.is.hand in
       let has = e.way.began.was.has in
-      let low = e.way.goes.floor ∙ ap (λ (h : DrainKept Q). h.floor) hand ∙ has.floor
+      let low = e.way.goes.floor ∙ ap (λ (h : DrainKept Q). h.seen.floor) hand ∙ has.floor
       ∙ sym (last_is a ix n m outset.filled.searches.question) in
-      let high = ap (λ (b : Best). b.start) (e.way.goes.best ∙ ap (λ (h : DrainKept Q). h.best) hand ∙ has.word) ∙ outset.filled.start in
+      let high = ap (λ (b : Best). b.start) (e.way.goes.best ∙ ap (λ (h : DrainKept Q). h.seen.best) hand ∙ has.word) ∙ outset.filled.start in
       (omega (arith, r.0, low), omega (arith, r.1, high))
 
   -- the records have the claims and puts of the fill part

@@ -15,7 +15,7 @@ use Rattle.search_machine.specs.declared.phase.Onward.TheVariants.{Look as ToLoo
 use Rattle.search_machine.specs.Ground.{Ground, scan}
 use Rattle.search_machine.specs.Workers.{Worker, after_reply, fills, after_claim, after_late, improves, in_phase, is_new, leaves_below, scanned_by, skip, stopped}
 use Rattle.search_machine.specs.Calls.{call_in}
-use Rattle.query_core.specs.Turning.{Turns, search_of}
+use Rattle.query_core.specs.Turning.{Lowers, Turns, search_of}
 use Rattle.query_core.specs.Working.{IsOf, Working}
 use Rattle.search_machine.proofs.Effort.{length_skip, length_without}
 use Rattle.search_machine.proofs.Places.{get_some, total_drop}
@@ -24,6 +24,7 @@ use Rattle.live_query.specs.FillHands.{FillKept, FillDid}
 use Rattle.live_query.specs.Efforts.{phase_left, own_left, root_left, roots_left, fill_left, undrawn}
 use Rattle.live_query.specs.Knowing.{FillServes, FillKnows}
 use Rattle.live_query.proofs.FillKnowing.{same_search}
+use Rattle.live_query.proofs.WordTies.{went_by}
 
 -- less is left of a list the more of it is dropped
 drop_less : (f : List ℕ → ℕ) (xs : List (List ℕ)) (m n : ℕ) → m ≤ n → total f (drop n xs) ≤ total f (drop m xs)
@@ -114,35 +115,52 @@ late_left g w l v = cond_both (is_new l w && nat_le (g.bound l) v) (scanned_by g
     (λ (p : Phase). phase_left p + 5 * length w.rest < 4 + 5 * length w.rest) (λ _. omega arith) (λ _. omega arith))
     (λ _. omega arith)
 
--- a reply in the fill part leaves less
-reply_left : (g : Ground) (i : ℕ) (w : Worker) (h k : FillKept) (phase : Phase) (reply : Reply)
-    → fills phase ≡ true → w.phase ≡ phase → 0 < h.roots.size → h.roots.count ≡ length g.roots
+-- a reply in the fill part leaves less, whatever lower limit the worker goes by
+reply_left : (g : Ground) (i : ℕ) (w : Worker) (h k : FillKept) (phase : Phase) (reply by : Reply)
+    → fills phase ≡ true → w.phase ≡ phase → 0 < h.roots.size → h.roots.count ≡ length g.roots → Lowers reply by
     → FillDid h (call_in g i w phase) reply k
-    → of (after_reply g w phase reply) + roots_left g k < of w + roots_left g h
-reply_left g i w h k Claim (Claimed o) f e some count d =
+    → of (after_reply g w phase by) + roots_left g k < of w + roots_left g h
+reply_left g i w h k Claim (Claimed o) by f e some count lower d =
     let p = ap phase_left e in
     let less = roots_less g w h.roots h.drawn d.0 o some count d.1 in
     let s = ap (roots_left g) d.2 in
+    let b = ap (λ (by : Reply). of (after_reply g w Claim by)) lower in
     omega arith
-reply_left g i w h k Look (Seen v) f e some count d =
+reply_left g i w h k Look (Seen v) by f e some count lower d =
     let p = ap phase_left e in
-    let a = stopped_left w (skip g v w.rest) in
-    let b = length_skip g v w.rest in
+    let went = went_by v by lower in
+    let a = stopped_left w (skip g went.0 w.rest) in
+    let c = length_skip g went.0 w.rest in
     let s = ap (roots_left g) d.1 in
+    let b = ap (λ (by : Reply). of (after_reply g w Look by)) went.1 in
     omega arith
-reply_left g i w h k (Give l) (PutTold Placed) f e some count d =
-    let p = ap phase_left e in let s = ap (roots_left g) d.2 in omega arith
-reply_left g i w h k (Give l) (PutTold (Filled c)) f e some count d =
-    let p = ap phase_left e in let s = ap (roots_left g) d.2 in omega arith
-reply_left g i w h k (Late l) (Seen v) f e some count d =
-    let p = ap phase_left e in let a = late_left g w l v in let s = ap (roots_left g) d.1 in omega arith
-reply_left g i w h k (Offer ToLook) (Offered v) f e some count d =
-    let p = ap phase_left e in let s = ap (roots_left g) d.1 in omega arith
-reply_left g i w h k (Offer (ToAim j)) reply f e some count d = absurd (true≢false (sym f))
-reply_left g i w h k (Aim j) reply f e some count d = absurd (true≢false (sym f))
-reply_left g i w h k (Pop j v) reply f e some count d = absurd (true≢false (sym f))
-reply_left g i w h k Done reply f e some count d = absurd (true≢false (sym f))
-reply_left g i w h k _ _ f e some count d = absurd d
+reply_left g i w h k (Give l) (PutTold Placed) by f e some count lower d =
+    let p = ap phase_left e in
+    let s = ap (roots_left g) d.2 in
+    let b = ap (λ (by : Reply). of (after_reply g w (Give l) by)) lower in
+    omega arith
+reply_left g i w h k (Give l) (PutTold (Filled c)) by f e some count lower d =
+    let p = ap phase_left e in
+    let s = ap (roots_left g) d.2 in
+    let b = ap (λ (by : Reply). of (after_reply g w (Give l) by)) lower in
+    omega arith
+reply_left g i w h k (Late l) (Seen v) by f e some count lower d =
+    let p = ap phase_left e in
+    let went = went_by v by lower in
+    let a = late_left g w l went.0 in
+    let s = ap (roots_left g) d.1 in
+    let b = ap (λ (by : Reply). of (after_reply g w (Late l) by)) went.1 in
+    omega arith
+reply_left g i w h k (Offer ToLook) (Offered v) by f e some count lower d =
+    let p = ap phase_left e in
+    let s = ap (roots_left g) d.1 in
+    let b = ap (λ (by : Reply). of (after_reply g w (Offer ToLook) by)) lower in
+    omega arith
+reply_left g i w h k (Offer (ToAim j)) reply by f e some count lower d = absurd (true≢false (sym f))
+reply_left g i w h k (Aim j) reply by f e some count lower d = absurd (true≢false (sym f))
+reply_left g i w h k (Pop j v) reply by f e some count lower d = absurd (true≢false (sym f))
+reply_left g i w h k Done reply by f e some count lower d = absurd (true≢false (sym f))
+reply_left g i w h k _ _ by f e some count lower d = absurd d
 
 module _ (w v : Working) (h k : FillKept) (serves : FillServes w h) (knows : FillKnows w h)
     (is : IsOf w.question w.index w.queues w.number v) (fill : fills w.phase ≡ true) (t : Turns FillDid h k w v) where
@@ -152,10 +170,10 @@ module _ (w v : Working) (h k : FillKept) (serves : FillServes w h) (knows : Fil
       let g : Ground = search_of w 1 in
       let x = knows.member in
       let shows = knows.shows in
-      let next = t.1.next 1 x shows in
-      let less = reply_left g w.number x.worker h k x.worker.phase t.0 (ap fills shows.phase ∙ fill) refl
+      let next = t.2.next 1 x shows in
+      let less = reply_left g w.number x.worker h k x.worker.phase t.0 t.1 (ap fills shows.phase ∙ fill) refl
       serves.size (serves.roots ∙ sym serves.one_each ∙ sym (Rattle.std.proofs.lemmas.List.length-map w.index.nodes Rattle.subtree_build.specs.Outline.leaf_numbers))
-      (t.1.called 1 x shows) in
+      t.2.lowers (t.2.called 1 x shows) in
       let a = ap phase_left next.phase in
       let b = ap (λ (ls : List ℕ). length ls) next.rest in
       let c = ap phase_left shows.phase in

@@ -20,7 +20,7 @@ use Rattle.query_core.specs.Turning.{search_of}
 use Rattle.live_query.specs.Knowing.{FillKnows, FillServes, FillsOn}
 use Rattle.live_query.specs.RootClaims.{DrawTied, Drawn, IsOwn, Roots, group_count}
 use Rattle.live_query.specs.Parts.{AllFilled, Between, Filling, HasFilled, IsOpen, Opens, Resting, filling, resting}
-use Rattle.live_query.proofs.Openers.{filled_ended, fits_one, moved, one, opener, opener_drawn, opener_floor, opener_own, opener_runs, opener_stands, opener_word, search_at}
+use Rattle.live_query.proofs.Openers.{filled_ended, fits_one, moved, one, opener, opener_drawn, opener_floor, opener_own, opener_runs, opener_stands, opener_tied, opener_word, search_at}
 use Rattle.live_query.proofs.Places.{Chosen, all_at, all_map, by_place, choose, map_at}
 use Rattle.live_query.proofs.RootGather.{given_all, given_once}
 
@@ -59,7 +59,7 @@ module _ (a : Question) (ix : IndexParts) (m : ℕ) (roots : Roots) (best : Best
       stands = opener_stands a ix m roots best some team opens i c o;
       tied = record {
         drawn = opener_drawn a ix m roots best some team opens i c o;
-        reads = λ v n. absurd n;
+        word = opener_tied a ix m roots best some team opens i c o;
         marks = record {
           placed = λ p n. absurd n;
           marked = λ l e. absurd (no_fresh_mark (length ix.leaves) l e);

@@ -1,7 +1,9 @@
 -- A turn in the fill part keeps what a worker and its hand know.
-use Rattle.std.proofs.Common.{◌≡◌, ◌≢◌, ℕ, ◌<◌, true, length, sym, refl, ap, ◌∙◌, subst}
+use Rattle.std.proofs.Common.{◌≡◌, ◌≢◌, ℕ, ◌<◌, List, true, length, sym, refl, ap, ◌∙◌, subst}
 use Rattle.series_core.specs.declared.queue_words.PutReply.TheVariants.{Placed, Filled}
 use Rattle.series_core.specs.declared.queue_words.PopReply.TheVariants.{Closed}
+use Rattle.best_word.specs.Passes.{Pass}
+use Rattle.best_word.specs.declared.rule.Event.{Event}
 use Rattle.search_machine.specs.declared.calls.Call.{Call}
 use Rattle.search_machine.specs.declared.calls.Call.TheVariants.{Claim, Read, Offer, Put, Pop}
 use Rattle.search_machine.specs.declared.calls.Reply.{Reply}
@@ -13,7 +15,7 @@ use Rattle.search_machine.specs.Replies.{after}
 use Rattle.search_machine.specs.Stands.{StandsFor}
 use Rattle.search_machine.specs.Workers.{fills}
 use Rattle.search_task.specs.Questions.{last_of, search_over}
-use Rattle.query_core.specs.Turning.{Turns, search_of}
+use Rattle.query_core.specs.Turning.{ReplyNotLow, Turns, search_of}
 use Rattle.query_core.specs.Working.{IsOf, Working}
 use Rattle.search_machine.proofs.EveryReply.{reply_stands}
 use Rattle.live_query.specs.RootClaims.{IsOwn, Roots}
@@ -27,8 +29,8 @@ use Rattle.live_query.proofs.FillTies.{IsReal, ties, gives_real, set_length}
 pub record SameFill (h k : FillKept) : Type 0 where
   pub roots : k.roots ≡ h.roots
   pub own : IsOwn h.roots h.drawn → IsOwn k.roots k.drawn
-  pub best : k.best ≡ h.best
-  pub floor : k.floor ≡ h.floor
+  pub best : k.seen.best ≡ h.seen.best
+  pub floor : k.seen.floor ≡ h.seen.floor
   pub queues : k.queues ≡ h.queues
   pub marks : length k.marks ≡ length h.marks
 
@@ -42,6 +44,16 @@ same_of h k e = subst (SameFill h) (sym e) (record {
   marks = refl;
 })
 
+same_seen : (h k : FillKept) {trace : List Event} → k ≡ record h { seen = k.seen } → k.seen ≡ record h.seen { trace = trace } → SameFill h k
+same_seen h k only seen = subst (SameFill h) (sym only) (record {
+  roots = refl;
+  own = λ own. own;
+  best = ap (λ (p : Pass). p.best) seen;
+  floor = ap (λ (p : Pass). p.floor) seen;
+  queues = refl;
+  marks = refl;
+})
+
 pub did_same : (h k : FillKept) (call : Call) (reply : Reply) → FillDid h call reply k → SameFill h k
 did_same h k Claim (Claimed o) d = subst (SameFill h) (sym d.2) (record {
   roots = refl;
@@ -51,8 +63,8 @@ did_same h k Claim (Claimed o) d = subst (SameFill h) (sym d.2) (record {
   queues = refl;
   marks = refl;
 })
-did_same h k Read (Seen v) d = same_of h k d.1
-did_same h k (Offer x) (Offered v) d = same_of h k d.1
+did_same h k Read (Seen v) d = same_seen h k d.1 d.0.after
+did_same h k (Offer x) (Offered v) d = same_seen h k d.1 d.0.after
 did_same h k (Put m e) (PutTold Placed) d =
     subst (SameFill h) (sym d.2) (record {
       roots = refl;
@@ -82,7 +94,7 @@ module _ (w v : Working) (h k : FillKept) (serves : FillServes w h) (knows : Fil
   x = knows.member
 
   same : SameFill h k
-  same = did_same h k _ t.0 (t.1.called 1 x knows.shows)
+  same = did_same h k _ t.0 (t.2.called 1 x knows.shows)
 
   pub fill_serves : FillServes v k
   fill_serves = record {
@@ -96,29 +108,30 @@ module _ (w v : Working) (h k : FillKept) (serves : FillServes w h) (knows : Fil
   }
 
   abbrev after_it : RecordedWorker
-  after_it = after g w.number x t.0
+  after_it = after g w.number x t.1
 
   stands_on : StandsFor g w.number after_it
-  stands_on = reply_stands g serves.fits w.number x t.0 (t.1.fits 1) knows.stands
+  stands_on = reply_stands g serves.fits w.number x t.1 (t.2.fits 1) knows.stands
 
   -- the worker is not done
   fills_running : v.phase ≢ Done
   fills_running =
-      let runs = fills_runs g x.worker x.worker.phase t.0 refl (ap fills knows.shows.phase ∙ fill) in
-      not_end v.phase (ap is_end (sym (t.1.next 1 x knows.shows).phase) ∙ runs)
+      let runs = fills_runs g x.worker x.worker.phase t.1 refl (ap fills knows.shows.phase ∙ fill) in
+      not_end v.phase (ap is_end (sym (t.2.next 1 x knows.shows).phase) ∙ runs)
 
   pub fill_knows : FillKnows v k
   fill_knows = record {
     running = fills_running;
     member = after_it;
-    shows = t.1.next 1 x knows.shows;
+    shows = t.2.next 1 x knows.shows;
     stands = subst (λ (i : ℕ). StandsFor (search_of v 1) i after_it) (sym is.number)
         (subst (λ (g : Ground). StandsFor g w.number after_it) (sym (same_search w v is)) stands_on);
-    tied = ties g w.number x.worker x.own h k x.worker.phase t.0
+    tied = ties g w.number x.worker x.own h k x.worker.phase t.0 t.1
         (ap fills knows.shows.phase ∙ fill)
         (subst (λ (n : ℕ). IsReal n x.worker.phase) (sym serves.marks)
         (gives_real g serves.fits w.number x.worker x.own knows.stands x.worker.phase refl))
-        serves.fits.some_queue serves.queues serves.size knows.tied (t.1.called 1 x knows.shows);
+        serves.fits.some_queue serves.queues serves.size knows.tied t.2.lowers
+        (subst (λ (n : ℕ). ReplyNotLow n t.1) (sym serves.floor) t.2.not_low) (t.2.called 1 x knows.shows);
   }
 
   -- the worker keeps its place, and the hand its objects

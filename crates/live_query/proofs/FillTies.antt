@@ -10,6 +10,9 @@ use Rattle.search_machine.specs.declared.phase.Phase.{Phase}
 use Rattle.search_machine.specs.declared.phase.Phase.TheVariants.{Claim, Look, Give, Late, Aim, Pop, Offer, Done}
 use Rattle.search_machine.specs.declared.phase.Onward.TheVariants.{Look as ToLook, Aim as ToAim}
 use Rattle.list_totals.specs.Standing.{In}
+use Rattle.best_word.specs.Passes.{Pass}
+use Rattle.best_word.specs.declared.rule.Event.{Event}
+use Rattle.best_word.specs.declared.rule.Event.TheVariants.{Offer as Offering, Read as Reading}
 use Rattle.search_machine.specs.Ground.{Fits, Ground, entry_of, queue_of, worst}
 use Rattle.search_machine.specs.Workers.{Worker, fills}
 use Rattle.search_machine.specs.Sound.{in_hand}
@@ -20,9 +23,12 @@ use Rattle.search_machine.specs.Stands.{Stands}
 use Rattle.search_machine.proofs.Counts.{same_counts}
 use Rattle.search_machine.proofs.OwnLate.{below_real}
 use Rattle.search_machine.proofs.Places.{get_set, get_set_other}
+use Rattle.query_core.specs.Turning.{Lowers, ReplyNotLow}
 use Rattle.live_query.specs.RootClaims.{DidClaim, Drawn}
-use Rattle.live_query.specs.FillHands.{FillKept, FillDid, FillTied, HasPut, InRange}
+use Rattle.live_query.specs.FillHands.{FillKept, FillDid, FillTied, HasPut}
+use Rattle.live_query.specs.WordPasses.{Grew}
 use Rattle.live_query.proofs.RootTies.{drawn_ties}
+use Rattle.live_query.proofs.WordTies.{offer_tied, other_tied, read_tied, went_by}
 
 -- a leaf that is given is below n
 abbrev pub IsReal : ℕ → Phase → Type 0
@@ -34,27 +40,35 @@ get_here [] i y low = absurd (omega arith)
 get_here (x ∷ xs) zero y low = refl
 get_here (x ∷ xs) (suc i) y low = get_here xs i y (omega arith)
 
+-- a hand that is seen as another one, whose pass made one more call
+pub fill_grew : (h k : FillKept) (e : Event) (p : Pass) → h ≡ k → Grew h.seen e p
+    → Grew k.seen e p × (record h { seen = p } ≡ record k { seen = p })
+fill_grew h k e p same grew =
+    (subst (λ (f : FillKept). Grew f.seen e p) same grew, ap (λ (f : FillKept). record f { seen = p }) same)
+
 tied_claim : (h : FillKept) (r : OwnRecord) (o : Option ℕ) (d : Drawn) → 0 < h.roots.size → DidClaim h.roots h.drawn o d → FillTied h r
     → FillTied (record h { drawn = d }) (with_claim o r)
 tied_claim h r o d some did t = record {
   drawn = drawn_ties h.roots some h.drawn d r.claims o did t.drawn;
-  reads = t.reads;
+  word = other_tied h.seen r (with_claim o r) refl refl t.word;
   marks = t.marks;
   pops = t.pops;
 }
 
-tied_read : (h : FillKept) (r : OwnRecord) (v : ℕ) → InRange h.floor h.best v → FillTied h r → FillTied h (with_read v r)
-tied_read h r v low t = record {
+tied_read : (h : FillKept) (r : OwnRecord) (v u : ℕ) (q : Pass) → Grew h.seen (Reading v) q → h.seen.floor ≤ u → u ≤ v → FillTied h r
+    → FillTied (record h { seen = q }) (with_read u r)
+tied_read h r v u q did low lower t = record {
   drawn = t.drawn;
-  reads = λ u i. ⊎_elim (λ (e : u ≡ v). subst (InRange h.floor h.best) (sym e) low) (t.reads u) i;
+  word = read_tied h.seen q r v u did low lower t.word;
   marks = t.marks;
   pops = t.pops;
 }
 
-tied_offer : (h : FillKept) (r : OwnRecord) (v : OfferMade) → FillTied h r → FillTied h (with_offer v r)
-tied_offer h r v t = record {
+tied_offer : (h : FillKept) (r : OwnRecord) (x v : ℕ) (q : Pass) → Grew h.seen (Offering x v) q → FillTied h r
+    → FillTied (record h { seen = q }) (with_offer (record { value = x; reply = v }) r)
+tied_offer h r x v q did t = record {
   drawn = t.drawn;
-  reads = t.reads;
+  word = offer_tied h.seen q r x v did t.word;
   marks = t.marks;
   pops = t.pops;
 }
@@ -79,7 +93,7 @@ module _ (h : FillKept) (r : OwnRecord) (p : PutMade) (low : p.entry.leaf < leng
   tied_put : FillTied (record h { marks = slice_set h.marks p.entry.leaf true }) (with_put p r)
   tied_put = record {
     drawn = t.drawn;
-    reads = t.reads;
+    word = other_tied h.seen r (with_put p r) refl refl t.word;
     marks = record {
       placed = λ q i. ⊎_elim
           (λ (e : q ≡ p). ap (λ (q : PutMade). is_refused q.reply) e ∙ ap is_refused is_placed)
@@ -90,31 +104,41 @@ module _ (h : FillKept) (r : OwnRecord) (p : PutMade) (low : p.entry.leaf < leng
     pops = t.pops;
   }
 
--- the hand after a call in the fill part is tied to the record after it
-pub ties : (g : Ground) (i : ℕ) (w : Worker) (r : OwnRecord) (h k : FillKept) (phase : Phase) (reply : Reply)
+-- the hand after a call in the fill part, of which the worker went by the reply or by a lower limit, is tied to the record after it
+pub ties : (g : Ground) (i : ℕ) (w : Worker) (r : OwnRecord) (h k : FillKept) (phase : Phase) (reply by : Reply)
     → fills phase ≡ true → IsReal (length h.marks) phase → 0 < g.queues → h.queues ≡ g.queues → 0 < h.roots.size → FillTied h r
-    → FillDid h (call_in g i w phase) reply k → FillTied k (own_after g i w r phase reply)
-ties g i w r h k Claim (Claimed o) f real some q z t d =
-    subst (λ (k : FillKept). FillTied k (with_claim o r)) (sym d.2) (tied_claim h r o d.0 z d.1 t)
-ties g i w r h k Look (Seen v) f real some q z t d =
-    subst (λ (k : FillKept). FillTied k (with_read v r)) (sym d.1) (tied_read h r v d.0 t)
-ties g i w r h k (Late l) (Seen v) f real some q z t d =
-    subst (λ (k : FillKept). FillTied k (with_read v r)) (sym d.1) (tied_read h r v d.0 t)
-ties g i w r h k (Offer ToLook) (Offered v) f real some q z t d =
+    → Lowers reply by → ReplyNotLow h.seen.floor by
+    → FillDid h (call_in g i w phase) reply k → FillTied k (own_after g i w r phase by)
+ties g i w r h k Claim (Claimed o) by f real some q z t lower low d =
+    subst (λ (by : Reply). FillTied k (own_after g i w r Claim by)) (sym lower)
+    (subst (λ (k : FillKept). FillTied k (with_claim o r)) (sym d.2) (tied_claim h r o d.0 z d.1 t))
+ties g i w r h k Look (Seen v) by f real some q z t lower low d =
+    let went = went_by v by lower in
+    subst (λ (by : Reply). FillTied k (own_after g i w r Look by)) (sym went.1)
+    (subst (λ (k : FillKept). FillTied k (with_read went.0 r)) (sym d.1)
+    (tied_read h r v went.0 k.seen d.0 (subst (ReplyNotLow h.seen.floor) went.1 low) went.2 t))
+ties g i w r h k (Late l) (Seen v) by f real some q z t lower low d =
+    let went = went_by v by lower in
+    subst (λ (by : Reply). FillTied k (own_after g i w r (Late l) by)) (sym went.1)
+    (subst (λ (k : FillKept). FillTied k (with_read went.0 r)) (sym d.1)
+    (tied_read h r v went.0 k.seen d.0 (subst (ReplyNotLow h.seen.floor) went.1 low) went.2 t))
+ties g i w r h k (Offer ToLook) (Offered v) by f real some q z t lower low d =
     let made : OfferMade = record { value = worst g w.list; reply = v } in
-    subst (λ (k : FillKept). FillTied k (with_offer made r)) (sym d.1) (tied_offer h r made t)
-ties g i w r h k (Give l) (PutTold Placed) f real some q z t d =
+    subst (λ (by : Reply). FillTied k (own_after g i w r (Offer ToLook) by)) (sym lower)
+    (subst (λ (k : FillKept). FillTied k (with_offer made r)) (sym d.1) (tied_offer h r (worst g w.list) v k.seen d.0 t))
+ties g i w r h k (Give l) (PutTold Placed) by f real some q z t lower low d =
     let p : PutMade = record { queue = queue_of g l; entry = entry_of g l; reply = Placed } in
-    subst (λ (k : FillKept). FillTied k (with_put p r)) (sym d.2) (tied_put h r p d.1 refl t)
-ties g i w r h k (Give l) (PutTold (Filled c)) f real some q z t d =
+    subst (λ (by : Reply). FillTied k (own_after g i w r (Give l) by)) (sym lower)
+    (subst (λ (k : FillKept). FillTied k (with_put p r)) (sym d.2) (tied_put h r p d.1 refl t))
+ties g i w r h k (Give l) (PutTold (Filled c)) by f real some q z t lower low d =
     let low = mod-lt l some in
     ⊎_elim (λ (out : h.queues ≤ queue_of g l). absurd (omega arith))
     (λ (out : length h.marks ≤ l). absurd (omega arith)) d.1
-ties g i w r h k (Offer (ToAim j)) reply f real some q z t d = absurd (true≢false (sym f))
-ties g i w r h k (Aim j) reply f real some q z t d = absurd (true≢false (sym f))
-ties g i w r h k (Pop j v) reply f real some q z t d = absurd (true≢false (sym f))
-ties g i w r h k Done reply f real some q z t d = absurd (true≢false (sym f))
-ties g i w r h k _ _ f real some q z t d = absurd d
+ties g i w r h k (Offer (ToAim j)) reply by f real some q z t lower low d = absurd (true≢false (sym f))
+ties g i w r h k (Aim j) reply by f real some q z t lower low d = absurd (true≢false (sym f))
+ties g i w r h k (Pop j v) reply by f real some q z t lower low d = absurd (true≢false (sym f))
+ties g i w r h k Done reply by f real some q z t lower low d = absurd (true≢false (sym f))
+ties g i w r h k _ _ by f real some q z t lower low d = absurd d
 
 -- a leaf that a worker gives is a leaf
 pub gives_real : (g : Ground) → Fits g → (i : ℕ) (w : Worker) (r : OwnRecord) → Stands g i w r → (phase : Phase)

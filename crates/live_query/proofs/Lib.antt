@@ -1,6 +1,7 @@
 -- The lemmas of this crate.
 pub mod RootTies
 pub mod RootGather
+pub mod WordTies
 pub mod FillTies
 pub mod FillKnowing
 pub mod FillEffort

@@ -35,11 +35,6 @@ no_mark team n leaf all none is =
     none is.0 c.0 (omega arith) c.1
     (ap (λ (own : List Bool). slice_get own leaf) c.2 ∙ is.3)
 
--- a leaf that a searcher put has one
-pub a_mark : (team : List Resting) (j leaf : ℕ) (c : Resting) → slice_get (marks_of team) j ≡ Some c.hand.marks
-    → slice_get c.hand.marks leaf ≡ Some true → IsMarked (marks_of team) leaf
-a_mark team j leaf c at is = (j, c.hand.marks, at, is)
-
 module _ (view : View) (ix : IndexParts) (marks : List (List Bool)) (n : ℕ) (es : List Entry)
     (are : AreMarked view ix marks n es) where
   wider : (e : Entry) → IsMarkedEntry view ix marks n e → IsMarkedEntry view ix marks (n + 1) e
@@ -123,11 +118,4 @@ run_of_marked view ix marks queues m es run are is = record {
     λ i. let r = (is.exactly e).0 i in ((are.exactly e).0 r.0, r.1),
     λ r. (is.exactly e).1 ((are.exactly e).1 r.0, r.1),
   );
-}
-
--- none at all
-pub none_marked : (view : View) (ix : IndexParts) (marks : List (List Bool)) → AreMarked view ix marks 0 []
-none_marked view ix marks = record {
-  exactly = λ e. (λ i. absurd i, λ (is : IsMarkedEntry view ix marks 0 e). let a = is.real in absurd (omega arith));
-  once = λ l. omega arith;
 }

@@ -22,10 +22,12 @@ use Rattle.query_core.specs.Working.{IsOf, Working, opens_as}
 use Rattle.search_task.proofs.OfIndex.{search_fits}
 use Rattle.live_query.specs.Holding.{Held, fresh_held}
 use Rattle.live_query.specs.RootClaims.{DrawTied, IsOwn, Roots}
+use Rattle.live_query.specs.WordPasses.{PassTied}
 use Rattle.live_query.specs.Parts.{Between, IsOpen, Opens}
 use Rattle.live_query.proofs.FillRunning.{is_end, not_end}
 use Rattle.live_query.proofs.Places.{all_at, all_from, map_at}
 use Rattle.live_query.proofs.RootTies.{fresh_drawn_tied}
+use Rattle.live_query.proofs.WordTies.{fresh_tied}
 
 -- the search of a worker at its place is that over its question and index
 pub search_at : (a : Question) (ix : IndexParts) (m i : ℕ) (w : Working) → IsOf a ix m i w → search_of w 1 ≡ search_over a ix 1 m
@@ -95,17 +97,20 @@ module _ (a : Question) (ix : IndexParts) (m : ℕ) (roots : Roots) (best : Best
     opener_drawn =
         subst (λ (h : Held). DrawTied roots h.drawn []) (sym o.hand) (fresh_drawn_tied roots (fresh_pass roots.counter) refl)
 
-    pub opener_word : c.hand.best ≡ best
-    opener_word = ap (λ (h : Held). h.best) o.hand
+    pub opener_word : c.hand.seen.best ≡ best
+    opener_word = ap (λ (h : Held). h.seen.best) o.hand
 
-    pub opener_floor : c.hand.floor ≡ last_of a
-    opener_floor = ap (λ (h : Held). h.floor) o.hand
+    pub opener_floor : c.hand.seen.floor ≡ last_of a
+    opener_floor = ap (λ (h : Held). h.seen.floor) o.hand
+
+    pub opener_tied : PassTied c.hand.seen nothing_yet
+    opener_tied = subst (λ (h : Held). PassTied h.seen nothing_yet) (sym o.hand) (fresh_tied best (last_of a))
 
   pub all_own : All (λ (c : Between). IsOwn roots c.hand.drawn) team
   all_own = all_from (λ (c : Between). IsOwn roots c.hand.drawn) team (λ i c at. opener_own i c (opens.each i c at))
 
-  pub all_word : All (λ (c : Between). c.hand.best ≡ best) team
-  all_word = all_from (λ (c : Between). c.hand.best ≡ best) team (λ i c at. opener_word i c (opens.each i c at))
+  pub all_word : All (λ (c : Between). c.hand.seen.best ≡ best) team
+  all_word = all_from (λ (c : Between). c.hand.seen.best ≡ best) team (λ i c at. opener_word i c (opens.each i c at))
 
 -- all of a list of one item are that item
 pub all_replicate : {X : Type 0} (n : ℕ) (x : X) (xs : List X) → xs ≡ replicate n x → All (λ y. y ≡ x) xs

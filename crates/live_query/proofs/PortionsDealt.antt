@@ -1,22 +1,50 @@
 -- Rows of passes: the next word with its row (`rows_more`), a pass from each row (`taken_none`, `taken_more`, `taken_all`, `rows_left`),
--- and the limits of the worker that gets them (`limits_dealt`).
-use Rattle.std.proofs.Common.{◌≡◌, ℕ, suc, ◌<◌, ◌%◌, ◌+◌, List, [], ◌∷◌, ◌++◌, Some, All, length, set, true, refl, sym, ap, ◌∙◌, subst, ⊎_elim, length-append, mod-lt, arith}
+-- the limits of the worker that gets them (`limits_dealt`), and the workers after it has them (`hired_shared`).
+use Rattle.std.proofs.Common.{◌≡◌, ℕ, suc, ◌<◌, ◌%◌, ◌+◌, List, [], ◌∷◌, ◌++◌, Some, All, length, set, true, sym, ap, ◌∙◌, subst, ⊎_elim, length-append, mod-lt, arith}
 use Rattle.std.specs.Prelude.{replicate, slice_get}
 use Rattle.std.proofs.lemmas.List.{length-replicate}
 use Rattle.std.proofs.lemmas.Option.{none-some, slice_get_within}
+use Rattle.series_core.specs.declared.distance.TheConstants.{NONE}
 use Rattle.best_word.specs.Passes.{Best, Pass, fresh_pass}
 use Rattle.search_machine.specs.Ground.{Ground}
 use Rattle.search_machine.proofs.Places.{get_set, get_set_same, get_some}
+use Rattle.subtree_build.specs.Index.{IndexParts}
+use Rattle.search_task.specs.Questions.{Question, search_over}
 use Rattle.query_core.specs.Portions.{AreLimits, portion_last}
+use Rattle.query_core.specs.Teams.{AreHired}
+use Rattle.query_core.specs.Working.{IsOf, Shows, Working, opens_as}
 use Rattle.live_query.specs.PortionRows.{AreRows, AreTaken, IsRow, PassRow}
 use Rattle.query_core.proofs.Pushes.{at_push, push_both}
 use Rattle.live_query.proofs.Openers.{all_replicate}
 use Rattle.live_query.proofs.Places.{all_ends}
 
-module _ (g : Ground) where
-  pub no_rows : (n : ℕ) → AreRows g [] n []
-  no_rows n = record { count = refl; each = λ c b row at_b at_row. absurd (none-some b at_b) }
+-- a worker that shares limits is else as it opened
+pub hired_shared : (a : Question) (ix : IndexParts) (m : ℕ) (ws : List Working) (i : ℕ) (w v : Working) → AreHired a ix m ws
+    → slice_get ws i ≡ Some w → v ≡ record w { shares = true } → AreHired a ix m (set ws i v)
+hired_shared a ix m ws i w v hired at is = record {
+  places = λ j x at_x. ⊎_elim
+      (λ (new : (j ≡ i) × (v ≡ x)).
+      let was = hired.places i w at in
+      subst (IsOf a ix m j) new.1 (subst (λ (n : ℕ). IsOf a ix m n v) (sym new.0) (subst (IsOf a ix m i) (sym is) (record {
+        question = was.question;
+        index = was.index;
+        number = was.number;
+        queues = was.queues;
+      }))))
+      (λ (old : slice_get ws j ≡ Some x). hired.places j x old)
+      (get_set ws i j x v at_x);
+  opens = λ j x at_x. ⊎_elim
+      (λ (new : (j ≡ i) × (v ≡ x)).
+      let was = hired.opens i w at in
+      subst (λ (z : Working). Shows z (opens_as (search_over a ix 1 m) j)) new.1
+      (subst (λ (n : ℕ). Shows v (opens_as (search_over a ix 1 m) n)) (sym new.0)
+      (subst (λ (z : Working). Shows z (opens_as (search_over a ix 1 m) i)) (sym is)
+      (record { phase = was.phase; rest = was.rest; list = was.list; marks = was.marks }))))
+      (λ (old : slice_get ws j ≡ Some x). hired.opens j x old)
+      (get_set ws i j x v at_x);
+}
 
+module _ (g : Ground) where
   -- one more word, with the row of its passes
   pub rows_more : (words : List Best) (n : ℕ) (rows : List PassRow) (b : Best) (row : PassRow) → AreRows g words n rows
       → row.items ≡ replicate n (fresh_pass b (portion_last g (length words)))
@@ -80,7 +108,7 @@ module _ (g : Ground) where
 
   -- the limits of worker i
   pub limits_dealt : (words : List Best) (passes : List Pass) (i : ℕ) → 0 < g.queues → length words ≡ g.queues → AreTaken g words passes
-      → AreLimits g (record { words = words; passes = passes; home = i % g.queues; at_home = true })
+      → AreLimits g (record { words = words; passes = passes; home = i % g.queues; at_home = true; offered = NONE })
   limits_dealt words passes i some many taken = record {
     words = many;
     passes = taken.count ∙ many;

@@ -54,8 +54,8 @@ module _ {a : Question} {ix : IndexParts} {m : ℕ} {best : Best} {team : List R
   filled_over_view is = subst (All Of) (sym is) filled_over
 
   -- and each has the one bound word
-  pub filled_word : All (λ (c : Resting). c.hand.best ≡ best) team
-  filled_word = all_from (λ (c : Resting). c.hand.best ≡ best) team (λ i c at. (has_at filled i c at).2.word)
+  pub filled_word : All (λ (c : Resting). c.hand.seen.best ≡ best) team
+  filled_word = all_from (λ (c : Resting). c.hand.seen.best ≡ best) team (λ i c at. (has_at filled i c at).2.word)
 
 -- searcher i after the fill part, with the record of its calls
 pub record HasRecord {a : Question} {ix : IndexParts} {m : ℕ} {best : Best} {team : List Resting} (filled : AllFilled a ix m best team)

@@ -43,10 +43,6 @@ empty_at g m (suc n) zero q e =
 empty_at g m (suc n) (suc j) q e =
     empty_at g (suc m) n j q e ∙ ap (opened_for g) (let s : suc m + j ≡ m + suc j = omega arith in s)
 
--- with no entries a queue is as it was
-pub filled_none : (n j : ℕ) (q r : PlainQueue) → r ≡ q → IsFilledBy n j [] q r
-filled_none n j q r is = record { log = []; leads = record { legal = tt; leads = is }; puts = refl }
-
 module _ (n j : ℕ) (es : List Entry) (e : Entry) (q r s : PlainQueue) (f : IsFilledBy n j es q r) where
   -- the entry belongs to the queue, and is put into it
   pub filled_here : e.leaf % n ≡ j → s ≡ (put e r).0 → IsFilledBy n j (es ++ e ∷ []) q s

@@ -1,7 +1,8 @@
 -- What the hand of a worker holds in the fill part, what a call did to it, and when it is tied to an own record.
 use Rattle.std.specs.Prelude.{◌≡◌, ℕ, ◌<◌, ◌≤◌, ◌⊎◌, List, [], Some, Bool, true, false, length, slice_get, slice_set}
 use Rattle.list_totals.specs.Standing.{In}
-use Rattle.best_word.specs.Passes.{Best}
+use Rattle.best_word.specs.Passes.{Pass}
+use Rattle.best_word.specs.declared.rule.Event.TheVariants.{Offer as Offering, Read as Reading}
 use Rattle.series_core.specs.declared.queue_words.PutReply.TheVariants.{Placed, Filled}
 use Rattle.series_core.specs.declared.queue_words.PopReply.TheVariants.{Closed}
 use Rattle.search_machine.specs.declared.calls.Call.{Call}
@@ -10,26 +11,23 @@ use Rattle.search_machine.specs.declared.calls.Reply.{Reply}
 use Rattle.search_machine.specs.declared.calls.Reply.TheVariants.{Claimed, Seen, Offered, PutTold, PopTold}
 use Rattle.search_machine.specs.OwnRecord.{OwnRecord, PutMade, is_refused}
 use Rattle.live_query.specs.RootClaims.{DidClaim, Drawn, DrawTied, Roots}
+use Rattle.live_query.specs.WordPasses.{Grew, PassTied}
 
--- the root children that are claimed and its draws of them, the bound word and what no limit is below, the number of queues, and
--- for each leaf whether it put it
+-- the root children that are claimed and its draws of them, its pass of the bound word, the number of queues, and for each leaf whether
+-- it put it
 pub record FillKept : Type 0 where
   pub roots : Roots
   pub drawn : Drawn
-  pub best : Best
-  pub floor : ℕ
+  pub seen : Pass
   pub queues : ℕ
   pub marks : List Bool
 
--- a limit that the word may have
-abbrev pub InRange : ℕ → Best → ℕ → Type 0
-InRange floor best v = (floor ≤ v) × (v ≤ best.start)
-
--- what a call with its reply did to the hand: a claim was made of its draws, a put is marked, and no other call leaves anything
+-- what a call with its reply did to the hand: a claim was made of its draws, a read or an offer stands in the trace of its pass, a put is
+-- marked, and a pop leaves nothing
 abbrev pub FillDid : FillKept → Call → Reply → FillKept → Type 0
 FillDid h Claim (Claimed o) k = (d : Drawn) × DidClaim h.roots h.drawn o d × (k ≡ record h { drawn = d })
-FillDid h Read (Seen v) k = InRange h.floor h.best v × (k ≡ h)
-FillDid h (Offer x) (Offered v) k = InRange h.floor h.best v × (k ≡ h)
+FillDid h Read (Seen v) k = Grew h.seen (Reading v) k.seen × (k ≡ record h { seen = k.seen })
+FillDid h (Offer x) (Offered v) k = Grew h.seen (Offering x v) k.seen × (k ≡ record h { seen = k.seen })
 FillDid h (Put m e) (PutTold Placed) k =
     (m < h.queues) × (e.leaf < length h.marks)
     × (k ≡ record h { marks = slice_set h.marks e.leaf true })
@@ -51,6 +49,6 @@ pub record AreMarks (marks : List Bool) (puts : List PutMade) : Type 0 where
 -- the hand is tied to the record of its calls
 pub record FillTied (h : FillKept) (r : OwnRecord) : Type 0 where
   pub drawn : DrawTied h.roots h.drawn r.claims
-  pub reads : (v : ℕ) → In v r.reads → InRange h.floor h.best v
+  pub word : PassTied h.seen r
   pub marks : AreMarks h.marks r.puts
   pub pops : r.pops ≡ []

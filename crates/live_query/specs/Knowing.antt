@@ -20,7 +20,7 @@ pub record FillServes (w : Working) (h : FillKept) : Type 0 where
   pub roots : h.roots.count ≡ length w.index.roots
   pub size : 0 < h.roots.size
   pub one_each : length w.index.nodes ≡ length w.index.roots
-  pub floor : h.floor ≡ last_of w.question
+  pub floor : h.seen.floor ≡ last_of w.question
   pub queues : h.queues ≡ w.queues
   pub marks : length h.marks ≡ length w.index.leaves
 
@@ -37,8 +37,8 @@ pub record FillsOn (w : Working) (h : FillKept) (v : Working) (k : FillKept) : T
   pub place : IsOf w.question w.index w.queues w.number v
   pub roots : k.roots ≡ h.roots
   pub own : IsOwn h.roots h.drawn → IsOwn k.roots k.drawn
-  pub best : k.best ≡ h.best
-  pub floor : k.floor ≡ h.floor
+  pub best : k.seen.best ≡ h.seen.best
+  pub floor : k.seen.floor ≡ h.seen.floor
 
 -- a hand over as many queues as `count` tells is of the search of the worker, which shows some worker of the machine
 pub record DrainServes {Q : Type 0} (count : Q → ℕ) (w : Working) (h : DrainKept Q) : Type 0 where
@@ -46,7 +46,7 @@ pub record DrainServes {Q : Type 0} (count : Q → ℕ) (w : Working) (h : Drain
   pub shows : Shows w shown
   pub fits : Fits (search_of w 1)
   pub roots : h.roots ≡ length w.index.roots
-  pub floor : h.floor ≡ last_of w.question
+  pub floor : h.seen.floor ≡ last_of w.question
   pub queues : count h.queues ≡ w.queues
 
 -- this record is what the hand was given, and its worker is the one that the code's worker shows
@@ -68,8 +68,8 @@ pub record IsLater {Q : Type 0} (Agrees : Q → List PopMade → Type 0) (x : Re
 pub record DrainsOn {Q : Type 0} (Same : Q → Q → Type 0) (Agrees : Q → List PopMade → Type 0) (w : Working) (h : DrainKept Q)
     (v : Working) (k : DrainKept Q) : Type 0 where
   pub place : IsOf w.question w.index w.queues w.number v
-  pub best : k.best ≡ h.best
-  pub floor : k.floor ≡ h.floor
+  pub best : k.seen.best ≡ h.seen.best
+  pub floor : k.seen.floor ≡ h.seen.floor
   pub queues : Same h.queues k.queues
   pub on : (x : RecordedWorker) → DrainsBy Agrees w h x → (y : RecordedWorker) × IsLater Agrees x v k y
 

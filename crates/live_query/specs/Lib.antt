@@ -1,6 +1,7 @@
 -- The root children that workers claim.
 pub mod RootClaims
 -- What the hands of running workers hold, and what each call did to them.
+pub mod WordPasses
 pub mod FillHands
 pub mod DrainHands
 pub mod SealedQueues

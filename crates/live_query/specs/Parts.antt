@@ -66,8 +66,7 @@ filling roots queues leaves c = record {
   hand = record {
     roots = roots;
     drawn = c.hand.drawn;
-    best = c.hand.best;
-    floor = c.hand.floor;
+    seen = c.hand.seen;
     queues = queues;
     marks = replicate leaves false;
   };
@@ -80,7 +79,7 @@ filling roots queues leaves c = record {
 abbrev pub resting : Filling → Resting
 resting c = record {
   worker = c.worker;
-  hand = record { best = c.hand.best; floor = c.hand.floor; marks = c.hand.marks };
+  hand = record { seen = c.hand.seen; marks = c.hand.marks };
   number = c.number;
   turn = c.turn;
   apart = tt;
@@ -96,7 +95,7 @@ pub record MayDrain {Q : Type 0} (count : Q → ℕ) (c : Drainer Q) : Type 0 wh
 pub record IsEquipped {Q : Type 0} (IsNew : ℕ → Q → Type 0) (roots i : ℕ) (c : Resting) (d : Drainer Q) : Type 0 where
   pub worker : d.worker ≡ c.worker
   pub queues : Q
-  pub hand : d.hand ≡ drain_over c.hand.best c.hand.floor roots queues
+  pub hand : d.hand ≡ drain_over c.hand.seen roots queues
   pub new : IsNew i queues
 
 -- so with each searcher
@@ -141,12 +140,12 @@ pub record HasFilled (a : Question) (ix : IndexParts) (m : ℕ) (best : Best) (i
   pub place : IsOf a ix m i c.worker
   pub filled : fills c.worker.phase ≡ false
   pub running : c.worker.phase ≢ Done
-  pub word : c.hand.best ≡ best
-  pub floor : c.hand.floor ≡ last_of a
+  pub word : c.hand.seen.best ≡ best
+  pub floor : c.hand.seen.floor ≡ last_of a
   pub shows : Shows c.worker x.worker
   pub stands : StandsFor (search_over a ix 1 m) i x
   pub hand : FillKept
-  pub rests : c.hand ≡ record { best = hand.best; floor = hand.floor; marks = hand.marks }
+  pub rests : c.hand ≡ record { seen = hand.seen; marks = hand.marks }
   pub tied : FillTied hand x.own
 
 -- all searchers of a search over m queues after the fill part, with the records of their calls: no root child was claimed twice, and

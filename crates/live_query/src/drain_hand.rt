@@ -24,7 +24,7 @@ impl<'a, Q> Model for DrainHand<'a, Q> {
 
     ghost Value = { DrainKept Q };
 
-    ghost view = { λ h. record { best = h.word.now; floor = h.seen.floor; roots = h.roots; queues = h.queues } };
+    ghost view = { λ h. record { seen = h.seen; roots = h.roots; queues = h.queues } };
 
     ghost invariant = { λ h. h.seen.best ≡ h.word.now };
 }
@@ -33,7 +33,7 @@ impl<'a, Q> DrainHand<'a, Q> {
     /// A hand over these queues with this pass of the bound word.
     pub fn new(word: &'a BestWord, seen: WordPass, roots: u64, queues: Q) -> DrainHand<'a, Q>
         requires seen { seen.best ≡ word.now }
-        ensures { result ≡ drain_over word.now seen.floor roots queues }
+        ensures { result ≡ drain_over seen roots queues }
     {
         DrainHand {
             word,
@@ -54,7 +54,7 @@ impl<'a, Q> DrainHand<'a, Q> {
 impl<'a, Q: Queues> Shared for DrainHand<'a, Q> {
     ghost use Rattle.live_query.specs.DrainHands.{DrainDid};
 
-    ghost floor = { λ h. h.floor };
+    ghost floor = { λ h. h.seen.floor };
 
     ghost roots = { λ h. h.roots };
 
@@ -65,8 +65,8 @@ impl<'a, Q: Queues> Shared for DrainHand<'a, Q> {
         None
     }
 
-    fn read(&mut self, most: u64) -> u64 {
-        self.word.read(&mut self.seen).min(most)
+    fn read(&mut self) -> u64 {
+        self.word.read(&mut self.seen)
     }
 
     fn offer(&mut self, v: u64) -> u64 {

@@ -56,7 +56,7 @@ fn equip<'a, 'b, R: Rows>(
     mut passes: Vec<RunPass>,
 ) -> Result<Vec<Draining<'a, 'b, R>>, NoMemory>
     requires runs { count ≡ length runs.now.runs }
-    requires word { All (λ c. c.hand.best ≡ word.now) team.items }
+    requires word { All (λ c. c.hand.seen.best ≡ word.now) team.items }
     requires passes { All (IsFreshPass runs.now.runs) passes.items }
     requires count { vec_len passes ≡ vec_len team }
     ensures { IfOk result (λ ready. AreEquipped (IsFresh runs.now.runs) roots team.entry.items ready.items) }

@@ -31,8 +31,7 @@ impl<'a> Model for FillHand<'a> {
     ghost view = { λ h. record {
       roots = h.claims.now;
       drawn = h.drawing;
-      best = h.word.now;
-      floor = h.seen.floor;
+      seen = h.seen;
       queues = h.queues;
       marks = h.marks.items;
     } };
@@ -55,8 +54,7 @@ impl<'a> FillHand<'a> {
         ensures { result ≡ record {
           roots = claims.now;
           drawn = drawing;
-          best = word.now;
-          floor = seen.floor;
+          seen = seen;
           queues = queues;
           marks = marks.items;
         } }
@@ -74,7 +72,7 @@ impl<'a> FillHand<'a> {
     /// Its draws, its pass of the bound word, and its marks.
     pub fn into_parts(self) -> (Drawing, WordPass, Vec<bool>)
         ensures drawn { result.0 ≡ self.entry.drawn }
-        ensures seen { (result.1.best ≡ self.entry.best) × (result.1.floor ≡ self.entry.floor) }
+        ensures seen { result.1 ≡ self.entry.seen }
         ensures marks { result.2.items ≡ self.entry.marks }
     {
         let FillHand {
@@ -90,7 +88,7 @@ impl<'a> FillHand<'a> {
 impl<'a> Shared for FillHand<'a> {
     ghost use Rattle.live_query.specs.FillHands.{FillDid};
 
-    ghost floor = { λ h. h.floor };
+    ghost floor = { λ h. h.seen.floor };
 
     ghost roots = { λ h. h.roots.count };
 
@@ -100,8 +98,8 @@ impl<'a> Shared for FillHand<'a> {
         self.claims.claim(&mut self.drawing)
     }
 
-    fn read(&mut self, most: u64) -> u64 {
-        self.word.read(&mut self.seen).min(most)
+    fn read(&mut self) -> u64 {
+        self.word.read(&mut self.seen)
     }
 
     fn offer(&mut self, v: u64) -> u64 {

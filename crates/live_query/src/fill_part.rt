@@ -48,7 +48,7 @@ fn equip<'a, 'b, R: Rows>(
     word: &'b BestWord,
     team: Vec<Searcher<Worker<'a, R>, Holding>>,
 ) -> Result<Vec<Filling<'a, 'b, R>>, NoMemory>
-    requires word { All (λ c. c.hand.best ≡ word.now) team.items }
+    requires word { All (λ c. c.hand.seen.best ≡ word.now) team.items }
     requires own { All (λ c. IsOwn claims.now c.hand.drawn) team.items }
     ensures { IfOk result (λ ready.
         ready.items ≡ map (filling claims.now plan.now.queues (length plan.now.search.index.leaves)) team.entry.items) }

@@ -28,7 +28,7 @@ pub(crate) fn equip<'a, 'b, T, R: Rows>(
     team: Vec<Searcher<Worker<'a, R>, Rested>>,
     mut rows: Vec<Vec<TurnPass<Queue>>>,
 ) -> Result<Vec<Locking<'a, 'b, R, T>>, NoMemory>
-    requires word { All (λ c. c.hand.best ≡ word.now) team.items }
+    requires word { All (λ c. c.hand.seen.best ≡ word.now) team.items }
     requires round { (queues : List PlainQueue) × AreRound queues (length team.items) locks.now }
     requires dealt { AreDealt locks.now 0 rows.items }
     ensures { IfOk result (λ ready. AreEquipped (HasNew locks.now) roots team.entry.items ready.items) }

@@ -1,7 +1,6 @@
 //! Sealing between the parts: the leaves that the searchers put become runs, one for each queue.
 //! Each leaf is sealed once, whoever put it.
 ghost use Rattle.std.specs.Prelude.{◌≡◌, ◌<◌, ◌≤◌, true, false, All, IfOk, length, replicate};
-ghost use Rattle.sealed_runs.specs.Entries.{LeavesDiffer};
 ghost use Rattle.sealed_runs.specs.Sealing.{fresh_visits};
 ghost use Rattle.sealed_runs.specs.Visits.{IsPass};
 ghost use Rattle.search_task.specs.Questions.{leaf_bound, view_in};

@@ -88,7 +88,7 @@ fn open_team<'a, R: Rows>(
     ensures workers { IfOk result (λ team. map (λ c. c.worker) team.items ≡ workers.entry.items) }
     ensures hands { (d : Drawn) (b : Best) (low : ℕ) → All (λ p. p ≡ d) drawings.items
         → All (λ p. p ≡ fresh_seen b low) seen.items
-        → IfOk result (λ team. All (λ c. c.hand ≡ record { drawn = d; best = b; floor = low }) team.items) }
+        → IfOk result (λ team. All (λ c. c.hand ≡ record { drawn = d; seen = fresh_seen b low }) team.items) }
 {
     let mut team = Vec::with_capacity(alloc, workers.len())?;
     for worker in workers {

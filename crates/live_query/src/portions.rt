@@ -1,6 +1,6 @@
 //! The limits of portions, of which each worker has a pass: a word for each queue. A portion's last distance is a number of the collection
 //! and the index alone, so that no word has to know who scans which leaf.
-ghost use Rattle.std.specs.Prelude.{◌≡◌, ℕ, suc, ◌<◌, ◌≤◌, IfOk, List, Some, length, slice_get, vec_len};
+ghost use Rattle.std.specs.Prelude.{◌≡◌, ℕ, suc, ◌<◌, ◌≤◌, IfOk, List, Some, slice_get, vec_len};
 ghost use Rattle.best_word.specs.Passes.{Best};
 ghost use Rattle.search_machine.specs.Ground.{Ground};
 ghost use Rattle.query_core.specs.Portions.{portion_last};
@@ -61,7 +61,7 @@ pub(crate) fn begin_limits<'a, R: Rows>(
     Ok((words, rows))
 }
 
-/// Lets the workers, as they open, share these limits where there is one for each queue.
+/// Lets the workers, as they open, share these limits where there is one for each queue. They are else as they opened.
 pub(crate) fn share_limits<'a, R: Rows>(
     alloc: Global,
     plan: &Plan<'a, R>,
@@ -74,7 +74,9 @@ pub(crate) fn share_limits<'a, R: Rows>(
     requires hired { AreHired plan.now.search.question plan.now.search.index plan.now.queues workers.old.items }
     requires rows { let g = search_over plan.now.search.question plan.now.search.index 1 plan.now.queues in
         AreRows g words.now (vec_len workers.old) rows.items }
-    ensures same { IfOk result (λ _. workers.new.items ≡ workers.old.items) }
+    ensures len { IfOk result (λ _. vec_len workers.new ≡ vec_len workers.old) }
+    ensures hired { IfOk result (λ _.
+        AreHired plan.now.search.question plan.now.search.index plan.now.queues workers.new.items) }
 {
     if words.len() != plan.queues as usize {
         return Ok(());

@@ -107,7 +107,7 @@ impl Model for Holding {
 
     ghost Value = { Held };
 
-    ghost view = { λ h. record { drawn = h.drawing; best = h.seen.best; floor = h.seen.floor } };
+    ghost view = { λ h. record { drawn = h.drawing; seen = h.seen } };
 
     ghost invariant = { λ h. Unit {0} };
 }
@@ -117,7 +117,7 @@ impl Model for Rested {
 
     ghost Value = { Kept };
 
-    ghost view = { λ r. record { best = r.seen.best; floor = r.seen.floor; marks = r.marks.items } };
+    ghost view = { λ r. record { seen = r.seen; marks = r.marks.items } };
 
     ghost invariant = { λ r. Unit {0} };
 }

@@ -1,6 +1,6 @@
 -- What a worker keeps and finds by a scan of a leaf without a mark (`scan_keeps`), what it finds and may offer by it (`scan_finds`,
 -- `scan_offers`), and that a leaf is one of its index (`leaf_of_same`).
-use Rattle.std.proofs.Common.{◌≡◌, ℕ, ◌-◌, ◌<◌, List, true, false, Option, length, sym, ◌∙◌, subst, arith}
+use Rattle.std.proofs.Common.{◌≡◌, ℕ, ◌-◌, ◌<◌, List, Bool, true, false, Option, length, sym, ◌∙◌, subst, arith}
 use Rattle.std.specs.Prelude.{slice_set}
 use Rattle.std.proofs.lemmas.List.{length-set}
 use Rattle.series_core.specs.Best.{Best}
@@ -37,6 +37,22 @@ scan_finds start walk best stage w l v ps kept real unmarked pairs =
     let marked : l < length w.marks = subst (λ (n : ℕ). l < n) (sym kept.marks) real in
     subst (λ (ps : List Pair). IsFound g (slice_set w.marks l true) ps) (sym pairs)
     (found_scanned g fits w.marks best.pairs kept.found l v real marked unmarked)
+
+-- what a worker keeps does not hang on whether it shares limits
+pub keeps_sharing : (start : Option ℕ) (walk : Walked) (best : Best) (stage : Stage) (w : Working) (shares : Bool)
+    → IsWorking start walk best stage w → IsWorking start walk best stage (record w { shares = shares })
+keeps_sharing start walk best stage w shares kept = record {
+  searched = kept.searched;
+  number_limit = kept.number_limit;
+  some_queue = kept.some_queue;
+  few_queues = kept.few_queues;
+  start_is = kept.start_is;
+  walk_index = kept.walk_index;
+  wanted = kept.wanted;
+  found = kept.found;
+  marks = kept.marks;
+  range = kept.range;
+}
 
 -- a scan of a leaf without a mark keeps what a worker keeps
 pub scan_keeps : (start : Option ℕ) (walk : Walked) (best after : Best) (before stage : Stage) (w : Working) (l v : ℕ)

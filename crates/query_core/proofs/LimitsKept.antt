@@ -1,24 +1,28 @@
 -- What a worker keeps of the limits of portions: as it opens (`opened_stay`), by its calls on their words (`limits_set`, `limits_same`,
--- `keeps_read`, `read_low`), and by a scan (`found_low`, `can_limit`, `keeps_scanned`).
-use Rattle.std.proofs.Common.{◌≡◌, ℕ, zero, suc, ◌+◌, ◌-◌, ◌<◌, ◌≤◌, ◌%◌, Bool, true, false, not, List, Option, None, Some, length, set, sym, ap, subst, ◌∙◌, ⊎_elim, inl, inr, nat_eq, true≢false, arith}
+-- `read_more`, `left_more`, `keeps_read`, `read_low`), and by a scan (`found_low`, `can_limit`, `keeps_scanned`).
+use Rattle.std.proofs.Common.{◌≡◌, ℕ, zero, suc, ◌+◌, ◌-◌, ◌<◌, ◌≤◌, ◌%◌, Bool, true, false, not, List, [], ◌∷◌, ◌++◌, Option, None, Some, length, set, refl, sym, ap, subst, ◌∙◌, ⊎_elim, inl, inr, nat_eq, true≢false, arith}
 use Rattle.std.specs.Prelude.{cond, slice_get, slice_set}
 use Rattle.std.specs.List.{range_with_len}
+use Rattle.std.specs.Option.{is_some}
 use Rattle.std.proofs.Math.Nat.{zero-mod}
 use Rattle.std.proofs.lemmas.Bool.{and_parts, cases_eq, eq-eqb, eqb-true, lt-ltb}
 use Rattle.std.proofs.lemmas.Bool.Decides.{nat_tests}
 use Rattle.std.proofs.lemmas.List.{length-set}
+use Rattle.std.proofs.lemmas.Option.{none-some, same_Some}
 use Rattle.list_totals.specs.Standing.{In}
 use Rattle.list_totals.specs.Totals.{times, total}
 use Rattle.list_totals.proofs.Standing.{in_total}
 use Rattle.series_core.specs.Order.{distance_at}
+use Rattle.series_core.specs.declared.distance.TheConstants.{NONE}
 use Rattle.series_core.specs.declared.pair.Pair.{Pair}
 use Rattle.search_machine.specs.Ground.{Fits, Ground, last}
 use Rattle.search_machine.specs.Outcome.{is_start}
 use Rattle.search_machine.specs.Workers.{start_list}
 use Rattle.search_machine.proofs.PlainList.{last_none}
-use Rattle.search_machine.proofs.Places.{get_set}
+use Rattle.search_machine.proofs.Places.{get_set, get_set_other}
 use Rattle.best_word.specs.Passes.{Best, Pass}
-use Rattle.query_core.specs.Portions.{AreLimits, CanLimit, HasLimits, IfRead, IsLimitOf, IfScanned, Keeps, Limited, StayAt, leaves_of, lies_in, portion_last, portion_of, portion_rank}
+use Rattle.best_word.specs.declared.rule.Event.TheVariants.{Read}
+use Rattle.query_core.specs.Portions.{AreLimits, CanLimit, HasLimits, IfRead, IsLimitOf, IfScanned, Keeps, Limited, ReadAt, StayAt, leaves_of, lies_in, portion_last, portion_of, portion_rank}
 use Rattle.query_core.specs.Working.{IsFound, Shows, Working, opens_as}
 use Rattle.query_core.proofs.Found.{found_known, mark_kept}
 use Rattle.query_core.proofs.Portions.{last_portions, part_in, portion_low}
@@ -62,6 +66,25 @@ module _ (g : Ground) (fits : Fits g) where
   read_low (Some before) None v read = absurd read
   read_low (Some before) (Some after) v read = last_portions g fits v read.most
 
+  -- limits are there where they were
+  pub read_some : (o p : Option Limited) (v : ℕ) → IfRead g o p v → is_some p ≡ is_some o
+  read_some None None v is = refl
+  read_some None (Some after) v read = absurd read
+  read_some (Some before) None v read = absurd read
+  read_some (Some before) (Some after) v read = refl
+
+  -- and where there are none, no limit is known
+  pub read_none : (o p : Option Limited) (v : ℕ) → is_some o ≡ false → IfRead g o p v → v ≡ NONE
+  read_none None None v none is = is
+  read_none None (Some after) v none read = absurd read
+  read_none (Some before) p v none read = absurd (true≢false none)
+
+  pub scanned_some : (portion distance : ℕ) (o p : Option Limited) → IfScanned g portion distance o p → is_some p ≡ is_some o
+  scanned_some portion distance None None scanned = refl
+  scanned_some portion distance None (Some after) scanned = absurd scanned
+  scanned_some portion distance (Some before) None scanned = absurd scanned
+  scanned_some portion distance (Some before) (Some after) scanned = refl
+
   pub keeps_read : (marks : List Bool) (o p : Option Limited) (v : ℕ) → Keeps g marks o → IfRead g o p v → Keeps g marks p
   keeps_read marks None None v keeps is = tt
   keeps_read marks None (Some after) v keeps read = absurd read
@@ -86,11 +109,12 @@ module _ (g : Ground) (fits : Fits g) where
     )
 
     -- and what it has then
-    pub keeps_scanned : (o p : Option Limited) → Keeps g marks o → IfScanned g portion o p → Keeps g (slice_set marks l true) p
-    keeps_scanned None None keeps scanned = tt
-    keeps_scanned None (Some after) keeps scanned = absurd scanned
-    keeps_scanned (Some before) None keeps scanned = absurd scanned
-    keeps_scanned (Some before) (Some after) keeps scanned = (
+    pub keeps_scanned : (distance : ℕ) (o p : Option Limited) → Keeps g marks o → IfScanned g portion distance o p
+        → Keeps g (slice_set marks l true) p
+    keeps_scanned distance None None keeps scanned = tt
+    keeps_scanned distance None (Some after) keeps scanned = absurd scanned
+    keeps_scanned distance (Some before) None keeps scanned = absurd scanned
+    keeps_scanned distance (Some before) (Some after) keeps scanned = (
       scanned.limits,
       λ at_home.
           let both = and_parts before.at_home (nat_eq before.home portion) (sym scanned.at_home ∙ at_home) in
@@ -129,6 +153,37 @@ limits_set g l passes c p q are at best floor = record {
       (λ (old : slice_get passes d ≡ Some r). are.each d b r at_b old)
       (get_set passes c d r q at_r);
 }
+
+-- a place that was written to holds what was written
+pub set_there : {X : Type 0} (xs : List X) (i : ℕ) (x y : X) → slice_get xs i ≡ Some x → slice_get (set xs i y) i ≡ Some y
+set_there [] i x y at = absurd (none-some x at)
+set_there (z ∷ xs) zero x y at = refl
+set_there (z ∷ xs) (suc i) x y at = set_there xs i x y at
+
+-- the passes after one more read, at place n
+module _ (old passes : List Pass) (n v : ℕ) (p q : Pass) (at : slice_get passes n ≡ Some p)
+    (read : q ≡ record p { trace = p.trace ++ Read v ∷ [] }) (left : (c : ℕ) → n ≤ c → slice_get passes c ≡ slice_get old c) where
+  -- those up to that place have read
+  pub read_more : (most more : ℕ) → most ≤ more → v ≤ more → ((c : ℕ) → c < n → ReadAt old passes most c)
+      → (c : ℕ) → c < n + 1 → ReadAt old (set passes n q) more c
+  read_more most more high here was c low r at_old = ⊎_elim
+      (λ (new : c ≡ n).
+      let there : slice_get passes n ≡ Some r = left n (omega arith) ∙ ap (slice_get old) (sym new) ∙ at_old in
+      let same : p ≡ r = same_Some p r (sym at ∙ there) in (
+        v,
+        here,
+        ap (slice_get (set passes n q)) new ∙ set_there passes n p q at
+            ∙ ap Some (read ∙ ap (λ (s : Pass). record s { trace = s.trace ++ Read v ∷ [] }) same),
+      ))
+      (λ (other : c ≡ n → ⊥).
+      let before = was c (omega (arith, low, other)) r at_old in
+      (before.0, omega (arith, before.1, high), get_set_other passes n c q other ∙ before.2))
+      (cases_eq c n)
+
+  -- and the others are left
+  pub left_more : (c : ℕ) → n + 1 ≤ c → slice_get (set passes n q) c ≡ slice_get old c
+  left_more c above =
+      get_set_other passes n c q (λ (same : c ≡ n). absurd (omega (arith, same, above))) ∙ left c (omega (arith, above))
 
 -- a worker that opens has the mark of the start leaf alone, which is of the first portion
 pub opened_stay : (g : Ground) (i : ℕ) (w : Working) → Shows w (opens_as g i) → length w.marks ≡ g.leaves

@@ -1,22 +1,19 @@
 -- A team as it opens stands for the opening state.
-use Rattle.std.proofs.Common.{List, None, Option, Some, [], ap, arith, inl, inr, length, refl, subst, suc, sym, zero, ℕ, ⊎_elim, ◌++◌, ◌+◌, ◌-◌, ◌∙◌, ◌∷◌, ◌≡◌, ◌≤◌, ◌⊎◌}
+use Rattle.std.proofs.Common.{List, false, Some, [], ap, arith, inl, inr, length, refl, subst, suc, sym, zero, ℕ, ⊎_elim, ◌++◌, ◌+◌, ◌-◌, ◌∙◌, ◌∷◌, ◌≡◌, ◌≤◌, ◌⊎◌}
 use Rattle.std.proofs.lemmas.Bool.{cases_eq}
 use Rattle.std.proofs.lemmas.List.{length-replicate}
 use Rattle.std.proofs.lemmas.Option.{none-some, same_Some}
-use Rattle.std.specs.Option.{option_map}
 use Rattle.series_core.specs.declared.pair.Pair.{Pair}
 use Rattle.leaf_queues.specs.PlainQueue.{empty_queue}
 use Rattle.std.specs.Prelude.{replicate, slice_get}
 use Rattle.subtree_build.specs.Index.{IndexParts}
 use Rattle.search_machine.specs.declared.phase.Phase.TheVariants.{Claim, Done}
-use Rattle.search_machine.specs.Ground.{Ground, opening, opening_of, start_limit, worst}
-use Rattle.search_machine.specs.Basics.{start_of}
+use Rattle.search_machine.specs.Ground.{Ground, opening, start_limit}
 use Rattle.search_machine.specs.Machine.{capacity_of, empty_queues, opened}
 use Rattle.search_machine.specs.Workers.{Worker, idle, leader, start_list}
-use Rattle.search_task.specs.Questions.{CanBeSearched, Question, last_of, search_over}
-use Rattle.query_core.specs.Teams.{AreDoneTo, AreHired, StandsAt, TeamParts, limit_of}
+use Rattle.search_task.specs.Questions.{Question, search_over}
+use Rattle.query_core.specs.Teams.{AreAlone, AreDoneTo, AreHired, StandsAt, TeamParts}
 use Rattle.query_core.specs.Working.{IsOf, Shows, Working, opens_as}
-use Rattle.search_machine.proofs.Opening.{opening_sound}
 use Rattle.search_machine.proofs.Places.{get_replicate}
 use Rattle.search_task.proofs.Openings.{opening_same}
 
@@ -49,6 +46,13 @@ hired_more a ix m ws v n hired many of shows = record {
       (subst (λ (j : ℕ). Shows v (opens_as (search_over a ix 1 m) j)) (sym (h.0 ∙ many)) shows))
       (get_push ws v i w e);
 }
+
+-- one more worker shares nothing
+pub alone_more : (ws : List Working) (v : Working) → AreAlone ws → v.shares ≡ false → AreAlone (ws ++ v ∷ [])
+alone_more ws v alone none i w e = ⊎_elim
+    (λ (h : slice_get ws i ≡ Some w). alone i w h)
+    (λ (h : (i ≡ length ws) × (v ≡ w)). ap (λ (z : Working). z.shares) (sym h.1) ∙ none)
+    (get_push ws v i w e)
 
 -- one more worker is done
 pub done_more : (ws : List Working) (n : ℕ) (w : Working) → AreDoneTo ws n
@@ -91,15 +95,6 @@ module _ (a : Question) (ix : IndexParts) where
       ≡ empty_queue (capacity_of (search_over a ix v m) c (length ix.leaves)) =
       ap empty_queue (room_same n m v c (length ix.leaves)) in
       cc
-
--- the limit that the start gives
-pub limit_start : (g : Ground) → limit_of (start_of g) ≡ start_limit g
-limit_start g = at g.start refl
-  where
-    at : (o : Option ℕ) → g.start ≡ o
-        → limit_of (option_map (λ (l : ℕ). record { leaf = l; limit = start_limit g }) o) ≡ start_limit g
-    at None e = ap (λ (p : Option ℕ). worst g (opening_of g p)) (sym e)
-    at (Some l) e = refl
 
 -- what stands at a place of the opening workers
 opened_at : (g : Ground) (n i : ℕ) (m : Worker)

@@ -116,10 +116,6 @@ module _ (g : Ground) (fits : Fits g) (t : TeamParts) (over : searched t ≡ g) 
   ended_done : AllDone last_state
   ended_done = subst (λ (h : Ground). AllDone (played h (replicate ends.turns 0))) over ends.all_done
 
-  -- the team stands for it
-  pub ended_stands : StandsAt t (played (searched t) (replicate ends.turns 0))
-  ended_stands = ends.stands
-
   -- its outcome is legal
   pub alone_legal : (o : Outcome) → o ≡ outcome (searched t) (played (searched t) (replicate ends.turns 0))
       → Legal g o

@@ -9,6 +9,7 @@ use Rattle.leaf_queues.specs.PlainQueue.{PlainQueue}
 use Rattle.subtree_build.specs.Index.{IndexParts}
 use Rattle.subtree_build.specs.Outline.{leaf_numbers}
 use Rattle.search_machine.specs.declared.phase.Phase.TheVariants.{Done}
+use Rattle.search_machine.specs.declared.calls.Reply.{Reply}
 use Rattle.search_machine.specs.Calls.{call_of}
 use Rattle.search_machine.specs.Ground.{Ground, last}
 use Rattle.search_machine.specs.Machine.{State, answered, shared, state_of, turn, turn_by_phase, turn_of}
@@ -101,15 +102,21 @@ module _ (t : TeamParts) (team : IsTeam t) (i : ℕ) (w : Working)
       shows : Shows w x.worker
       shows = stands.shows i w m.0 at m.1
 
+      -- the worker went by the reply itself
+      exact : turns.1 ≡ turns.0
+      exact = turns.2.exact (team.alone i w at)
+
       did : held_after t.hand (call_of g i x.worker) ≡ (hand, turns.0)
       did = placed (λ a ix q n. held_after t.hand
           (call_of (search_over a ix (length t.workers) q) n x.worker) ≡ (hand, turns.0))
-          t.question t.index t.queues i w of (turns.1.called (length t.workers) x shows)
+          t.question t.index t.queues i w of (turns.2.called (length t.workers) x shows)
 
       becomes : Shows v (after g i x turns.0).worker
       becomes = placed (λ a ix q n. Shows v
           (after (search_over a ix (length t.workers) q) n x turns.0).worker)
-          t.question t.index t.queues i w of (turns.1.next (length t.workers) x shows)
+          t.question t.index t.queues i w of
+          (subst (λ (reply : Reply). Shows v (after (search_over w.question w.index (length t.workers) w.queues) w.number x reply).worker)
+          exact (turns.2.next (length t.workers) x shows))
 
       runs : x.worker.phase ≢ Done
       runs e = running (sym shows.phase ∙ e)
@@ -155,9 +162,9 @@ module _ (t : TeamParts) (team : IsTeam t) (i : ℕ) (w : Working)
       }
 
   -- it is still a team
-  pub turn_keeps : (hand : Held) (v : Working) → IsOf w.question w.index w.queues w.number v
+  pub turn_keeps : (hand : Held) (v : Working) → IsOf w.question w.index w.queues w.number v → v.shares ≡ w.shares
       → (hand.floor ≡ t.hand.floor) × (hand.roots ≡ t.hand.roots) → IsTeam (turned hand v)
-  turn_keeps hand v own same = record {
+  turn_keeps hand v own still same = record {
     searches = team.searches;
     some_worker = let n = length-set t.workers i v in let b = team.some_worker in omega arith;
     few_workers = let n = length-set t.workers i v in let b = team.few_workers in omega arith;
@@ -171,6 +178,10 @@ module _ (t : TeamParts) (team : IsTeam t) (i : ℕ) (w : Working)
         subst (IsOf t.question t.index t.queues j) h.1
         (subst (λ (n : ℕ). IsOf t.question t.index t.queues n v) (sym h.0) of))
         (λ (h : slice_get t.workers j ≡ Some a). team.places j a h)
+        (get_set t.workers i j a v e);
+    alone = λ j a e. ⊎_elim
+        (λ (h : (j ≡ i) × (v ≡ a)). ap (λ (z : Working). z.shares) (sym h.1) ∙ still ∙ team.alone i w at)
+        (λ (h : slice_get t.workers j ≡ Some a). team.alone j a h)
         (get_set t.workers i j a v e);
   }
     where

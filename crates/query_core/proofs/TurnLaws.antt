@@ -1,10 +1,11 @@
 -- Turns of a code's worker, one lemma a phase: from what the hand did to what the machine's worker becomes (`turned`).
-use Rattle.std.proofs.Common.{◌≡◌, ℕ, ◌<◌, ◌≤◌, List, [], ◌∷◌, Bool, true, false, cond, not, length, map, refl, sym, ap, ◌∙◌, subst, arith}
+use Rattle.std.proofs.Common.{◌≡◌, ℕ, ◌<◌, ◌≤◌, List, [], ◌∷◌, Bool, true, false, cond, not, length, map, min, refl, sym, ap, ◌∙◌, subst, arith}
 use Rattle.std.specs.Prelude.{Option, None, Some, nat_lt, ◌&&◌, slice_get, slice_index_or}
 use Rattle.std.proofs.Math.Bool.{and-false}
 use Rattle.std.proofs.lemmas.Bool.{cond-true, cond-false, le-leb, lt-ltb}
 use Rattle.std.proofs.lemmas.List.{length-map, get_or-map}
 use Rattle.std.proofs.lemmas.Option.{slice_get-get_or}
+use Rattle.series_core.specs.declared.distance.TheConstants.{NONE}
 use Rattle.lower_bound.specs.Bound.{View}
 use Rattle.subtree_build.specs.declared.node.Node.{Node, Leaf}
 use Rattle.subtree_build.specs.Index.{IndexParts}
@@ -13,9 +14,9 @@ use Rattle.subtree_build.specs.Start.{start_leaf_of}
 use Rattle.search_machine.specs.declared.calls.Call.{Call}
 use Rattle.search_machine.specs.declared.calls.Call.TheVariants.{Read}
 use Rattle.search_machine.specs.declared.calls.Reply.{Reply}
-use Rattle.search_machine.specs.declared.calls.Reply.TheVariants.{Seen}
+use Rattle.search_machine.specs.declared.calls.Reply.TheVariants.{Claimed, Offered, PopTold, PutTold, Seen}
 use Rattle.search_machine.specs.declared.phase.Phase.{Phase}
-use Rattle.search_machine.specs.declared.phase.Phase.TheVariants.{Claim, Give, Look}
+use Rattle.search_machine.specs.declared.phase.Phase.TheVariants.{Aim, Claim, Give, Look, Pop}
 use Rattle.search_machine.specs.declared.phase.Onward.{Onward}
 use Rattle.search_machine.specs.declared.phase.Onward.TheVariants.{Look as ToLook}
 use Rattle.search_machine.specs.Calls.{call_in}
@@ -23,9 +24,17 @@ use Rattle.search_machine.specs.Ground.{Ground}
 use Rattle.search_machine.specs.Workers.{Worker, after_claim, after_late, after_look, in_phase, is_new, onward, scanned_by, skip, stopped, without, after_reply, leaves_below}
 use Rattle.search_task.specs.Questions.{last_of, leaf_bound, view_in}
 use Rattle.search_machine.specs.Replies.{ReplyFits}
-use Rattle.query_core.specs.Turning.{Acts, ReplyNotLow, TurnsBy, search_of, taken_by}
+use Rattle.query_core.specs.Turning.{Acts, Lowers, ReplyNotLow, TurnsBy, search_of, taken_by}
 use Rattle.query_core.specs.Walks.{Advances}
 use Rattle.query_core.specs.Working.{IsOf, Working, Shows, is_marked}
+
+-- a reply is no lower than itself
+pub lowers_itself : (reply : Reply) → Lowers reply reply
+lowers_itself (Seen v) = omega arith
+lowers_itself (Claimed o) = refl
+lowers_itself (Offered v) = refl
+lowers_itself (PutTold told) = refl
+lowers_itself (PopTold told) = refl
 
 -- a turn of a worker in this phase
 pub turned_here : {H : Type 0} (did : H → Call → Reply → H → Type 0) (before after_it : H) (w v : Working)
@@ -34,11 +43,13 @@ pub turned_here : {H : Type 0} (did : H → Call → Reply → H → Type 0) (be
     → did before (call_in (search_of w workers) w.number m phase) reply after_it)
     → ((workers : ℕ) → ReplyFits (search_of w workers) reply) → ReplyNotLow (last_of w.question) reply
     → ((workers : ℕ) (m : Worker) → Shows w m → Shows v (after_reply (search_of w workers) m phase reply))
-    → TurnsBy did before after_it w v reply
+    → TurnsBy did before after_it w v reply reply
 turned_here did before after_it w v reply phase is called fits not_low next = record {
   called = λ workers x shows.
       subst (λ p. did before (call_in (search_of w workers) w.number x.worker p) reply after_it)
       (sym (shows.phase ∙ is)) (called workers x.worker shows);
+  lowers = lowers_itself reply;
+  exact = λ alone. refl;
   fits = fits;
   not_low = not_low;
   next = λ workers x shows.
@@ -53,9 +64,9 @@ pub turned : {H : Type 0} (did : H → Call → Reply → H → Type 0) (before 
     → did before (call_in (search_of w workers) w.number m phase) reply after_it)
     → ((workers : ℕ) → ReplyFits (search_of w workers) reply) → ReplyNotLow (last_of w.question) reply
     → ((workers : ℕ) (m : Worker) → Shows w m → Shows v (after_reply (search_of w workers) m phase reply))
-    → TurnsBy did before after_it old v reply
+    → TurnsBy did before after_it old v reply reply
 turned did before after_it w old v reply phase same is called fits not_low next =
-    subst (λ (o : Working). TurnsBy did before after_it o v reply) same
+    subst (λ (o : Working). TurnsBy did before after_it o v reply reply) same
     (turned_here did before after_it w v reply phase (ap (λ (o : Working). o.phase) same ∙ is) called fits
     not_low next)
 
@@ -132,7 +143,7 @@ pub looked : {H : Type 0} (floor roots : H → ℕ) (did : H → Call → Reply 
     → did before Read (Seen limit) now → (floor now ≡ floor before) × (roots now ≡ roots before)
     → w.rest ≡ without start leaves → view ≡ view_in w.question → ix ≡ w.index → most ≡ limit
     → ((g : Ground) → g.bound ≡ leaf_bound view ix → Advances g start most leaves left told)
-    → Acts floor roots did before now old (record w { phase = phase_after_look told; rest = without start left }) (Seen limit)
+    → Acts floor roots did before now old (record w { phase = phase_after_look told; rest = without start left }) (Seen limit) (Seen limit)
 looked floor roots did told before now w old limit most start leaves left view ix same is own low did_it kept rest seen over
     limited moved =
     let last : floor before ≡ last_of w.question =
@@ -149,8 +160,38 @@ looked floor roots did told before now w old limit most start leaves left view i
           (subst (λ (n : ℕ). Advances (search_of w workers) start n leaves left told) limited
           (moved (search_of w workers) bounds)));
       place = stays w old _ _ same;
+      shares = ap (λ (o : Working). o.shares) same;
       hand = kept;
     }
+
+-- an aim: the limit is read, and the worker pops with it or with what it knows where that is less
+pub aimed : {H : Type 0} (floor roots : H → ℕ) (did : H → Call → Reply → H → Type 0) (before now : H) (w old : Working)
+    (place seen most limit : ℕ) → w ≡ old → old.phase ≡ Aim place → floor before ≡ last_of old.question → floor before ≤ seen
+    → last_of old.question ≤ most → (old.shares ≡ false → most ≡ NONE) → seen ≤ NONE → limit ≡ min seen most
+    → did before Read (Seen seen) now → (floor now ≡ floor before) × (roots now ≡ roots before)
+    → Acts floor roots did before now old (record w { phase = Pop place limit }) (Seen seen) (Seen limit)
+aimed floor roots did before now w old place seen most limit same is own low known none small less did_it kept = record {
+  turns = record {
+    called = λ workers x shows.
+        subst (λ (p : Phase). did before (call_in (search_of old workers) old.number x.worker p) (Seen seen) now) (sym (shows.phase ∙ is))
+        did_it;
+    lowers = omega (arith, less);
+    exact = λ alone. let all = none alone in ap Seen (let e : limit ≡ seen = omega (arith, less, all, small) in e);
+    fits = λ workers. tt;
+    not_low = omega (arith, own, low, known, less);
+    next = λ workers x shows.
+        subst (λ (p : Phase). Shows (record w { phase = Pop place limit }) (after_reply (search_of old workers) x.worker p (Seen limit)))
+        (sym (shows.phase ∙ is)) (record {
+          phase = refl;
+          rest = shows.rest ∙ ap (λ (o : Working). o.rest) (sym same);
+          list = shows.list ∙ ap (λ (o : Working). o.list) (sym same);
+          marks = subst (λ (o : Working). (l : ℕ) → l < length o.marks → is_new l x.worker ≡ not (is_marked o.marks l)) (sym same) shows.marks;
+        });
+  };
+  place = stays w old _ _ same;
+  shares = ap (λ (o : Working). o.shares) same;
+  hand = kept;
+}
 
 -- a leaf without a mark is taken by a scan
 pub taken_new : (g : Ground) (w : Working) (m : Worker) (l v : ℕ) (next : Onward) → Shows w m
@@ -160,14 +201,6 @@ taken_new g w m l v next shows inside real unmarked =
     let new : is_new l m ≡ true = shows.marks l inside ∙ ap not unmarked in
     ap (λ (b : Bool). cond (b && nat_lt l g.leaves) (scanned_by g m l v next) (in_phase (onward next) m)) new
     ∙ cond-true _ _ _ real
-
--- a leaf with a mark is passed over
-pub taken_old : (g : Ground) (w : Working) (m : Worker) (l v : ℕ) (next : Onward) → Shows w m
-    → l < length w.marks → is_marked w.marks l ≡ true
-    → taken_by g m l v next ≡ in_phase (onward next) m
-taken_old g w m l v next shows inside marked =
-    let old : is_new l m ≡ false = shows.marks l inside ∙ ap not marked in
-    ap (λ (b : Bool). cond (b && nat_lt l g.leaves) (scanned_by g m l v next) (in_phase (onward next) m)) old
 
 -- a number that is no leaf is passed over
 pub taken_none : (g : Ground) (m : Worker) (l v : ℕ) (next : Onward) → nat_lt l g.leaves ≡ false

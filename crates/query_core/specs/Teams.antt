@@ -1,5 +1,5 @@
 -- A team: workers over one hand. When it stands for a state of the machine.
-use Rattle.std.specs.Prelude.{◌≡◌, ◌≢◌, ℕ, ◌<◌, ◌≤◌, List, [], ◌∷◌, ◌++◌, Option, None, Some, length, map, replicate, slice_get}
+use Rattle.std.specs.Prelude.{◌≡◌, ◌≢◌, ℕ, ◌<◌, ◌≤◌, List, [], ◌∷◌, ◌++◌, Option, None, Some, false, length, map, replicate, slice_get}
 use Rattle.series_core.specs.declared.distance.TheConstants.{NONE}
 use Rattle.series_core.specs.declared.pair.Pair.{Pair}
 use Rattle.subtree_build.specs.Index.{IndexParts}
@@ -33,8 +33,13 @@ team_of a ix m start hand workers =
 abbrev pub searched : TeamParts → Ground
 searched t = search_over t.question t.index (length t.workers) t.queues
 
+-- no worker shares limits of portions
+abbrev pub AreAlone : List Working → Type 0
+AreAlone ws = (i : ℕ) (w : Working) → slice_get ws i ≡ Some w → w.shares ≡ false
+
 -- what every team keeps: its index can be searched for its question by its 1 to 64 workers over its queues; its start is that of the
--- search; its hand has the floor and the root children of the search; each worker has the number of its place
+-- search; its hand has the floor and the root children of the search; each worker has the number of its place, and shares no limits of
+-- portions
 pub record IsTeam (t : TeamParts) : Type 0 where
   pub searches : CanBeSearched t.question t.index
   pub some_worker : 0 < length t.workers
@@ -45,6 +50,7 @@ pub record IsTeam (t : TeamParts) : Type 0 where
   pub roots : t.hand.roots ≡ length t.index.roots
   pub places : (i : ℕ) (w : Working) → slice_get t.workers i ≡ Some w
       → IsOf t.question t.index t.queues i w
+  pub alone : AreAlone t.workers
 
 -- the team stands for a state: its hand has the word, the claims and the queues of the state, and each worker shows that of
 -- the state at its place

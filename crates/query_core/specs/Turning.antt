@@ -1,5 +1,5 @@
--- What one turn of a worker does: one call, and the worker becomes what the machine's worker becomes by the reply.
-use Rattle.std.specs.Prelude.{◌≡◌, ℕ, ◌≤◌, cond, nat_lt, ◌&&◌}
+-- What one turn of a worker does: one call, and the worker becomes what the machine's worker becomes by the reply, or by a lower limit.
+use Rattle.std.specs.Prelude.{◌≡◌, ℕ, ◌≤◌, false, cond, nat_lt, ◌&&◌}
 use Rattle.search_machine.specs.declared.calls.Call.{Call}
 use Rattle.search_machine.specs.declared.calls.Reply.{Reply}
 use Rattle.search_machine.specs.declared.calls.Reply.TheVariants.{Seen, Offered}
@@ -22,27 +22,36 @@ ReplyNotLow last (Seen v) = last ≤ v
 ReplyNotLow last (Offered v) = last ≤ v
 ReplyNotLow last _ = Unit {0}
 
--- one turn: of a hand one call was made and answered so; and whatever the number of workers, the machine's worker becomes by
--- that reply what the code's worker became
+-- what a worker goes by is what it was answered, or a lower limit
+abbrev pub Lowers : Reply → Reply → Type 0
+Lowers (Seen v) (Seen u) = u ≤ v
+Lowers reply by = by ≡ reply
+
+-- one turn: of a hand one call was made and answered so; the worker went by that reply, or by a lower limit where it shares limits of
+-- portions; and whatever the number of workers, the machine's worker becomes by what the worker went by what the code's worker became
 pub record TurnsBy {H : Type 0} (did : H → Call → Reply → H → Type 0) (before after_it : H) (w v : Working)
-    (reply : Reply) : Type 0 where
+    (reply by : Reply) : Type 0 where
   pub called : (workers : ℕ) (x : RecordedWorker) → Shows w x.worker
       → did before (call_of (search_of w workers) w.number x.worker) reply after_it
-  pub fits : (workers : ℕ) → ReplyFits (search_of w workers) reply
-  pub not_low : ReplyNotLow (last_of w.question) reply
+  pub lowers : Lowers reply by
+  pub exact : w.shares ≡ false → by ≡ reply
+  pub fits : (workers : ℕ) → ReplyFits (search_of w workers) by
+  pub not_low : ReplyNotLow (last_of w.question) by
   pub next : (workers : ℕ) (x : RecordedWorker) → Shows w x.worker
-      → Shows v (after (search_of w workers) w.number x reply).worker
+      → Shows v (after (search_of w workers) w.number x by).worker
 
--- one turn with its reply: the worker keeps its place, and the hand its floor and its root children
+-- one turn with its reply and what the worker went by: the worker keeps its place and shares what it shared, and the hand keeps its floor
+-- and its root children
 pub record Acts {H : Type 0} (floor roots : H → ℕ) (did : H → Call → Reply → H → Type 0) (before after_it : H)
-    (w v : Working) (reply : Reply) : Type 0 where
-  pub turns : TurnsBy did before after_it w v reply
+    (w v : Working) (reply by : Reply) : Type 0 where
+  pub turns : TurnsBy did before after_it w v reply by
   pub place : IsOf w.question w.index w.queues w.number v
+  pub shares : v.shares ≡ w.shares
   pub hand : (floor after_it ≡ floor before) × (roots after_it ≡ roots before)
 
--- one turn, by some reply
+-- one turn, by some reply and something by which the worker went
 abbrev pub Turns : {H : Type 0} → (H → Call → Reply → H → Type 0) → H → H → Working → Working → Type 0
-Turns did before after_it w v = (reply : Reply) × TurnsBy did before after_it w v reply
+Turns did before after_it w v = (reply : Reply) × (by : Reply) × TurnsBy did before after_it w v reply by
 
 -- the machine's worker after it took a leaf: it scanned a leaf that is new to it, and passed over any other number
 abbrev pub taken_by : Ground → Worker → ℕ → ℕ → Onward → Worker

@@ -24,7 +24,7 @@ use Rattle.search_task.specs.Questions.{Question, CanBeSearched, view_in, search
 use Rattle.query_core.specs.Walks.{IsEntry, Walked}
 
 -- a worker: the question and the index, its number, the number of queues, its phase, the leaves that it has still to
--- look at, its list, and for each leaf whether it scanned it
+-- look at, its list, for each leaf whether it scanned it, and whether it shares limits of portions
 pub record Working : Type 0 where
   pub question : Question
   pub index : IndexParts
@@ -34,11 +34,21 @@ pub record Working : Type 0 where
   pub rest : List ℕ
   pub list : List Pair
   pub marks : List Bool
+  pub shares : Bool
 
 -- the worker of these parts
-abbrev pub working : Question → IndexParts → ℕ → ℕ → Phase → List ℕ → List Pair → List Bool → Working
-working a ix i m phase rest list marks =
-    record { question = a; index = ix; number = i; queues = m; phase = phase; rest = rest; list = list; marks = marks }
+abbrev pub working : Question → IndexParts → ℕ → ℕ → Phase → List ℕ → List Pair → List Bool → Bool → Working
+working a ix i m phase rest list marks shares = record {
+  question = a;
+  index = ix;
+  number = i;
+  queues = m;
+  phase = phase;
+  rest = rest;
+  list = list;
+  marks = marks;
+  shares = shares;
+}
 
 -- whether leaf l has a mark
 abbrev pub is_marked : List Bool → ℕ → Bool

@@ -1,5 +1,5 @@
 //! A share of the leaves' lower bounds: each worker reckons one in its own thread, and who asks for the bound of a leaf reads it there.
-ghost use Rattle.std.specs.Prelude.{◌≡◌, ◌+◌, ◌-◌, ◌≤◌, IfOk, IfSome, Some, [], length, slice_get};
+ghost use Rattle.std.specs.Prelude.{◌≡◌, ◌+◌, ◌-◌, ◌≤◌, IfOk, IfSome, Some, [], slice_get};
 ghost use Rattle.query_core.specs.BoundShares.{AreBounds};
 
 use lower_bound::QueryView;

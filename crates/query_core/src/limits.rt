@@ -1,7 +1,8 @@
 //! The limits of portions, as one worker has them. The leaves of a queue are a portion of all leaves; while a worker has scanned leaves of
 //! one portion alone, a pair of its list is a limit for that portion. What is no less than all of them is a limit for all leaves.
-ghost use Rattle.std.specs.Prelude.{◌≡◌, ℕ, ◌-◌, ◌<◌, ◌≤◌, true, slice_get};
+ghost use Rattle.std.specs.Prelude.{◌≡◌, ◌-◌, ◌<◌, ◌≤◌, true, slice_get};
 ghost use Rattle.series_core.specs.Order.{distance_at};
+ghost use Rattle.series_core.specs.declared.distance.TheConstants.{NONE as no_limit};
 ghost use Rattle.search_machine.specs.Ground.{Ground};
 ghost use Rattle.query_core.specs.Portions.{AreLimits, CanLimit, HasLimits, HasRead, HasScanned, IfRead, IfScanned};
 ghost use Rattle.query_core.specs.Portions.{portion_last};
@@ -31,6 +32,7 @@ impl<'a> Model for Limits<'a> {
       passes = l.passes.items;
       home = l.home;
       at_home = l.at_home;
+      offered = l.offered;
     } };
 
     ghost invariant = { λ l. Unit {0} };
@@ -39,7 +41,7 @@ impl<'a> Model for Limits<'a> {
 impl<'a> Limits<'a> {
     /// The limits that these words hold, for a worker that scans leaves of portion `home` first.
     pub fn new(words: &'a [BestWord], passes: Vec<WordPass>, home: u32) -> Limits<'a>
-        ensures { result ≡ record { words = words.now; passes = passes.items; home = home; at_home = true } }
+        ensures { result ≡ record { words = words.now; passes = passes.items; home = home; at_home = true; offered = no_limit } }
     {
         Limits {
             words,
@@ -67,7 +69,7 @@ impl<'a> Limits<'a> {
     fn scanned(&mut self, portion: u32, distance: u64)
         requires limits { (g : Ground) × AreLimits g self.old
             × (self.old.at_home ≡ true → self.old.home ≡ portion → portion_last g portion ≤ distance) }
-        ensures scanned { (g : Ground) → AreLimits g self.old → HasScanned g portion self.old self.new }
+        ensures scanned { (g : Ground) → AreLimits g self.old → HasScanned g portion distance self.old self.new }
     {
         self.at_home = self.at_home && self.home == portion as usize;
         if self.at_home && distance < self.offered {
@@ -94,7 +96,7 @@ pub(crate) fn note_scan(limits: &mut Option<Limits<'_>>, portion: u32, rank: u32
     requires rank { 0 < rank }
     requires limits { (g : Ground) × CanLimit g portion (distance_at (rank - 1) list.now.pairs) limits.old }
     ensures scanned { (g : Ground) → CanLimit g portion (distance_at (rank - 1) list.now.pairs) limits.old
-        → IfScanned g portion limits.old limits.new }
+        → IfScanned g portion (distance_at (rank - 1) list.now.pairs) limits.old limits.new }
 {
     if let Some(limits) = limits {
         limits.scanned(portion, distance_of_rank(list, rank));

@@ -1,5 +1,5 @@
 //! Merging two ascending lists of pairs: the smaller of their first pairs comes next, so that no pair is moved twice.
-ghost use Rattle.std.specs.Prelude.{◌≡◌, ◌++◌, true, false, IfOk};
+ghost use Rattle.std.specs.Prelude.{◌≡◌, ◌++◌, IfOk};
 ghost use Rattle.series_core.specs.Pairs.{ascending, smallest};
 ghost use Rattle.query_core.specs.Merging.{AreOrdered, IsNext, is_left_next};
 

@@ -99,8 +99,7 @@ impl<'a, R: Rows> Shared for OneThread<'a, R> {
         }
     }
 
-    /// It is the bound word: the machine's turn knows no other limit.
-    fn read(&mut self, _most: u64) -> u64 {
+    fn read(&mut self) -> u64 {
         self.word
     }
 

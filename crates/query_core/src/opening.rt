@@ -4,7 +4,7 @@ ghost use Rattle.search_machine.specs.Basics.{start_of};
 ghost use Rattle.search_machine.specs.Ground.{Ground, opening, start_limit};
 ghost use Rattle.search_machine.specs.Machine.{capacity_of, empty_queues};
 ghost use Rattle.search_task.specs.Questions.{search_over};
-ghost use Rattle.query_core.specs.Teams.{AreHired, limit_of};
+ghost use Rattle.query_core.specs.Teams.{AreAlone, AreHired, limit_of};
 
 use crate::worker::Worker;
 use leaf_queues::Queue;
@@ -26,7 +26,7 @@ pub fn limit_of(start: Option<Start>) -> u64
 }
 
 /// The 1 to 64 workers with which a search over 1 to 64 queues opens, each with the number of its place: worker 0 has the list
-/// that `Search::opening` gives, and the others have empty ones.
+/// that `Search::opening` gives, and the others have empty ones. They share no limits of portions yet.
 pub fn hire<'a, R: Rows>(
     alloc: Global,
     search: &Search<'a, R>,
@@ -42,6 +42,7 @@ pub fn hire<'a, R: Rows>(
         list ≡ record { k = s.question.k; pairs = opening (search_over s.question s.index 1 queues) } }
     ensures len { IfOk result (λ hired. length hired.items ≡ workers) }
     ensures hired { IfOk result (λ hired. AreHired search.now.question search.now.index queues hired.items) }
+    ensures alone { IfOk result (λ hired. AreAlone hired.items) }
 {
     let task = search.task();
     let index = search.index();

@@ -24,9 +24,8 @@ pub trait Shared {
         ensures floor { floor self.new ≡ floor self.old }
         ensures roots { roots self.new ≡ roots self.old };
 
-    /// The bound word, or `most` where that is less: the worker knows that it is a limit too.
-    fn read(&mut self, most: u64) -> u64
-        requires { floor self.old ≤ most }
+    /// The bound word.
+    fn read(&mut self) -> u64
         ensures did { did self.old Call.Read (Reply.Seen result) self.new }
         ensures low { floor self.old ≤ result }
         ensures floor { floor self.new ≡ floor self.old }

@@ -1,6 +1,8 @@
 //! A worker's turn: one call on what is shared, and what the worker makes of the reply. One function a phase.
-ghost use Rattle.std.specs.Prelude.{◌≡◌, ◌≢◌, ℕ, suc, ◌<◌, ◌≤◌, ◌↔◌, false, cond, nat_lt, length};
+ghost use Rattle.std.specs.Prelude.{◌≡◌, ◌≢◌, ℕ, ◌<◌, ◌≤◌, ◌↔◌, false, length};
+ghost use Rattle.series_core.specs.declared.distance.TheConstants.{NONE};
 ghost use Rattle.search_machine.specs.Ground.{worst};
+ghost use Rattle.search_machine.specs.declared.calls.Reply.{Reply as MachineReply};
 ghost use Rattle.search_machine.specs.Workers.{Worker as Shown, onward, scanned_by};
 ghost use Rattle.search_task.specs.Questions.{last_of, view_in};
 ghost use Rattle.query_core.specs.Portions.{portion_of};
@@ -14,7 +16,7 @@ use crate::stage::Stage;
 use crate::worker::Worker;
 use search_machine::{Onward, Phase, Reply};
 use search_task::distance_of_worst;
-use series_core::{Entry, NONE, PopReply, PutReply, Rows, far};
+use series_core::{Entry, PopReply, PutReply, Rows, far};
 
 /// Whether a worker has more turns.
 #[derive(Clone, Copy, PartialEq, Eq, Debug)]
@@ -27,7 +29,8 @@ pub enum Turn {
 
 impl<'a, R: Rows> Worker<'a, R> {
     /// One turn: exactly one call on the hand, by the worker's phase; the worker becomes what the machine's worker becomes by
-    /// the reply. It takes no memory of its own. Done exactly where the worker is done now.
+    /// the reply, or by a lower limit where it shares limits of portions. It takes no memory of its own. Done exactly where the worker is
+    /// done now.
     pub fn turn<S: Shared>(&mut self, hand: &mut S) -> Turn
         requires running { self.old.phase ≢ Phase.Done }
         requires floor { S.floor hand.old ≡ last_of self.old.question }
@@ -35,6 +38,7 @@ impl<'a, R: Rows> Worker<'a, R> {
         ensures turns { Turns S.did hand.old hand.new self.old self.new }
         ensures done { (result ≡ Turn.Done) ↔ (self.new.phase ≡ Phase.Done) }
         ensures place { IsOf self.old.question self.old.index self.old.queues self.old.number self.new }
+        ensures shares { self.new.shares ≡ self.old.shares }
         ensures hand { (S.floor hand.new ≡ S.floor hand.old) × (S.roots hand.new ≡ S.roots hand.old) }
     {
         // the reply is the one by which the turn is a turn of the machine
@@ -51,7 +55,7 @@ impl<'a, R: Rows> Worker<'a, R> {
         requires running { self.old.phase ≢ Phase.Done }
         requires floor { S.floor hand.old ≡ last_of self.old.question }
         requires roots { S.roots hand.old ≡ length self.old.index.roots }
-        ensures { Acts S.floor S.roots S.did hand.old hand.new self.old self.new result }
+        ensures { (by : MachineReply) × Acts S.floor S.roots S.did hand.old hand.new self.old self.new result by }
     {
         match self.stage {
             Stage::Claim => self.claim(hand),
@@ -69,7 +73,7 @@ impl<'a, R: Rows> Worker<'a, R> {
     fn claim<S: Shared>(&mut self, hand: &mut S) -> Reply
         requires phase { self.old.phase ≡ Phase.Claim }
         requires roots { S.roots hand.old ≡ length self.old.index.roots }
-        ensures { Acts S.floor S.roots S.did hand.old hand.new self.old self.new result }
+        ensures { Acts S.floor S.roots S.did hand.old hand.new self.old self.new result result }
     {
         match hand.claim() {
             Some(root) => {
@@ -88,9 +92,9 @@ impl<'a, R: Rows> Worker<'a, R> {
     fn look<S: Shared>(&mut self, hand: &mut S) -> Reply
         requires phase { self.old.phase ≡ Phase.Look }
         requires floor { S.floor hand.old ≡ last_of self.old.question }
-        ensures { Acts S.floor S.roots S.did hand.old hand.new self.old self.new result }
+        ensures { Acts S.floor S.roots S.did hand.old hand.new self.old self.new result result }
     {
-        let limit = hand.read(self.no_limit());
+        let limit = hand.read();
         match self.walk.next(self.search.view(), far(limit), self.start) {
             Some(entry) => {
                 self.stage = Stage::Give(entry);
@@ -107,7 +111,7 @@ impl<'a, R: Rows> Worker<'a, R> {
     fn give<S: Shared>(&mut self, hand: &mut S, entry: Entry) -> Reply
         requires phase { self.old.phase ≡ Phase.Give entry.leaf }
         requires entry { IsEntry (view_in self.old.question) self.old.index entry }
-        ensures { Acts S.floor S.roots S.did hand.old hand.new self.old self.new result }
+        ensures { Acts S.floor S.roots S.did hand.old hand.new self.old self.new result result }
     {
         let told = hand.put(entry.leaf % self.queues, entry);
         self.stage = match told {
@@ -122,9 +126,9 @@ impl<'a, R: Rows> Worker<'a, R> {
         requires phase { self.old.phase ≡ Phase.Late entry.leaf }
         requires entry { IsEntry (view_in self.old.question) self.old.index entry }
         requires floor { S.floor hand.old ≡ last_of self.old.question }
-        ensures { Acts S.floor S.roots S.did hand.old hand.new self.old self.new result }
+        ensures { Acts S.floor S.roots S.did hand.old hand.new self.old self.new result result }
     {
-        let limit = hand.read(self.no_limit());
+        let limit = hand.read();
         if entry.bound <= far(limit) {
             self.take(entry.leaf, limit, Onward::Look);
             Reply::Seen(limit)
@@ -134,17 +138,18 @@ impl<'a, R: Rows> Worker<'a, R> {
         }
     }
 
-    // Reads the limit of the next pop.
+    // Reads the limit of the next pop, which is lower where the limits of all portions are.
     fn aim<S: Shared>(&mut self, hand: &mut S, place: u32) -> Reply
         requires phase { self.old.phase ≡ Phase.Aim place }
         requires place { place < self.old.queues }
         requires floor { S.floor hand.old ≡ last_of self.old.question }
-        ensures { Acts S.floor S.roots S.did hand.old hand.new self.old self.new result }
+        ensures { (limit : ℕ) × Acts S.floor S.roots S.did hand.old hand.new self.old self.new result (MachineReply.Seen limit) }
     {
         let most = self.most();
-        let limit = hand.read(most);
+        let seen = hand.read();
+        let limit = seen.min(most);
         self.stage = Stage::Pop(place, limit);
-        Reply::Seen(limit)
+        Reply::Seen(seen)
     }
 
     // Pops from the queue at this place of its round, and scans what it gives; where the queue is closed, goes on to the next,
@@ -152,7 +157,7 @@ impl<'a, R: Rows> Worker<'a, R> {
     fn pop<S: Shared>(&mut self, hand: &mut S, place: u32, limit: u64) -> Reply
         requires phase { self.old.phase ≡ Phase.Pop place limit }
         requires place { place < self.old.queues }
-        ensures { Acts S.floor S.roots S.did hand.old hand.new self.old self.new result }
+        ensures { Acts S.floor S.roots S.did hand.old hand.new self.old self.new result result }
     {
         match hand.pop((self.number + place) % self.queues, limit) {
             PopReply::Leaf(entry) => {
@@ -171,7 +176,7 @@ impl<'a, R: Rows> Worker<'a, R> {
         requires phase { self.old.phase ≡ Phase.Offer next }
         requires next { OnwardInRange self.old.queues next }
         requires floor { S.floor hand.old ≡ last_of self.old.question }
-        ensures { Acts S.floor S.roots S.did hand.old hand.new self.old self.new result }
+        ensures { Acts S.floor S.roots S.did hand.old hand.new self.old self.new result result }
     {
         let offered = hand.offer(self.worst());
         self.stage = Stage::onward(next);
@@ -195,19 +200,11 @@ impl<'a, R: Rows> Worker<'a, R> {
         distance_of_worst(&self.list)
     }
 
-    // `NONE`, which is no less than the last distance.
-    fn no_limit(&self) -> u64
-        ensures low { last_of self.now.question ≤ result }
-    {
-        // for the fact that the worker's index can be searched for its question
-        let _k = self.search.k();
-        NONE
-    }
-
     // What is no less than the limits of all portions; `NONE` where it knows none.
     fn most(&mut self) -> u64
         ensures same { self.new ≡ self.old }
         ensures low { last_of self.old.question ≤ result }
+        ensures none { self.old.shares ≡ false → result ≡ NONE }
     {
         most_of(&mut self.limits)
     }
@@ -229,6 +226,7 @@ impl<'a, R: Rows> Worker<'a, R> {
         ensures place { IsOf self.old.question self.old.index self.old.queues self.old.number self.new }
         ensures taken { (workers : ℕ) (m : Shown) → Shows self.old m
             → Shows self.new (taken_by (search_of self.old workers) m leaf limit next) }
+        ensures shares { self.new.shares ≡ self.old.shares }
     {
         if leaf < self.search.leaf_count() && !self.has_scanned(leaf) {
             self.scan(leaf, limit, next);
@@ -245,6 +243,7 @@ impl<'a, R: Rows> Worker<'a, R> {
         ensures place { IsOf self.old.question self.old.index self.old.queues self.old.number self.new }
         ensures scanned { (workers : ℕ) (m : Shown) → Shows self.old m
             → Shows self.new (scanned_by (search_of self.old workers) m leaf limit next) }
+        ensures shares { self.new.shares ≡ self.old.shares }
     {
         let portion = self.portion_of(leaf);
         let rank = self.search.k().div_ceil(self.queues);

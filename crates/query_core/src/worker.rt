@@ -1,5 +1,5 @@
 //! The worker: its phase, its walk, its list, and one mark a leaf that it scanned.
-ghost use Rattle.std.specs.Prelude.{◌≡◌, ◌%◌, ◌<◌, ◌≤◌, ◌↔◌, IsTrue, true, not, IfOk, IfSome};
+ghost use Rattle.std.specs.Prelude.{◌≡◌, ◌%◌, ◌<◌, ◌≤◌, ◌↔◌, IsTrue, true, false, not, IfOk, IfSome};
 ghost use Rattle.std.specs.Option.{option_map};
 ghost use Rattle.subtree_build.specs.Fits.{Fits as IndexFits};
 ghost use Rattle.search_machine.specs.Basics.{start_of};
@@ -23,8 +23,8 @@ use std::marker::Model;
 use subtree_build::Index;
 
 /// A worker of a search (the MESSI paper, Peng, Fatourou, Palpanas, ICDE 2020). It is seen as its question and index, its
-/// number, the number of queues, its phase, the leaves that it has still to look at, its list, and its marks. The limits of portions, which
-/// several workers share, change only what a read is answered.
+/// number, the number of queues, its phase, the leaves that it has still to look at, its list, its marks, and whether it shares limits of
+/// portions with other workers: such limits lower only the limit of a pop.
 #[derive(Drop)]
 pub struct Worker<'a, R: Rows> {
     pub(crate) search: Search<'a, R>,
@@ -42,6 +42,7 @@ pub struct Worker<'a, R: Rows> {
 
 impl<'a, R: Rows> Model for Worker<'a, R> {
     ghost use Rattle.std.specs.Coded.{codes};
+    ghost use Rattle.std.specs.Option.{is_some};
     ghost use Rattle.subtree_build.specs.contracts.node.Node as node;
     ghost use Rattle.search_machine.specs.Workers.{without};
     ghost use Rattle.query_core.specs.BoundShares.{AreBounds};
@@ -54,11 +55,11 @@ impl<'a, R: Rows> Model for Worker<'a, R> {
     ghost coded = { Prim.hlevel (codes, node.the_row.coded) };
 
     ghost view = { λ w. working w.search.question w.search.index w.number w.queues (phase_of w.stage)
-        (without w.start w.walk.leaves) w.list.pairs w.marks.items };
+        (without w.start w.walk.leaves) w.list.pairs w.marks.items (is_some w.limits) };
 
     ghost invariant = { λ w. IsWorking w.start w.walk w.list w.stage
         (working w.search.question w.search.index w.number w.queues (phase_of w.stage)
-        (without w.start w.walk.leaves) w.list.pairs w.marks.items)
+        (without w.start w.walk.leaves) w.list.pairs w.marks.items (is_some w.limits))
         × Keeps (search_over w.search.question w.search.index 1 w.queues) w.marks.items w.limits
         × AreBounds (view_in w.search.question) w.search.index w.share };
 }
@@ -86,6 +87,7 @@ impl<'a, R: Rows> Worker<'a, R> {
         } }
         ensures place { IfOk result (λ w. IsOf task.now index.now queues number w) }
         ensures opens { IfOk result (λ w. Shows w (opens_as (search_over task.now index.now 1 queues) number)) }
+        ensures alone { IfOk result (λ w. w.shares ≡ false) }
     {
         let search = Search::new(task, index);
         let start = leaf_of(start);
@@ -110,7 +112,7 @@ impl<'a, R: Rows> Worker<'a, R> {
         requires opens { Shows self.old (opens_as (search_of self.old 1) self.old.number) }
         requires limits { AreLimits (search_of self.old 1) limits }
         requires home { (limits.home ≡ self.old.number % self.old.queues) × (limits.at_home ≡ true) }
-        ensures same { self.new ≡ self.old }
+        ensures shares { self.new ≡ record self.old { shares = true } }
     {
         self.limits = Some(limits);
     }

@@ -1,11 +1,11 @@
 -- The next searcher has its hand, with the next pass.
-use Rattle.std.proofs.Common.{◌≡◌, List, [], ◌∷◌, All, ap, ◌∙◌, subst, length-append, arith}
+use Rattle.std.proofs.Common.{List, [], ◌∷◌, All, ap, ◌∙◌, subst, length-append, arith}
 use Rattle.sealed_runs.specs.Visits.{Visit}
 use Rattle.live_query.specs.SealedQueues.{IsFresh, IsFreshPass, SealedKept}
 use Rattle.live_query.specs.Parts.{Resting}
 use Rattle.live_query.specs.Resting.{Kept}
 use Rattle.live_query.proofs.DrainGather.{equipped_more}
-use Rattle.live_query.proofs.Places.{all_ends, all_next, cut_later}
+use Rattle.live_query.proofs.Places.{all_ends, cut_later}
 use Rattle.live_query.proofs.drain_part.equip.Goals as goal
 
 pub new-queues-requires-clause-pass : goal.new-queues-requires-clause-pass
@@ -23,8 +23,6 @@ loop-searcher-preserved g c =
     let over : List Visit → SealedKept = λ visits. record { runs = runs; visits = visits } in
     let split = all_ends (IsFreshPass runs) c.pop.new.self.items c.in-Some-pop.pass
     (subst (All (IsFreshPass runs)) c.in-Some-pop.ensures.items was.passes) in
-    let word : searcher.hand.best ≡ c.args.word.now
-    = all_next done c.in-Some.ensures.steps.0 was.whole (λ (s : Resting). s.hand.best ≡ c.args.word.now) c.requires.word in
     record {
       whole = cut_later done c.in-Some.ensures.steps.0 was.whole;
       len = omega (arith, c.push_reserved.ensures.len, was.len, length-append done (searcher ∷ []));
@@ -32,7 +30,7 @@ loop-searcher-preserved g c =
       room = omega (arith, c.push_reserved.ensures.capacity, was.room);
       passes = split.0;
       equipped = equipped_more (IsFresh runs) c.args.roots done c.loop-searcher.ready.items searcher c.take.result
-          c.new-queues.result c.args.word.now was.equipped c.push_reserved.ensures.items c.let_go-hand.ensures.rest c.take.ensures
-          c.new.ensures (ap (λ (k : Kept). k.floor) (c.hand.view_is ∙ c.let_go-hand.ensures.hand)) word
+          c.new-queues.result was.equipped c.push_reserved.ensures.items c.let_go-hand.ensures.rest c.take.ensures
+          c.new.ensures (ap (λ (k : Kept). k.seen) (c.hand.view_is ∙ c.let_go-hand.ensures.hand))
           (c.new-queues.ensures ∙ ap over split.1.0);
     }

@@ -1,6 +1,5 @@
 -- The next searcher has its hand, with its draws and fresh marks.
-use Rattle.std.proofs.Common.{◌≡◌, ℕ, Bool, List, [], ◌∷◌, sym, ap, ◌∙◌, subst, length, length-append, replicate, false, arith}
-use Rattle.best_word.specs.Passes.{Best}
+use Rattle.std.proofs.Common.{ℕ, Bool, List, [], ◌∷◌, sym, ap, ◌∙◌, subst, length, length-append, replicate, false, arith}
 use Rattle.live_query.specs.FillHands.{FillKept}
 use Rattle.live_query.specs.Holding.{Held}
 use Rattle.live_query.specs.Parts.{Between, filling}
@@ -20,13 +19,10 @@ loop-searcher-preserved g c =
     let was = c.loop-searcher.invariant in
     let done : List Between = c.loop-searcher.yielded in
     let searcher : Between = c.in-Some.searcher in
-    let word : searcher.hand.best ≡ c.args.word.now
-    = all_next done c.in-Some.ensures.steps.0 was.whole (λ (s : Between). s.hand.best ≡ c.args.word.now) c.requires.word in
-    let over : Best → Held → List Bool → FillKept = λ b h marks. record {
+    let over : Held → List Bool → FillKept = λ h marks. record {
       roots = c.args.claims.now;
       drawn = h.drawn;
-      best = b;
-      floor = h.floor;
+      seen = h.seen;
       queues = c.args.plan.now.queues;
       marks = marks;
     } in
@@ -38,8 +34,7 @@ loop-searcher-preserved g c =
           c.take.result c.loop-searcher.ready.items c.push_reserved.new.self.items c.push_reserved.ensures.items was.ready
           (hand_taken searcher c.let_go-hand.ensures.rest c.take.ensures
           (c.new.ensures
-          ∙ ap (λ (h : Held). over c.args.word.now h c.in_ok-marks.marks.items) (c.hand.view_is ∙ c.let_go-hand.ensures.hand)
-          ∙ ap (over c.args.word.now searcher.hand)
-          (c.in_ok-marks.ensures ∙ ap (λ (n : ℕ). replicate n false) c.leaf_count-leaves.ensures.count)
-          ∙ ap (λ (b : Best). over b searcher.hand (replicate (length c.args.plan.now.search.index.leaves) false)) (sym word)));
+          ∙ ap (λ (h : Held). over h c.in_ok-marks.marks.items) (c.hand.view_is ∙ c.let_go-hand.ensures.hand)
+          ∙ ap (over searcher.hand)
+          (c.in_ok-marks.ensures ∙ ap (λ (n : ℕ). replicate n false) c.leaf_count-leaves.ensures.count)));
     }

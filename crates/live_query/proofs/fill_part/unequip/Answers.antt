@@ -1,6 +1,6 @@
 -- The next searcher, and its pass.
-use Rattle.std.proofs.Common.{◌≡◌, ℕ, Bool, List, [], ◌∷◌, ap, ◌∙◌, length-append, arith}
-use Rattle.best_word.specs.Passes.{Best}
+use Rattle.std.proofs.Common.{◌≡◌, Bool, List, [], ◌∷◌, ap, ◌∙◌, length-append, arith}
+use Rattle.best_word.specs.Passes.{Pass}
 use Rattle.live_query.specs.FillHands.{FillKept}
 use Rattle.live_query.specs.Parts.{Filling, resting}
 use Rattle.live_query.specs.Resting.{Kept}
@@ -18,7 +18,7 @@ loop-searcher-preserved g c =
     let told = c.into_parts-drawing.result in
     let hand : FillKept = c.let_go-hand.result.0 in
     let handed : hand ≡ searcher.hand = c.let_go-hand.ensures.hand in
-    let kept : Best → ℕ → List Bool → Kept = λ b f marks. record { best = b; floor = f; marks = marks } in
+    let kept : Pass → List Bool → Kept = λ seen marks. record { seen = seen; marks = marks } in
     let rested = c.push_reserved-in-loop-searcher in
     record {
       can_next = tt;
@@ -29,10 +29,9 @@ loop-searcher-preserved g c =
       rested = map_more resting done searcher c.take.result c.loop-searcher.rested.items
           rested.new.self.items rested.ensures.items was.rested
           (hand_taken searcher c.let_go-hand.ensures.rest c.take.ensures
-          (ap (λ (b : Best). kept b told.1.floor told.2.items) parts.seen.0
-          ∙ ap (λ (f : ℕ). kept hand.best f told.2.items) parts.seen.1
-          ∙ ap (kept hand.best hand.floor) parts.marks
-          ∙ ap (λ (h : FillKept). kept h.best h.floor h.marks) handed));
+          (ap (λ (p : Pass). kept p told.2.items) parts.seen
+          ∙ ap (kept hand.seen) parts.marks
+          ∙ ap (λ (h : FillKept). kept h.seen h.marks) handed));
       len = omega (arith, c.push_reserved.ensures.len, was.len, length-append done (searcher ∷ []));
       long = omega (arith, rested.ensures.len, was.long, length-append done (searcher ∷ []));
       room = omega (arith, c.push_reserved.ensures.capacity, was.room);

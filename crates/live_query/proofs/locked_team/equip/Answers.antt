@@ -6,7 +6,7 @@ use Rattle.live_query.specs.Parts.{Resting}
 use Rattle.live_query.specs.Resting.{Kept}
 use Rattle.live_query.proofs.DrainGather.{equipped_more}
 use Rattle.live_query.proofs.LockRows.{dealt_less, front_new, fronts_own, rows_some}
-use Rattle.live_query.proofs.Places.{all_next, at_next, cut_later}
+use Rattle.live_query.proofs.Places.{at_next, cut_later}
 use Rattle.live_query.proofs.locked_team.equip.Goals as goal
 
 pub take_fronts-requires : goal.take_fronts-requires
@@ -37,8 +37,6 @@ loop-searcher-preserved g c =
     let old = c.loop-searcher.rows.items in
     let passes = c.in_ok-passes.passes.items in
     let new = c.take_fronts.new.rows.items in
-    let word : searcher.hand.best ≡ c.args.word.now
-    = all_next done c.in-Some.ensures.steps.0 was.whole (λ (s : Resting). s.hand.best ≡ c.args.word.now) c.requires.word in
     record {
       whole = cut_later done c.in-Some.ensures.steps.0 was.whole;
       len = omega (arith, c.push_reserved.ensures.len, was.len, length-append done (searcher ∷ []));
@@ -46,8 +44,8 @@ loop-searcher-preserved g c =
       dealt = subst (λ (n : ℕ). AreDealt locks n new) count
           (dealt_less locks (length done) old passes new was.dealt c.in_ok-passes.ensures);
       equipped = equipped_more (HasNew locks) c.args.roots done c.loop-searcher.ready.items searcher c.take.result
-          c.new-queues.result c.args.word.now was.equipped c.push_reserved.ensures.items c.let_go-hand.ensures.rest c.take.ensures
-          c.new.ensures (ap (λ (k : Kept). k.floor) (c.hand.view_is ∙ c.let_go-hand.ensures.hand)) word
+          c.new-queues.result was.equipped c.push_reserved.ensures.items c.let_go-hand.ensures.rest c.take.ensures
+          c.new.ensures (ap (λ (k : Kept). k.seen) (c.hand.view_is ∙ c.let_go-hand.ensures.hand))
           (subst (HasNew locks (length done)) (sym c.new-queues.ensures) (record {
             locks_are = refl;
             count = c.in_ok-passes.ensures.count ∙ was.dealt.count;

@@ -23,8 +23,8 @@ pub returns-clause-count : goal.returns-clause-count
 returns-clause-count g c =
     sym (length-map c.in_ok-team.team.items (λ (s : Between). s.worker))
     ∙ ap (λ (ws : List Working). length ws)
-    (c.in_ok-team.ensures.workers ∙ c.in_ok-take_shares.ensures.same ∙ c.in_ok-share_limits.ensures.same)
-    ∙ c.in_ok-hired.ensures.len
+    (c.in_ok-team.ensures.workers ∙ c.in_ok-take_shares.ensures.same)
+    ∙ omega (arith, c.in_ok-share_limits.ensures.len, c.in_ok-hired.ensures.len)
 
 pub returns-clause-opens : goal.returns-clause-opens
 returns-clause-opens g c =
@@ -37,16 +37,16 @@ returns-clause-opens g c =
     let many : length team ≡ c.args.workers
     = sym (length-map team (λ (s : Between). s.worker))
     ∙ ap (λ (ws : List Working). length ws)
-    (c.in_ok-team.ensures.workers ∙ c.in_ok-take_shares.ensures.same ∙ c.in_ok-share_limits.ensures.same)
-    ∙ c.in_ok-hired.ensures.len in
+    (c.in_ok-team.ensures.workers ∙ c.in_ok-take_shares.ensures.same)
+    ∙ omega (arith, c.in_ok-share_limits.ensures.len, c.in_ok-hired.ensures.len) in
     record {
       searches = c.root_count.ensures.searched;
       count = c.in_ok-claims.ensures.count ∙ c.root_count.ensures.count;
       size = subst (λ (r : Roots). 0 < r.size) c.claims.view_is c.claims.invariant.0;
       callers = c.in_ok-claims.ensures.workers ∙ sym many;
       start = c.in_ok-word.ensures.start ∙ c.limit_of.ensures.starts (search_over a ix 1 m) c.in_ok-start.ensures.start;
-      each = team_opens a ix m roots best team c.in_ok-hired.hired.items
-          (c.in_ok-team.ensures.workers ∙ c.in_ok-take_shares.ensures.same ∙ c.in_ok-share_limits.ensures.same) c.in_ok-hired.ensures.hired
+      each = team_opens a ix m roots best team _ (c.in_ok-team.ensures.workers ∙ c.in_ok-take_shares.ensures.same)
+          c.in_ok-share_limits.ensures.hired
           (c.in_ok-team.ensures.hands (fresh_drawn (fresh_pass roots.counter)) best (last_of a)
           (all_replicate c.args.workers _ c.in_ok-claims.drawings.items c.in_ok-claims.ensures.drawings)
           (all_replicate c.args.workers _ c.in_ok-word.seen.items

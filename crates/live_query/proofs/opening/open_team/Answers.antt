@@ -18,8 +18,8 @@ loop-worker-preserved g c =
     let drawing = c.in-Some-pop-2.drawing in
     let P : Best → ℕ → Pass → Type 0 = λ best floor p. p ≡ fresh_pass best floor in
     let Q : Drawn → Drawn → Type 0 = λ d p. p ≡ d in
-    let held : Drawn → Best → ℕ → Held = λ d best floor. record { drawn = d; best = best; floor = floor } in
-    let H : Drawn → Best → ℕ → Between → Type 0 = λ d best floor s. s.hand ≡ held d best floor in
+    let held : Drawn → Pass → Held = λ d p. record { drawn = d; seen = p } in
+    let H : Drawn → Best → ℕ → Between → Type 0 = λ d best floor s. s.hand ≡ held d (fresh_pass best floor) in
     let seen : (best : Best) (floor : ℕ) → All (P best floor) c.args.seen.items → All (P best floor) c.pop.new.self.items × P best floor word_pass
     = λ best floor all. all_ends (P best floor) c.pop.new.self.items word_pass
     (subst (All (P best floor)) c.in-Some-pop.ensures.items (was.fresh best floor all)) in
@@ -41,6 +41,5 @@ loop-worker-preserved g c =
       hands = λ d best floor undrawn fresh.
           subst (All (H d best floor)) (sym c.push_reserved.ensures.items)
           (All-push (H d best floor) c.loop-worker.team.items _ (was.hands d best floor undrawn fresh)
-          (ap (λ (d : Drawn). held d word_pass.best word_pass.floor) (drawn d undrawn).1
-          ∙ ap (λ (p : Pass). held d p.best p.floor) (seen best floor fresh).1));
+          (ap (λ (d : Drawn). held d word_pass) (drawn d undrawn).1 ∙ ap (held d) (seen best floor fresh).1));
     }

@@ -18,5 +18,5 @@ invariant-loop-worker g l = record {
       → All (λ p. p ≡ fresh_pass best floor) l.seen.items;
   hands : (d : Drawn) (best : Best) (floor : ℕ) → All (λ p. p ≡ d) l.fn.drawings.items
       → All (λ p. p ≡ fresh_pass best floor) l.fn.seen.items
-      → All (λ c. c.hand ≡ record { drawn = d; best = best; floor = floor }) l.team.items;
+      → All (λ c. c.hand ≡ record { drawn = d; seen = fresh_pass best floor }) l.team.items;
 }

@@ -1,7 +1,6 @@
--- The next worker gets its limits, which leaves it as it is seen.
-use Rattle.std.proofs.Common.{◌≡◌, ◌<◌, ◌-◌, ◌%◌, ℕ, suc, List, Some, length, set, sym, ap, ◌∙◌, subst, arith}
+-- The next worker gets its limits, and is else as it opened.
+use Rattle.std.proofs.Common.{◌≡◌, ◌<◌, ◌-◌, ◌%◌, ℕ, suc, Some, length, sym, ap, ◌∙◌, subst, arith}
 use Rattle.std.specs.Prelude.{slice_get, vec_len}
-use Rattle.std.proofs.lemmas.List.{set-get_or}
 use Rattle.std.proofs.lemmas.Option.{slice_get-get_or, slice_get_within}
 use Rattle.search_machine.specs.Ground.{Ground}
 use Rattle.search_machine.proofs.Places.{get_some}
@@ -10,24 +9,23 @@ use Rattle.search_task.specs.Questions.{search_over}
 use Rattle.query_core.specs.Turning.{search_of}
 use Rattle.query_core.specs.Working.{IsOf, Shows, Working, opens_as}
 use Rattle.live_query.proofs.Openers.{search_at}
-use Rattle.live_query.proofs.PortionsDealt.{limits_dealt}
+use Rattle.live_query.proofs.PortionsDealt.{hired_shared, limits_dealt}
 use Rattle.live_query.proofs.portions.share_limits.Given.{Over}
 use Rattle.live_query.proofs.portions.share_limits.Goals as goal
 
--- the worker at the place of the loop is that with which the call began
-worker_at : (g : Over) (c : goal.After-new g) → slice_get c.args.workers.now.items c.loop-i.i ≡ Some c.index_mut.result.now
+-- the worker at the place of the loop
+worker_at : (g : Over) (c : goal.After-new g) → slice_get c.loop-i.workers.items c.loop-i.i ≡ Some c.index_mut.result.now
 worker_at g c =
     let was = c.loop-i.invariant in
     let i = c.loop-i.i in
     let w : Working = c.index_mut.result.now in
     let low : i < length c.loop-i.workers.items = omega (arith, c.loop-i-test.true, c.len-i-end.ensures, was.len, c.loop-i.workers.ok.0) in
-    ap (λ (ws : List Working). slice_get ws i) (sym was.same)
-    ∙ slice_get-get_or c.loop-i.workers.items i w low ∙ ap Some (sym c.index_mut.ensures.value)
+    slice_get-get_or c.loop-i.workers.items i w low ∙ ap Some (sym c.index_mut.ensures.value)
 
--- and so has its place
+-- it has its place
 place_at : (g : Over) (c : goal.After-new g)
     → IsOf c.args.plan.now.search.question c.args.plan.now.search.index c.args.plan.now.queues c.loop-i.i c.index_mut.result.now
-place_at g c = c.requires.hired.places c.loop-i.i c.index_mut.result.now (worker_at g c)
+place_at g c = c.loop-i.invariant.hired.places c.loop-i.i c.index_mut.result.now (worker_at g c)
 
 pub take_passes-requires : goal.take_passes-requires
 take_passes-requires g c = record {
@@ -47,7 +45,7 @@ share-requires-clause-opens g c =
     let place = place_at g c in
     let same = search_at c.args.plan.now.search.question c.args.plan.now.search.index c.args.plan.now.queues c.loop-i.i w place in
     subst (λ (n : ℕ). Shows w (opens_as (search_of w 1) n)) (sym place.number)
-    (subst (λ (s : Ground). Shows w (opens_as s c.loop-i.i)) (sym same) (c.requires.hired.opens c.loop-i.i w (worker_at g c)))
+    (subst (λ (s : Ground). Shows w (opens_as s c.loop-i.i)) (sym same) (c.loop-i.invariant.hired.opens c.loop-i.i w (worker_at g c)))
 
 pub share-requires-clause-limits : goal.share-requires-clause-limits
 share-requires-clause-limits g c =
@@ -77,8 +75,11 @@ loop-i-preserved g c =
     let a = c.args.plan.now in
     let g0 = search_over a.search.question a.search.index 1 a.queues in
     record {
-      same = ap (set c.loop-i.workers.items c.loop-i.i) (c.share.ensures.same ∙ c.index_mut.ensures.value)
-          ∙ set-get_or c.loop-i.workers.items c.loop-i.i c.index_mut.result.now ∙ was.same;
+      hired = hired_shared a.search.question a.search.index a.queues c.loop-i.workers.items c.loop-i.i c.index_mut.result.now _
+          was.hired
+          (slice_get-get_or c.loop-i.workers.items c.loop-i.i c.index_mut.result.now
+          (omega (arith, c.loop-i-test.true, c.len-i-end.ensures, was.len, c.loop-i.workers.ok.0)) ∙ ap Some (sym c.index_mut.ensures.value))
+          c.share.ensures.shares;
       len = was.len;
       left = λ n all.
           (c.in_ok-passes.ensures.dealt g0 c.args.words.now n (was.left (suc n) (omega (arith, all)))).1;

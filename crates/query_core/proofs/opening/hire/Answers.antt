@@ -2,9 +2,9 @@
 use Rattle.std.proofs.Common.{arith, length, subst, sym, ◌≡◌}
 use Rattle.search_task.specs.Questions.{search_over}
 use Rattle.search_task.proofs.Searching.{lent_same}
-use Rattle.query_core.specs.Teams.{AreHired}
+use Rattle.query_core.specs.Teams.{AreAlone, AreHired}
 use Rattle.query_core.specs.Working.{IsOf, Shows, opens_as}
-use Rattle.query_core.proofs.TeamOpening.{hired_more}
+use Rattle.query_core.proofs.TeamOpening.{alone_more, hired_more}
 use Rattle.query_core.proofs.opening.hire.Goals as goal
 
 pub loop-number-preserved : goal.loop-number-preserved
@@ -26,4 +26,6 @@ loop-number-preserved g c =
           (lent_same s _ _ (λ a ix. IsOf a ix queues number worker) asked lent c.in_ok-new-2.ensures.place)
           (lent_same s _ _ (λ a ix. Shows worker (opens_as (search_over a ix 1 queues) number)) asked lent
           c.in_ok-new-2.ensures.opens));
+      alone = subst AreAlone (sym c.push_reserved-in-loop-number.ensures.items)
+          (alone_more c.loop-number.hired.items worker was.alone c.in_ok-new-2.ensures.alone);
     }

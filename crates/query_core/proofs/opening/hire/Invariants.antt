@@ -1,5 +1,5 @@
 use Rattle.std.proofs.Common.{◌≡◌, ◌≤◌, vec_len, vec_capacity}
-use Rattle.query_core.specs.Teams.{AreHired}
+use Rattle.query_core.specs.Teams.{AreAlone, AreHired}
 use Rattle.query_core.proofs.opening.hire.Given as goal
 
 abbrev pub invariant-loop-number : goal.invariant-loop-number
@@ -8,4 +8,5 @@ invariant-loop-number g l = record {
   len : vec_len l.hired ≡ l.number;
   room : l.workers ≤ vec_capacity l.hired;
   hired : AreHired l.search.question l.search.index l.queues l.hired.items;
+  alone : AreAlone l.hired.items;
 }

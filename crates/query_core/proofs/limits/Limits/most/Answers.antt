@@ -2,10 +2,10 @@
 use Rattle.std.proofs.Common.{◌≡◌, ◌≤◌, ◌<◌, ℕ, List, Some, length, sym, ap, ◌∙◌, subst, ⊎_elim, arith}
 use Rattle.std.specs.Prelude.{slice_get}
 use Rattle.std.proofs.lemmas.Bool.{cases_eq}
-use Rattle.std.proofs.lemmas.Option.{slice_get-get_or}
+use Rattle.std.proofs.lemmas.Option.{slice_get-get_or, slice_get_within}
 use Rattle.best_word.specs.Passes.{Best, Pass}
 use Rattle.query_core.specs.Portions.{Limited, portion_last}
-use Rattle.query_core.proofs.LimitsKept.{limits_same, limits_set}
+use Rattle.query_core.proofs.LimitsKept.{left_more, limits_same, limits_set, read_more}
 use Rattle.query_core.proofs.limits.Limits.most.Goals as goal
 
 pub read-requires : goal.read-requires
@@ -36,9 +36,18 @@ loop-portion-preserved c =
     let at_word : slice_get c.args.self.now.words portion ≡ Some c.index-words-portion.result
     = ap (λ (bs : List Best). slice_get bs portion) (sym words)
     ∙ slice_get-get_or c.self.inside.words.now portion c.index-words-portion.result low ∙ ap Some (sym c.index-words-portion.is) in
+    let first = c.loop-portion.invariant.limits c.requires.limits.0 c.requires.limits.1 in
+    let at_first : slice_get passes portion ≡ Some p
+    = slice_get-get_or passes portion p (omega (arith, low, many, first.words, first.passes)) ∙ ap Some (sym c.index_mut.ensures.value) in
     record {
       words = c.loop-portion.invariant.words;
       home = c.loop-portion.invariant.home;
+      offered = c.loop-portion.invariant.offered;
+      read = read_more c.args.self.now.passes passes portion c.read.result p c.read.new.pass at_first c.read.ensures.trace
+          c.loop-portion.invariant.left c.loop-portion.most c.max-most.result (omega (arith, c.max-most.ensures))
+          (omega (arith, c.max-most.ensures)) c.loop-portion.invariant.read;
+      left = left_more c.args.self.now.passes passes portion c.read.result p c.read.new.pass at_first c.read.ensures.trace
+          c.loop-portion.invariant.left;
       limits = λ g all.
           let are = c.loop-portion.invariant.limits g all in
           let at_pass : slice_get passes portion ≡ Some p
@@ -72,6 +81,9 @@ returns c =
         limits = limits_same g c.args.self.now _ was.words was.home.0 (was.limits g all);
         home = was.home.0;
         at_home = was.home.1;
+        offered = was.offered;
+        reads = λ n p at.
+            was.read n (omega (arith, slice_get_within c.args.self.now.passes n p at, all.words, all.passes, many, c.loop-portion-test.false)) p at;
         most = λ n below. was.most g all n (omega (arith, below, all.words, many, c.loop-portion-test.false));
       };
     }

@@ -31,7 +31,7 @@ pub invariant_of-self : goal.invariant_of-self
 invariant_of-self g c =
     turn_keeps _ c.self.invariant c.args.i c.index_mut.result.now
     (lent _ c.args.self.now c.args.i _ c.self.view_is c.requires.place c.index_mut.ensures.value)
-    c.turn.new.hand c.turn.new.self c.turn.ensures.place c.turn.ensures.hand
+    c.turn.new.hand c.turn.new.self c.turn.ensures.place c.turn.ensures.shares c.turn.ensures.hand
 
 pub returns-clause-turns : goal.returns-clause-turns
 returns-clause-turns g c =

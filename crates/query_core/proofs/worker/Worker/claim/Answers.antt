@@ -4,6 +4,7 @@ use Rattle.std.proofs.lemmas.List.{length-map}
 use Rattle.subtree_build.specs.Outline.{leaf_numbers}
 use Rattle.subtree_build.specs.Start.{node_at}
 use Rattle.query_core.specs.Walks.{Walked}
+use Rattle.query_core.specs.Working.{Working}
 use Rattle.query_core.proofs.TurnLaws.{claim_shows, root_there, stays, turned}
 use Rattle.query_core.proofs.worker.Worker.claim.Goals as goal
 
@@ -32,5 +33,6 @@ returns-in-Some g c =
           tt
           (λ workers m shows. claim_shows workers _ m root c.begin.new.self.leaves inside.start shows there kept.start_is);
       place = stays _ c.args.self.now _ _ c.self.view_is;
+      shares = ap (λ (o : Working). o.shares) c.self.view_is;
       hand = (c.claim.ensures.floor, c.claim.ensures.roots);
     }

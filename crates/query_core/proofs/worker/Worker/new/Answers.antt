@@ -1,4 +1,4 @@
-use Rattle.std.proofs.Common.{◌≡◌, List, [], refl, sym, ap, ◌∙◌, subst, arith}
+use Rattle.std.proofs.Common.{◌≡◌, List, [], false, refl, sym, ap, ◌∙◌, subst, arith}
 use Rattle.series_core.specs.Best.{Best}
 use Rattle.series_core.specs.declared.pair.Pair.{Pair}
 use Rattle.search_machine.specs.declared.phase.Phase.TheVariants.{Claim}
@@ -33,7 +33,7 @@ invariant_of-result g c =
     let rest = without start c.new-walk.result.leaves in
     subst (λ (s : Searched).
     IsWorking start c.new-walk.result c.args.list ClaimStage
-    (working s.question s.index c.args.number c.args.queues Claim rest c.args.list.pairs c.in_ok-marks.marks.items)
+    (working s.question s.index c.args.number c.args.queues Claim rest c.args.list.pairs c.in_ok-marks.marks.items false)
     × Unit {0} × AreBounds (view_in s.question) s.index c.none.result) (sym c.new-search.ensures.search) (
       record {
         searched = searched;

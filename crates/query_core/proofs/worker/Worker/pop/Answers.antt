@@ -17,5 +17,6 @@ returns-in-Leaf g c =
           tt
           (λ workers m shows. c.take.ensures.taken workers m shows);
       place = c.take.ensures.place;
+      shares = c.take.ensures.shares;
       hand = (c.pop.ensures.floor, c.pop.ensures.roots);
     }

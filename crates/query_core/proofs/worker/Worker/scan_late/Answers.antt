@@ -19,5 +19,6 @@ returns-then-entry-far g c =
           subst (Shows c.take.new.self) (sym (late_taken (search_of old workers) m c.args.entry.leaf c.read-limit.result leaf near))
           (c.take.ensures.taken workers m shows));
       place = c.take.ensures.place;
+      shares = c.take.ensures.shares;
       hand = (c.read-limit.ensures.floor, c.read-limit.ensures.roots);
     }

@@ -1,9 +1,10 @@
 -- The start leaf is of the first portion, where worker 0 begins.
-use Rattle.std.proofs.Common.{◌≡◌, ◌%◌, ℕ, sym, subst}
+use Rattle.std.proofs.Common.{◌≡◌, ◌%◌, ℕ, true, sym, subst}
 use Rattle.query_core.specs.Portions.{AreLimits, StayAt}
 use Rattle.search_task.specs.Questions.{search_over}
 use Rattle.query_core.specs.Turning.{search_of}
 use Rattle.query_core.specs.Working.{Shows, Working, opens_as}
+use Rattle.query_core.proofs.Keeping.{keeps_sharing}
 use Rattle.query_core.proofs.LimitsKept.{opened_stay}
 use Rattle.query_core.proofs.worker.Worker.share.Goals as goal
 
@@ -16,7 +17,7 @@ invariant_of-self g c =
     let shows = subst (λ (w : Working). Shows w (opens_as (search_of w 1) w.number)) back c.requires.opens in
     let home : c.args.limits.home ≡ inside.number % inside.queues
     = subst (λ (w : Working). c.args.limits.home ≡ w.number % w.queues) back c.requires.home.0 in (
-      kept,
+      keeps_sharing inside.start inside.walk inside.list inside.stage _ true kept,
       (
         subst (λ (w : Working). AreLimits (search_of w 1) c.args.limits) back c.requires.limits,
         λ at_home.

@@ -1,0 +1,9 @@
+-- The read stands in the trace of the hand's pass.
+use Rattle.live_query.proofs.DrainTies.{drain_grew}
+use Rattle.live_query.proofs.WordTies.{grew_by}
+use Rattle.live_query.proofs.drain_hand.DrainHandShared.read.Goals as goal
+
+pub returns-clause-did : goal.returns-clause-did
+returns-clause-did g c =
+    drain_grew _ _ _ c.read.new.pass c.self.view_is
+    (grew_by c.self.inside.word.now c.self.inside.seen c.read.new.pass _ c.self.invariant c.read.ensures.trace c.read.ensures.legal)
