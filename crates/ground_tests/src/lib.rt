@@ -11,6 +11,8 @@ mod locks;
 #[cfg(test)]
 mod memory_forms;
 #[cfg(test)]
+mod merged_lists;
+#[cfg(test)]
 mod pairs_and_rows;
 #[cfg(test)]
 mod queues;

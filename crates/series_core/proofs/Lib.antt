@@ -9,3 +9,4 @@ pub mod Plain
 pub mod Room
 pub mod Limits
 pub mod EntryOrder
+pub mod Joining

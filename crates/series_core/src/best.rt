@@ -1,9 +1,9 @@
 //! The k best pairs of all that were added.
 //! It holds the k smallest pairs in ascending order; the room for them is taken once, when it is made.
 
-ghost use Rattle.std.specs.Prelude.{◌≡◌, ◌+◌, ◌-◌, ◌<◌, ◌≤◌, ◌∷◌, ◌++◌, ◌↔◌, [], IfOk, IsNone, length, slice_get, vec_capacity, vec_len};
-ghost use Rattle.series_core.specs.Pairs.{ascending, insert, smallest};
-ghost use Rattle.series_core.specs.Best.{IsBest, IsPlaceOf};
+ghost use Rattle.std.specs.Prelude.{◌≡◌, ◌+◌, ◌-◌, ◌<◌, ◌≤◌, ◌∷◌, ◌++◌, ◌↔◌, [], IfOk, IsNone, length, slice_get, vec_capacity, vec_len, take, true, false, slice_index_or};
+ghost use Rattle.series_core.specs.Pairs.{ascending, insert, is_before, smallest};
+ghost use Rattle.series_core.specs.Best.{AreBehind, IsBehind, IsBest, IsPlaceOf};
 
 use crate::pair::Pair;
 use outside::NoMemory;
@@ -58,15 +58,18 @@ impl KBest {
         }
     }
 
-    /// Adds each pair that the other list holds.
+    /// Adds each pair that the other list holds. It walks through both lists and takes no memory.
     pub fn merge(&mut self, other: &KBest)
         ensures k { self.new.k ≡ self.old.k }
         ensures pairs { self.new.pairs ≡ smallest self.old.k (other.now.pairs ++ self.old.pairs) }
     {
-        let _k = self.k;
-        for pair in other.pairs() {
-            self.add(*pair);
+        let others = other.pairs();
+        let k = self.k as usize;
+        if self.pairs.len() == k && are_behind(others, &self.pairs) {
+            return;
         }
+        let count = cut_to(&mut self.pairs, others, k);
+        join(&mut self.pairs, &others[..count]);
     }
 
     /// Lends the pairs that are held, ascending.
@@ -116,4 +119,79 @@ fn place_of(pairs: &[Pair], pair: Pair) -> usize
         }
     }
     low
+}
+
+// Drops the greatest pairs of both lists until no more than k are left, and answers how many of the others these are.
+fn cut_to(pairs: &mut Vec<Pair>, others: &[Pair], k: usize) -> usize
+    requires pairs { ascending pairs.old.items ≡ pairs.old.items }
+    requires others { ascending others.now ≡ others.now }
+    requires size { length pairs.old.items ≤ k }
+    ensures bound { result ≤ length others.now }
+    ensures size { length pairs.new.items + result ≤ k }
+    ensures ordered { ascending pairs.new.items ≡ pairs.new.items }
+    ensures smallest { smallest k (take result others.now ++ pairs.new.items) ≡ smallest k (others.now ++ pairs.old.items) }
+    ensures capacity { vec_capacity pairs.new ≡ vec_capacity pairs.old }
+{
+    let mut count = others.len();
+    while count > k - pairs.len() {
+        if is_behind(others[count - 1], pairs, pairs.len()) {
+            count -= 1;
+        } else {
+            let _ = pairs.pop();
+        }
+    }
+    count
+}
+
+// Puts the others among the pairs. There is room, so nothing is refused.
+fn join(pairs: &mut Vec<Pair>, others: &[Pair])
+    requires pairs { ascending pairs.old.items ≡ pairs.old.items }
+    requires others { ascending others.now ≡ others.now }
+    requires room { length pairs.old.items + length others.now ≤ vec_capacity pairs.old }
+    ensures items { pairs.new.items ≡ ascending (others.now ++ pairs.old.items) }
+    ensures room { vec_capacity pairs.old ≤ vec_capacity pairs.new }
+{
+    let held = pairs.len();
+    let _ = pairs.extend_from_slice(others);
+    fill_from_back(pairs, held, others);
+}
+
+// Puts the others among the pairs that are held, from the back: the greatest that is left goes to the last place left.
+fn fill_from_back(pairs: &mut [Pair], held: usize, others: &[Pair])
+    requires size { length pairs.old ≡ held + length others.now }
+    requires held { ascending (take held pairs.old) ≡ take held pairs.old }
+    requires others { ascending others.now ≡ others.now }
+    ensures { pairs.new ≡ ascending (others.now ++ take held pairs.old) }
+{
+    let mut left = held;
+    let mut count = others.len();
+    while count > 0 {
+        let last = others[count - 1];
+        if is_behind(last, pairs, left) {
+            count -= 1;
+            pairs[left + count] = last;
+        } else {
+            left -= 1;
+            pairs[left + count] = pairs[left];
+        }
+    }
+}
+
+// Whether no pair comes after one of the others.
+fn are_behind(others: &[Pair], pairs: &[Pair]) -> bool
+    requires others { ascending others.now ≡ others.now }
+    requires pairs { ascending pairs.now ≡ pairs.now }
+    ensures { result ≡ true → AreBehind others.now pairs.now }
+{
+    others.is_empty() || is_behind(others[0], pairs, pairs.len())
+}
+
+// Whether no pair before this end comes after p: only the last is looked at.
+fn is_behind(p: Pair, pairs: &[Pair], end: usize) -> bool
+    requires bound { end ≤ length pairs.now }
+    requires ordered { ascending (take end pairs.now) ≡ take end pairs.now }
+    ensures yes { result ≡ true → IsBehind p (take end pairs.now) }
+    ensures no { result ≡ false → (0 < end) × (is_before p (slice_index_or pairs.now (end - 1) p) ≡ true) }
+{
+    end == 0 || !p.is_before(&pairs[end - 1])
 }
