@@ -34,6 +34,3 @@ pub use search_task::{Search, Task};
 pub use shared::Shared;
 pub use turn::Turn;
 pub use worker::Worker;
-
-#[cfg(test)]
-mod tests;

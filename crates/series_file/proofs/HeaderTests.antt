@@ -1,6 +1,6 @@
 -- The tests of a file with a header, by the header in front and the size of what follows.
-use Rattle.std.proofs.Common.{◌≡◌, ℕ, ◌+◌, ◌*◌, ◌<◌, ◌≤◌, List, [], ◌∷◌, ◌++◌, length, take, drop, Bool, true, false, Option, None, Some, refl, sym, ap, ◌∙◌, ⊎_elim, arith, length-append, length-drop}
-use Rattle.std.specs.Prelude.{not, ◌||◌, nat_eq, nat_lt, if◌then◌else◌}
+use Rattle.std.proofs.Common.{◌≡◌, ℕ, ◌+◌, ◌*◌, ◌<◌, ◌≤◌, List, [], ◌∷◌, ◌++◌, length, take, drop, Bool, true, false, Option, None, Some, refl, sym, ap, ◌∙◌, subst, ⊎_elim, arith, length-append, length-drop}
+use Rattle.std.specs.Prelude.{Result, not, ◌||◌, nat_eq, nat_lt, if◌then◌else◌}
 use Rattle.std.specs.Str.{bytes_eq}
 use Rattle.std.proofs.lemmas.Bool.{cases_Bool, cond-true, cond-false}
 use Rattle.std.proofs.lemmas.Bool.Decides.{nat_tests}
@@ -10,9 +10,10 @@ use Rattle.byteorder.specs.Endian.{little_number}
 use Rattle.byteorder.specs.Numbers.{little_from-append}
 use Rattle.series_file.specs.Format.{magic}
 use Rattle.series_file.specs.Faults.{first_of, field, is_first, length_of, count_of, size_of, field_tests, header_tests, size_tests, fault}
-use Rattle.series_file.specs.Header.{header_of}
+use Rattle.series_file.specs.Header.{header_of, TestsTo}
 use Rattle.series_file.specs.Body.{file_bytes, size_fault}
 use Rattle.series_file.specs.declared.error.Form.TheVariants.{Headed}
+use Rattle.series_file.specs.declared.header.Header.{Header}
 use Rattle.series_file.specs.declared.error.FileError.{FileError}
 use Rattle.series_file.specs.declared.error.FileError.TheVariants.{ShortHeader, Magic, Version, Truncated, Trailing}
 
@@ -31,6 +32,31 @@ tests_by four version narrow middle last =
     ∷ field_tests (if nat_eq version 1 then narrow else middle)
     (if nat_eq version 1 then middle else last)
     (if nat_eq version 1 then last else narrow)
+
+-- what the tests of a header give, by whether its first four bytes are the magic, and by its four numbers
+abbrev pub Gives : Bool → ℕ → ℕ → ℕ → ℕ → Result Header FileError → Type 0
+Gives is_magic version narrow middle last r =
+    TestsTo
+    ((not is_magic, Magic)
+    ∷ (not (nat_eq version 1 || nat_eq version 2), Version version)
+    ∷ field_tests (if nat_eq version 1 then narrow else middle)
+    (if nat_eq version 1 then middle else last)
+    (if nat_eq version 1 then last else narrow))
+    (record {
+      labelled = not (nat_eq version 1);
+      length = if nat_eq version 1 then narrow else middle;
+      count = if nat_eq version 1 then middle else last;
+    }) r
+
+-- behind the magic they give that of equal numbers
+pub gives : (is_magic : Bool) (version narrow middle last v n m l : ℕ) (r : Result Header FileError) → is_magic ≡ true
+    → version ≡ v → narrow ≡ n → middle ≡ m → last ≡ l → Gives true v n m l r → Gives is_magic version narrow middle last r
+gives is_magic version narrow middle last v n m l r magical first e f g tests =
+    subst (λ b. Gives b version narrow middle last r) (sym magical)
+    (subst (λ k. Gives true k narrow middle last r) (sym first)
+    (subst (λ k. Gives true v k middle last r) (sym e)
+    (subst (λ k. Gives true v n k last r) (sym f)
+    (subst (λ k. Gives true v n m k r) (sym g) tests))))
 
 -- the header in front has the tests of the whole
 pub header_tests-append : (head rest : List ℕ) → length head ≡ 16

@@ -1,8 +1,7 @@
 -- What an error leaves of the file: laws of stages that follow one another.
 use Rattle.std.proofs.Common.{◌≡◌, ℕ, ◌+◌, ◌≤◌, List, ◌++◌, length, drop, Option, None, Some, IfSome, ap, sym, ◌∙◌, arith, append-nil}
-use Rattle.std.specs.Prelude.{◌⊎◌, Ok, Err, is_ok}
+use Rattle.std.specs.Prelude.{Ok, Err, is_ok}
 use Rattle.std.proofs.lemmas.Bool.{false≢true}
-use Rattle.std.proofs.Common.{⊎_elim}
 use Rattle.std.specs.Io.KnownBytes.{prepend_known, IsAtEnd}
 use Rattle.std.proofs.Math.ListN.{drop_of_length-le}
 use Rattle.std.proofs.Math.Seq.{drop-append-add, drop-append_seam}
@@ -76,22 +75,6 @@ Leaves-then far inner bytes before between now e taken same left =
     at (Some rest) h =
         h ∙ ap (λ xs. Some xs) (sym (drop-append-add bytes rest (inner rest)))
         ∙ ap (λ m. Some (drop m (bytes ++ rest))) (sym (same rest))
-
--- an error that no bytes explain leaves the same of a wider reach
-pub Leaves-wider : (m n : ℕ) (before now : Option (List ℕ)) (e : FileError) → m ≤ n
-    → (e ≡ ReadFault) ⊎ (e ≡ NoMemory) → Leaves (λ _. m) before now e → Leaves (λ _. n) before now e
-Leaves-wider m n before now e less none left =
-    ⊎_elim
-    (λ (fault : e ≡ ReadFault). rw fault (of_fault))
-    (λ (memory : e ≡ NoMemory). rw memory (of_memory before (rw memory at left)))
-    none
-  where
-    of_fault : Leaves (λ _. n) before now ReadFault
-    of_fault = tt
-
-    of_memory : (b : Option (List ℕ)) → Leaves (λ _. m) b now NoMemory → Leaves (λ _. n) b now NoMemory
-    of_memory None h = tt
-    of_memory (Some bytes) h = (h.0, omega (arith, h.1), h.2)
 
 -- where memory ran out after at most n bytes
 pub Leaves-memory : (n : ℕ) (bytes : List ℕ) (before now : Option (List ℕ)) → before ≡ prepend_known bytes now

@@ -11,7 +11,7 @@ use Rattle.series_file.specs.declared.header.Header.{Header}
 use Rattle.series_file.specs.declared.error.Form.{Form}
 use Rattle.series_file.specs.declared.error.Form.TheVariants.{Headed}
 use Rattle.series_file.specs.declared.error.FileError.{FileError}
-use Rattle.series_file.specs.declared.error.FileError.TheVariants.{ReadFault, NoMemory, ShortHeader, Truncated, Trailing}
+use Rattle.series_file.specs.declared.error.FileError.TheVariants.{ReadFault, NoMemory, Truncated, Trailing}
 use Rattle.std.specs.Prelude.{nat_lt, Result, Ok, Err, MatchResult, IfOk, IfErr}
 use Rattle.std.proofs.lemmas.List.{take_all}
 use Rattle.series_file.specs.Format.{IsFile, HasText}
@@ -19,7 +19,7 @@ use Rattle.series_core.specs.Collection.{Collection}
 use Rattle.series_file.specs.declared.error.Loaded.{Loaded}
 use Rattle.series_file.proofs.Numbers.{are_bytes}
 use Rattle.series_file.proofs.Spelled.{is_headed}
-use Rattle.series_file.proofs.HeaderTests.{fault_short, fault_header, fault_size}
+use Rattle.series_file.proofs.HeaderTests.{fault_header, fault_size}
 
 -- where bytes were taken and it is known what is left now, what was left before is these and that
 pub told : (P : List ℕ → Type 0) (bytes : List ℕ) (before now : Option (List ℕ))
@@ -53,15 +53,6 @@ told_any P bytes before now taken holds = told P bytes before now taken (at now)
     at : (n : Option (List ℕ)) → IfSome n (λ rest. P (bytes ++ rest))
     at None = tt
     at (Some rest) = holds rest
-
--- a file that ends within its header
-pub short_explains : (bytes : List ℕ) (before now : Option (List ℕ)) (count : ℕ)
-    → before ≡ prepend_known bytes now
-    → IsAtEnd now → length bytes ≡ count → count < 16
-    → IfSome before (λ bs. fault Headed bs ≡ Some (ShortHeader count))
-short_explains bytes before now count taken ended size short =
-    told_end (λ bs. fault Headed bs ≡ Some (ShortHeader count)) bytes before now taken ended
-    (fault_short bytes (omega arith) ∙ ap (λ m. Some (ShortHeader m)) size)
 
 -- an explanation by the size of what follows is one of the file
 size_explains : (h : Header) (k : ℕ) (rest before : Option (List ℕ)) (e : FileError)

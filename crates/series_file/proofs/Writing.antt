@@ -1,9 +1,8 @@
 -- Values written series after series are the text of the values.
 use Rattle.std.proofs.Common.{◌≡◌, ℕ, zero, suc, ◌+◌, List, [], ◌∷◌, ◌++◌, length, take, Option, None, Some, sym, ap, ◌∙◌, append_assoc, append-nil, arith}
-use Rattle.std.specs.Prelude.{ℤ, slice_get, ◌≤◌}
+use Rattle.std.specs.Prelude.{ℤ, slice_get}
 use Rattle.std.specs.List.{flat_map}
 use Rattle.std.proofs.lemmas.Option.{none-some}
-use Rattle.std.proofs.lemmas.List.{take_all}
 use Rattle.std.proofs.lemmas.List.Concat.{flat_map-append}
 use Rattle.byteorder.specs.Endian.{little_bytes}
 use Rattle.series_core.specs.Collection.{Collection}
@@ -37,13 +36,6 @@ values_next i rows row old found =
   where
     next : suc i ≡ i + 1
     next = omega arith
-
--- the values of all rows
-pub values_all : (i : ℕ) (rows : List (List ℤ)) (old : List ℕ) → length rows ≤ i
-    → old ++ flat_map value_bytes (joined (take i rows)) ≡ old ++ flat_map value_bytes
-    (joined rows)
-values_all i rows old all = ap (λ rs. old ++ flat_map value_bytes (joined rs))
-    (take_all i rows all)
 
 -- the parts of the header of version 2, written one after another
 pub header_two_written : (old one two three four : List ℕ) (rows : Collection)

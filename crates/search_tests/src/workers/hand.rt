@@ -105,7 +105,7 @@ impl<'a> Shared for Hand<'a> {
         root
     }
 
-    fn read(&mut self, _most: u64) -> u64 {
+    fn read(&mut self) -> u64 {
         let seen = if self.by_second {
             self.word.read(&mut self.second)
         } else {
