@@ -15,8 +15,7 @@ use Rattle.subtree_build.specs.Grown.{cut_leaves, members_in}
 use Rattle.subtree_build.specs.Fits.{Fits}
 use Rattle.subtree_build.specs.Index.{IndexParts, leaf_at, no_leaf}
 use Rattle.subtree_build.specs.Means.{means_of, all_means, leaf_means, means_at}
-use Rattle.subtree_build.specs.declared.tables.Tables.{Tables}
-use Rattle.subtree_build.specs.Places.{leaves_seen, means_seen, AreTablesOf}
+use Rattle.subtree_build.specs.Places.{leaves_seen, means_seen}
 
 -- the means of all members, cut by places, are those of the leaves at the places
 pub means_are_own : (c : Collection) (layout : Layout) (members : List Member) (means : List (List ℕ))
@@ -79,10 +78,3 @@ pub means_there : (c : Collection) (layout : Layout) (members : List Member) (i 
     → m ≡ get_or members i m → means_of c layout m ≡ get_or (all_means c layout members) i []
 means_there c layout members i m inside item =
     ap (means_of c layout) item ∙ sym (get_or-map (means_of c layout) members i m [] inside)
-
--- the slices that were handed on are the lists
-pub own_tables : (rows : Collection) (layout : Layout) (members lent : List Member) (places shown : List LeafPlace) (t : Tables)
-    → AreTablesOf rows layout lent shown t → lent ≡ members → shown ≡ places → AreTablesOf rows layout members places t
-own_tables rows layout members lent places shown t are same_members same_places =
-    subst (λ (ps : List LeafPlace). AreTablesOf rows layout members ps t) same_places
-    (subst (λ (ms : List Member). AreTablesOf rows layout ms shown t) same_members are)

@@ -6,7 +6,7 @@ ghost use Rattle.claim_word.specs.Passes.{fresh_pass};
 ghost use Rattle.subtree_build.specs.Building.{CanBuild, HasBuilt, IsPartAt};
 
 use crate::part::Part;
-use crate::settings::Settings;
+use crate::settings::{MOST_WORKERS, Settings};
 use crate::splicing::RootLists;
 use claim_word::Claims;
 use outside::{Gate, NoGate, NoMemory};
@@ -82,7 +82,7 @@ fn begin(
     turns: &[u64],
 ) -> Result<(Claims, Vec<TeamWorker<Vec<Part>>>), NoMemory>
     requires few { length found.now.roots.items ≤ 65536 }
-    requires workers { (1 ≤ length turns.now) × (length turns.now ≤ 64) }
+    requires workers { (1 ≤ length turns.now) × (length turns.now ≤ MOST_WORKERS) }
     ensures count { IfOk result (λ r. r.0.count ≡ length found.now.roots.items) }
     ensures callers { IfOk result (λ r. r.0.callers ≡ length turns.now) }
     ensures len { IfOk result (λ r. vec_len r.1 ≡ length turns.now) }
@@ -129,7 +129,7 @@ pub(crate) fn build_parts<H: Threads + Sync, G: Gate + Sync>(
 ) -> Result<Vec<Part>, NoMemory>
     requires found { CanBuild settings.now found.now }
     requires few { length found.now.roots.items ≤ 65536 }
-    requires workers { (1 ≤ length turns.now) × (length turns.now ≤ 64) }
+    requires workers { (1 ≤ length turns.now) × (length turns.now ≤ MOST_WORKERS) }
     ensures places { IfOk result (λ parts. map (λ p. p.place) parts.items
         ≡ range_with_len 0 (length found.now.roots.items)) }
     ensures built { IfOk result (λ parts. All (IsPartAt settings.now found.now) parts.items) }

@@ -18,6 +18,7 @@ use crate::leaf::{LeafPlace, MemberList};
 use crate::leaf_row::{Gathered, LeafWords, gather_leaves, words_below};
 use crate::node::Node;
 use crate::part::placed;
+use crate::room::Room;
 use crate::settings::Settings;
 use crate::tables::{Tables, blank_tables, tables_alone, tables_of};
 use isax_word::{Layout, Member, Word};
@@ -230,7 +231,7 @@ impl Index {
         ensures { IfOk result (HasMeansOf (R.collection rows.now) layout.now self) }
     {
         let bare = self.into_bare(rows);
-        let tables = tables_of(rt, alloc, rows, layout, &bare, workers)?;
+        let tables = tables_of(rt, Room::none(alloc), rows, layout, &bare, workers)?;
         Ok(Index::of_bare(rows, layout, bare, tables))
     }
 

@@ -1,110 +1,43 @@
 //! The means of members and the codes of their rows, in the order of the members. Workers make them side by side, each for a
 //! stretch of members, and a row is fetched once for both: rows lie in another order, and building waits for them most.
-ghost use Rattle.std.specs.Prelude.{◌≡◌, ◌*◌, ◌^◌, ◌<◌, ◌≤◌, All, IfOk, length};
+ghost use Rattle.std.specs.Prelude.{◌≡◌, ◌*◌, ◌≤◌, length};
 ghost use Rattle.std.specs.Thread.{IsSync};
 ghost use Rattle.row_codes.specs.Rows.{block_count};
-ghost use Rattle.subtree_build.specs.Means.{AreFilled, HavePlaces, all_codes, all_means, all_values, coded_points};
+ghost use Rattle.subtree_build.specs.Means.{AreFilled, HavePlaces, all_values, coded_points};
 
 use crate::fetched::{FETCHED, fetch};
-use crate::room::{Room, room_for};
 use isax_word::{Layout, Member};
 use mean_bound::Means;
-use outside::NoMemory;
 use row_codes::{CodeBlock, block_count, code_row};
 use series_core::{MAX_VALUES, Rows};
-use std::alloc::Global;
 use std::thread::{Threads, join_mut};
 
 /// What means and codes are made of: rows, how means cut them, and how many of the values of each are coded.
 #[derive(Clone, Copy)]
-struct Source<'a, R> {
+pub(crate) struct Source<'a, R> {
     rows: &'a R,
     layout: &'a Layout,
-    coded: u32,
+    pub(crate) coded: u32,
 }
 
-/// The means of members, each of which is a series of the rows, and the codes of their rows, of which so many values are coded, in
-/// this room and what it lacks.
-pub(crate) fn means_of_all<H: Threads + Sync, R: Rows + Sync>(
-    rt: &H,
-    room: Room,
-    rows: &R,
-    layout: &Layout,
-    coded: u32,
-    members: &[Member],
-    workers: u32,
-) -> Result<(Vec<Means>, Vec<CodeBlock>), NoMemory>
-    requires length { layout.now.cuts.row_length ≡ (R.collection rows.now).points }
-    requires coded { coded ≡ coded_points (R.collection rows.now) }
-    requires short { coded ≤ 65536 }
-    requires series { All (λ m. m.number < length (R.collection rows.now).series) members.now }
-    requires few { length members.now < 2 ^ 32 }
-    ensures means { IfOk result (λ r. r.0.items ≡ all_means (R.collection rows.now) layout.now members.now) }
-    ensures codes { IfOk result (λ r. r.1.items ≡ all_codes (R.collection rows.now) members.now) }
-{
-    let mut room = room;
-    room.fit(members.len(), coded)?;
-    let Room {
-        mut means,
-        mut codes,
-        ..
-    } = room;
-    let source = Source {
-        rows,
-        layout,
-        coded,
-    };
-    fill(
-        rt,
-        &source,
-        members,
-        workers,
-        means.as_mut_slice(),
-        codes.as_mut_slice(),
-    );
-    Ok((means, codes))
-}
-
-/// The same by a worker alone, in this thread.
-pub(crate) fn means_alone<R: Rows>(
-    alloc: Global,
-    rows: &R,
-    layout: &Layout,
-    coded: u32,
-    members: &[Member],
-) -> Result<(Vec<Means>, Vec<CodeBlock>), NoMemory>
-    requires length { layout.now.cuts.row_length ≡ (R.collection rows.now).points }
-    requires coded { coded ≡ coded_points (R.collection rows.now) }
-    requires short { coded ≤ 65536 }
-    requires series { All (λ m. m.number < length (R.collection rows.now).series) members.now }
-    requires few { length members.now < 2 ^ 32 }
-    ensures means { IfOk result (λ r. r.0.items ≡ all_means (R.collection rows.now) layout.now members.now) }
-    ensures codes { IfOk result (λ r. r.1.items ≡ all_codes (R.collection rows.now) members.now) }
-{
-    let Room {
-        mut means,
-        mut codes,
-        ..
-    } = room_for(alloc, members.len(), coded)?;
-    let source = Source {
-        rows,
-        layout,
-        coded,
-    };
-    let mut block = [0; FETCHED];
-    fill_in_turn(
-        &source,
-        members,
-        &mut block,
-        means.as_mut_slice(),
-        codes.as_mut_slice(),
-    );
-    Ok((means, codes))
+impl<'a, R: Rows> Source<'a, R> {
+    /// These rows, cut by this layout.
+    pub(crate) fn of(rows: &'a R, layout: &'a Layout) -> Source<'a, R>
+        ensures value { result ≡ record { rows = rows.entry; layout = layout.entry; coded = coded_points (R.collection rows.now) } }
+        ensures limit { result.coded ≤ (R.collection rows.now).points }
+        ensures short { result.coded ≤ 65536 }
+    {
+        Source {
+            rows,
+            layout,
+            coded: coded_length(rows),
+        }
+    }
 }
 
 /// Puts the means and the codes of members at their places, by so many workers, each for a stretch of members.
 #[cycle(stretches)]
-fn fill<H: Threads + Sync, R: Rows + Sync>(
+pub(crate) fn fill<H: Threads + Sync, R: Rows + Sync>(
     rt: &H,
     source: &Source<'_, R>,
     members: &[Member],
@@ -144,7 +77,7 @@ fn fill<H: Threads + Sync, R: Rows + Sync>(
 
 /// Puts the means and the codes of members at their places, by halves until the rows of the members fit a block: what is
 /// fetched together is waited for once. The block is lent for that, so that it is cleared once and not for each fetch.
-fn fill_in_turn<R: Rows>(
+pub(crate) fn fill_in_turn<R: Rows>(
     source: &Source<'_, R>,
     members: &[Member],
     block: &mut [i16; FETCHED],

@@ -15,7 +15,7 @@ use crate::room::{Room, room_for};
 use crate::settings::Settings;
 use crate::splicing::{RootLists, splice};
 use crate::summaries::{Summaries, root_numbers, summarise_all, summarise_alone};
-use crate::tables::{tables_alone, tables_in};
+use crate::tables::{tables_alone, tables_of};
 use outside::{Gate, NoMemory};
 use series_core::Rows;
 use std::alloc::Global;
@@ -39,7 +39,7 @@ pub fn build<H: Threads + Sync, R: Rows + Sync, G: Gate + Sync>(
     ensures fits { IfOk result (Fits (R.collection rows.now) settings.now.layout) }
 {
     let (bare, room) = tree_and_room(rt, alloc, rows, settings, workers, gate)?;
-    let tables = tables_in(rt, room, rows, &settings.layout, &bare, workers)?;
+    let tables = tables_of(rt, room, rows, &settings.layout, &bare, workers)?;
     Ok(Index::of_tree(rows, settings, bare, tables))
 }
 

@@ -6,6 +6,9 @@ use breakpoints::Table;
 use isax_word::Layout;
 use segment_sums::Cuts;
 
+/// How many workers build a tree, at most.
+pub(crate) const MOST_WORKERS: usize = 64;
+
 /// How series become words, and how many members a leaf may have while its word can still be divided.
 #[derive(Clone, Copy)]
 pub struct Settings {

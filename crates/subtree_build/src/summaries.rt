@@ -6,6 +6,7 @@ ghost use Rattle.series_core.specs.Collection.{IsCollection};
 ghost use Rattle.summary_phase.specs.Chunks.{chunk_count};
 ghost use Rattle.subtree_build.specs.Summaries.{HasSummarised, HoldAllMembers};
 
+use crate::settings::MOST_WORKERS;
 use claim_word::Claims;
 use isax_word::Layout;
 use outside::{Gate, NoGate, NoMemory};
@@ -103,7 +104,7 @@ fn begin<R: Rows>(
     rows: &R,
     workers: u32,
 ) -> Result<(Claims, Vec<TeamWorker<Buffers>>), NoMemory>
-    requires workers { (1 ≤ workers) × (workers ≤ 64) }
+    requires workers { (1 ≤ workers) × (workers ≤ MOST_WORKERS) }
     ensures chunks { IfOk result (λ r. r.0.count ≡ chunk_count (length (R.collection rows.now).series)) }
     ensures callers { IfOk result (λ r. r.0.callers ≡ workers) }
     ensures len { IfOk result (λ r. vec_len r.1 ≡ workers) }
@@ -111,7 +112,7 @@ fn begin<R: Rows>(
     ensures sound { IsCollection (R.collection rows.now) }
 {
     let (claims, passes) = Claims::begin(alloc, chunks(rows.count()), workers)?;
-    let team = hire(alloc, &claims, passes, &[0; 64])?;
+    let team = hire(alloc, &claims, passes, &[0; MOST_WORKERS])?;
     Ok((claims, team))
 }
 
@@ -149,7 +150,7 @@ pub(crate) fn summarise_all<H: Threads + Sync, R: Rows + Sync, G: Gate + Sync>(
     gate: &G,
 ) -> Result<Summaries, NoMemory>
     requires length { layout.now.cuts.row_length ≡ (R.collection rows.now).points }
-    requires workers { (1 ≤ workers) × (workers ≤ 64) }
+    requires workers { (1 ≤ workers) × (workers ≤ MOST_WORKERS) }
     ensures members { IfOk result (λ s. HoldAllMembers layout.now (R.collection rows.now) s.buffers.items) }
     ensures turns { IfOk result (λ s. vec_len s.turns ≡ workers) }
     ensures sound { IsCollection (R.collection rows.now) }

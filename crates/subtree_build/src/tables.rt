@@ -5,9 +5,10 @@ ghost use Rattle.subtree_build.specs.Places.{AreBoxes, AreTables, AreTablesOf, I
 
 use crate::bare_tree::BareTree;
 use crate::boxes::{Boxes, boxes_of};
+use crate::fetched::FETCHED;
 use crate::leaf::LeafPlace;
-use crate::means::{coded_length, means_alone, means_of_all};
-use crate::room::Room;
+use crate::means::{Source, fill, fill_in_turn};
+use crate::room::{Room, room_for};
 use isax_word::{Layout, Member};
 use mean_bound::Means;
 use outside::NoMemory;
@@ -48,27 +49,8 @@ fn with_boxes(
     })
 }
 
-/// The tables of a bare tree, each of whose members is a series of the rows.
+/// The tables of a bare tree, each of whose members is a series of the rows, in this room and what it lacks.
 pub(crate) fn tables_of<H: Threads + Sync, R: Rows + Sync>(
-    rt: &H,
-    alloc: Global,
-    rows: &R,
-    layout: &Layout,
-    bare: &BareTree,
-    workers: u32,
-) -> Result<Tables, NoMemory>
-    requires length { layout.now.cuts.row_length ≡ (R.collection rows.now).points }
-    requires series { HasSeries (R.collection rows.now) bare.now }
-    requires few { length bare.now.members.items < 2 ^ 32 }
-    requires places { All (IsPlace (length bare.now.members.items)) bare.now.leaves.items }
-    requires some { 1 ≤ workers }
-    ensures { IfOk result (AreTablesOf (R.collection rows.now) layout.now bare.now.members.items bare.now.leaves.items) }
-{
-    tables_in(rt, Room::none(alloc), rows, layout, bare, workers)
-}
-
-/// The same in this room, and what it lacks.
-pub(crate) fn tables_in<H: Threads + Sync, R: Rows + Sync>(
     rt: &H,
     room: Room,
     rows: &R,
@@ -83,24 +65,25 @@ pub(crate) fn tables_in<H: Threads + Sync, R: Rows + Sync>(
     requires some { 1 ≤ workers }
     ensures { IfOk result (AreTablesOf (R.collection rows.now) layout.now bare.now.members.items bare.now.leaves.items) }
 {
-    let alloc = room.alloc;
-    let coded = coded_length(rows);
-    let (means, codes) = means_of_all(
-        rt,
-        room,
-        rows,
-        layout,
-        coded,
-        bare.members.as_slice(),
-        workers,
-    )?;
-    with_boxes(
+    let mut room = room;
+    let source = Source::of(rows, layout);
+    let members = bare.members.as_slice();
+    room.fit(members.len(), source.coded)?;
+    let Room {
         alloc,
-        means,
-        block_count(coded),
-        codes,
-        bare.leaves.as_slice(),
-    )
+        mut means,
+        mut codes,
+    } = room;
+    fill(
+        rt,
+        &source,
+        members,
+        workers,
+        means.as_mut_slice(),
+        codes.as_mut_slice(),
+    );
+    let blocks = block_count(source.coded);
+    with_boxes(alloc, means, blocks, codes, bare.leaves.as_slice())
 }
 
 /// The same by a worker alone, in this thread.
@@ -116,16 +99,23 @@ pub(crate) fn tables_alone<R: Rows>(
     requires places { All (IsPlace (length bare.now.members.items)) bare.now.leaves.items }
     ensures { IfOk result (AreTablesOf (R.collection rows.now) layout.now bare.now.members.items bare.now.leaves.items) }
 {
-    let coded = coded_length(rows);
+    let source = Source::of(rows, layout);
     let members = bare.members.as_slice();
-    let (means, codes) = means_alone(alloc, rows, layout, coded, members)?;
-    with_boxes(
+    let Room {
         alloc,
-        means,
-        block_count(coded),
-        codes,
-        bare.leaves.as_slice(),
-    )
+        mut means,
+        mut codes,
+    } = room_for(alloc, members.len(), source.coded)?;
+    let mut block = [0; FETCHED];
+    fill_in_turn(
+        &source,
+        members,
+        &mut block,
+        means.as_mut_slice(),
+        codes.as_mut_slice(),
+    );
+    let blocks = block_count(source.coded);
+    with_boxes(alloc, means, blocks, codes, bare.leaves.as_slice())
 }
 
 /// Tables of members and of the places of leaves among them, by no rows: every mean is 0, and there are no codes.
