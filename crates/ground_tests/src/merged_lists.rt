@@ -52,8 +52,10 @@ fn a_merge_is_the_front_of_a_plain_sort(rt: HostRuntime) -> Result<(), Fail> {
     for (case, held, others) in CASES {
         for k in 1..=10u32 {
             for other_k in 1..=6u32 {
-                let mut best = best_of(rt.alloc(), k, held)?;
-                let other = best_of(rt.alloc(), other_k, others)?;
+                let mut best = KBest::new(rt.alloc(), k)?;
+                add_all(&mut best, held);
+                let mut other = KBest::new(rt.alloc(), other_k)?;
+                add_all(&mut other, others);
                 best.merge(&other);
                 let mut plain = plain_best(rt.alloc(), k, held)?;
                 let added = plain_best(rt.alloc(), other_k, others)?;
@@ -67,16 +69,14 @@ fn a_merge_is_the_front_of_a_plain_sort(rt: HostRuntime) -> Result<(), Fail> {
     Ok(())
 }
 
-// The list of the k best, made pair by pair.
-fn best_of(alloc: Global, k: u32, pairs: &[(u64, u32)]) -> Result<KBest, Fail> {
-    let mut best = KBest::new(alloc, k)?;
+// Adds pair by pair.
+fn add_all(best: &mut KBest, pairs: &[(u64, u32)]) {
     for (distance, number) in pairs {
         best.add(Pair {
             distance: *distance,
             number: *number,
         });
     }
-    Ok(best)
 }
 
 // The front of a plain sort.
