@@ -53,15 +53,18 @@ fn worked_rows(rt: HostRuntime) -> Result<(), Fail> {
         ([0; 16], [100; 16], 156816),
         ([7; 16], [7; 16], 0),
         ([8; 16], [-8; 16], 4096),
-        (rising, [0; 16], 1122),
+        (rising, [0; 16], 1190),
         (about, turned, 1190),
-        ([-32768; 16], [32767; 16], 60396011536),
-        ([32767; 16], [-32768; 16], 60399943696),
-        (outlier, [0; 16], 6335289),
+        ([-32768; 16], [32767; 16], 68715282496),
+        ([32767; 16], [-32768; 16], 68717379600),
+        (outlier, [0; 16], 6375625),
     ];
     for (row, query, bound) in rows {
         compare(&rt, rt.alloc(), (&row, &query), bound)?;
     }
+    compare(&rt, rt.alloc(), (&[3, 10, 5, 6], &[4; 4]), 36)?;
+    let ends = ([-32768, 32767], [32767, -32768]);
+    compare(&rt, rt.alloc(), (&ends.0, &ends.1), 7549611432)?;
     Ok(())
 }
 
@@ -69,11 +72,11 @@ fn worked_rows(rt: HostRuntime) -> Result<(), Fail> {
 fn worked_rows_of_several_blocks(rt: HostRuntime) -> Result<(), Fail> {
     let rows: [(usize, i16, i16, i16, u64); 6] = [
         (3, 1, 2, 5, 20),
-        (256, 32767, 32767, -32768, 966399099136),
-        (256, -32768, -32768, 32767, 966336184576),
-        (256, 0, 32767, 0, 146434201),
+        (256, 32767, 32767, -32768, 1099478073600),
+        (256, -32768, -32768, 32767, 1099444519936),
+        (256, 0, 32767, 0, 373416976),
         (257, 5, 5, -5, 25600),
-        (300, 1000, 1000, 0, 237606810),
+        (300, 1000, 1000, 0, 299982400),
     ];
     for (length, value, last, asked, bound) in rows {
         let mut row = Vec::from_elem(rt.alloc(), value, length)?;
@@ -95,11 +98,22 @@ fn plain_root_up(n: u64) -> u64 {
     }
 }
 
-/// The step of the values of a block.
-fn plain_step(values: &[i16]) -> i64 {
-    let mut far = 0;
+/// The middle of the values of a block.
+fn plain_middle(values: &[i16]) -> i64 {
+    let (mut least, mut greatest) = (32767i64, -32768i64);
     for value in values {
         let value = i64::from(*value);
+        least = least.min(value);
+        greatest = greatest.max(value);
+    }
+    least.wrapping_add(greatest).wrapping_add(1).div_euclid(2)
+}
+
+/// The step of the values of a block, which lie about a middle.
+fn plain_step(values: &[i16], middle: i64) -> i64 {
+    let mut far = 0;
+    for value in values {
+        let value = i64::from(*value).wrapping_sub(middle);
         far = far.max(value).max((-1i64).wrapping_sub(value));
     }
     (far / 8).wrapping_add(1)
@@ -114,14 +128,15 @@ fn plain_square(n: i64) -> u64 {
 fn plain_bound(row: &[i16], query: &[i16]) -> u64 {
     let (mut far, mut lost, mut bound) = (0u64, 0u64, 0u64);
     for (values, asked) in row.chunks(256).zip(query.chunks(256)) {
-        let step = plain_step(values);
+        let middle = plain_middle(values);
+        let step = plain_step(values, middle);
         for (value, other) in values.iter().zip(asked) {
-            let value = i64::from(*value);
+            let value = i64::from(*value).wrapping_sub(middle);
             let above = step.wrapping_mul(8).wrapping_add(value);
             let code = if step <= 0 { 0 } else { above.div_euclid(step) };
             let place = code.wrapping_mul(2).wrapping_sub(15);
             let shown = step.wrapping_mul(place);
-            let other = i64::from(*other);
+            let other = i64::from(*other).wrapping_sub(middle);
             far = far.wrapping_add(plain_square(shown.wrapping_sub(other.wrapping_mul(2))));
             lost = lost.wrapping_add(plain_square(shown.wrapping_sub(value.wrapping_mul(2))));
         }

@@ -4,6 +4,7 @@ use Rattle.std.specs.Prelude.{ℤ, min}
 use Rattle.std.proofs.lemmas.Bool.{cases_lt}
 use Rattle.std.proofs.lemmas.List.{take_all, take_more_set, length-drop, length-map, drop-drop, append_assoc, take_at}
 use Rattle.std.proofs.lemmas.List.FromFn.{length-map-range_with_len}
+use Rattle.row_codes.specs.Middle.{centred}
 use Rattle.row_codes.specs.Codes.{code_of, step_of, packed, word_of}
 use Rattle.row_codes.specs.Rows.{Block, block_codes, block_of, blocks_of, forgotten, row_codes, value_codes}
 
@@ -23,7 +24,7 @@ cut_out row from to is = by_cases (cases_lt (length row) (from + 256))
 -- one block more is found
 pub blocks_more : (row : List ℤ) (codes : List Block) (k count before after : ℕ) (b : Block) → k < length codes → k < count
     → take k codes ++ blocks_of (count - k) before (drop (256 * k) row) ≡ row_codes row
-    → b ≡ block_of before (take 256 (drop (256 * k) row)) → after ≡ before + forgotten (take 256 (drop (256 * k) row))
+    → b ≡ block_of before (take 256 (drop (256 * k) row)) → after ≡ before + forgotten (centred (take 256 (drop (256 * k) row)))
     → take (k + 1) (set codes k b) ++ blocks_of (count - (k + 1)) after (drop (256 * (k + 1)) row) ≡ row_codes row
 blocks_more row codes k count before after b inside left whole is_b is_after =
     let xs = drop (256 * k) row in
@@ -31,10 +32,10 @@ blocks_more row codes k count before after b inside left whole is_b is_after =
     let place : 256 * k + 256 ≡ 256 * (k + 1) = omega arith in
     let behind : drop 256 xs ≡ drop (256 * (k + 1)) row = drop-drop 256 (256 * k) row ∙ ap (λ n. drop n row) place in
     let rest : blocks_of (count - (k + 1)) after (drop (256 * (k + 1)) row)
-    ≡ blocks_of (count - (k + 1)) (before + forgotten (take 256 xs)) (drop 256 xs)
+    ≡ blocks_of (count - (k + 1)) (before + forgotten (centred (take 256 xs))) (drop 256 xs)
     = ap (λ n. blocks_of (count - (k + 1)) n (drop (256 * (k + 1)) row)) is_after
-    ∙ ap (blocks_of (count - (k + 1)) (before + forgotten (take 256 xs))) (sym behind) in
-    let rests = blocks_of (count - (k + 1)) (before + forgotten (take 256 xs)) (drop 256 xs) in
+    ∙ ap (blocks_of (count - (k + 1)) (before + forgotten (centred (take 256 xs)))) (sym behind) in
+    let rests = blocks_of (count - (k + 1)) (before + forgotten (centred (take 256 xs))) (drop 256 xs) in
     ap (λ l. l ++ blocks_of (count - (k + 1)) after (drop (256 * (k + 1)) row)) (take_more_set codes k b inside)
     ∙ ap (λ l. (take k codes ++ b ∷ []) ++ l) rest
     ∙ append_assoc (take k codes) (b ∷ []) rests

@@ -9,7 +9,7 @@ use Rattle.std.proofs.lemmas.List.{length-map, length-take-le, map-append, take_
 use Rattle.std.proofs.Math.Nat.{div-mul-le_self, lt-div-mul-add}
 use mir.Syntax.{w16}
 use Rattle.row_codes.specs.Roots.{square}
-use Rattle.row_codes.specs.Codes.{from_middle, place, places_squared, reach}
+use Rattle.row_codes.specs.Codes.{code_total, from_middle, place, places_squared, reach}
 
 -- a value within a reach is not below it
 pub reached_low : (x : ℤ) (m : ℕ) → from_middle x < m → pos 0 ≤ℤ (x +ℤ pos m)
@@ -100,6 +100,14 @@ pub places_more : (cs : List ℕ) (i : ℕ) → i < length cs
 places_more cs i inside = ap places_squared (take_more cs i 0 inside) ∙ behind (take i cs) (get_or cs i 0)
   where
     behind : (cs : List ℕ) (c : ℕ) → places_squared (cs ++ c ∷ []) ≡ places_squared cs + square (unsigned_abs (place c))
+    behind [] c = omega arith
+    behind (b ∷ cs) c = omega (arith, behind cs c)
+
+-- the sum of one code more
+pub codes_more : (cs : List ℕ) (i : ℕ) → i < length cs → code_total (take (i + 1) cs) ≡ code_total (take i cs) + get_or cs i 0
+codes_more cs i inside = ap code_total (take_more cs i 0 inside) ∙ behind (take i cs) (get_or cs i 0)
+  where
+    behind : (cs : List ℕ) (c : ℕ) → code_total (cs ++ c ∷ []) ≡ code_total cs + c
     behind [] c = omega arith
     behind (b ∷ cs) c = omega (arith, behind cs c)
 

@@ -7,7 +7,7 @@ use Rattle.std.proofs.lemmas.Nat.{mul-le}
 use Rattle.std.proofs.lemmas.List.{length-map}
 use Rattle.series_core.specs.Distance.{squared_difference, squared_distance}
 use Rattle.row_codes.specs.Codes.{code_of, codes_of, doubled, from_middle, packed, pictured, place, places_squared, reach, step_of}
-use Rattle.row_codes.specs.Kept.{Sums, filled, multiplied_out, value_squares, value_total}
+use Rattle.row_codes.specs.Kept.{Sums, filled, multiplied_out, sums_over}
 use Rattle.row_codes.specs.Lanes.{IsBlockDot, code_dot}
 use Rattle.row_codes.specs.Rows.{block_codes, forgotten, value_codes}
 use Rattle.row_codes.proofs.Coded.{reached_high, reached_low}
@@ -27,17 +27,17 @@ own_dot xs few =
 forgotten_out : (xs : List ℤ) → length xs ≤ 256
     → pos (forgotten xs)
     ≡ multiplied_out (step_of xs) (places_squared (value_codes xs)) (code_dot (codes_of (packed (block_codes xs))) (filled xs))
-    (record { total = value_total xs; squares = value_squares xs })
+    (sums_over xs)
 forgotten_out xs few =
     ap pos (distance_turned (doubled xs) (pictured (step_of xs) (value_codes xs)))
     ∙ picture_distance (step_of xs) (value_codes xs) xs (length-map xs (code_of (step_of xs)))
-    ∙ ap (λ z. multiplied_out (step_of xs) (places_squared (value_codes xs)) z (record { total = value_total xs; squares = value_squares xs }))
+    ∙ ap (λ z. multiplied_out (step_of xs) (places_squared (value_codes xs)) z (sums_over xs))
     (sym (own_dot xs few))
 
 -- the same of what was found
 pub forgotten_found : (xs all : List ℤ) (words : List ℕ) (step squares : ℕ) (dot passed : ℤ) (sums : Sums) → length xs ≤ 256
     → words ≡ packed (block_codes xs) → step ≡ step_of xs → squares ≡ places_squared (value_codes xs) → all ≡ filled xs
-    → sums ≡ record { total = value_total xs; squares = value_squares xs } → IsBlockDot words all dot → passed ≡ dot
+    → sums ≡ sums_over xs → IsBlockDot words all dot → passed ≡ dot
     → pos (forgotten xs) ≡ multiplied_out step squares passed sums
 forgotten_found xs all words step squares dot passed sums few is_words is_step is_squares is_all is_sums is_dot is_passed =
     let found : passed ≡ code_dot (codes_of (packed (block_codes xs))) (filled xs)

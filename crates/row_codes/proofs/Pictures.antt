@@ -6,7 +6,7 @@ use Rattle.std.proofs.lemmas.Int.{ints}
 use Rattle.std.proofs.Math.IntN.{pos-*ℤ-pos, pos-*ℤ-negsuc, *ℤ-zero}
 use Rattle.series_core.specs.Distance.{squared_difference, squared_distance}
 use Rattle.row_codes.specs.Codes.{doubled, pictured, place, places_squared}
-use Rattle.row_codes.specs.Kept.{multiplied_out, value_squares, value_total}
+use Rattle.row_codes.specs.Kept.{multiplied_out, sums_over, value_total}
 use Rattle.row_codes.specs.Lanes.{code_dot}
 
 -- doubled values lie four times as far apart
@@ -34,7 +34,7 @@ scaled n (negsuc m) a b is =
     omega (arith, ints, pos-*ℤ-negsuc n m, times)
 
 -- the square of a number that is the difference of two
-square_gap : (z : ℤ) (a b : ℕ) → z ≡ pos a -ℤ pos b
+pub square_gap : (z : ℤ) (a b : ℕ) → z ≡ pos a -ℤ pos b
     → unsigned_abs z * unsigned_abs z + 2 * (a * b) ≡ a * a + b * b
 square_gap (pos m) a b is =
     let whole : m + b ≡ a = omega (arith, ints, is) in
@@ -50,20 +50,20 @@ square_gap (negsuc m) a b is =
     expanded m a = omega arith
 
 -- a number is the difference of two
-abbrev high : ℤ → ℕ
+abbrev pub high : ℤ → ℕ
 high (pos m) = m
 high (negsuc m) = 0
 
-abbrev low : ℤ → ℕ
+abbrev pub low : ℤ → ℕ
 low (pos m) = 0
 low (negsuc m) = suc m
 
-parts : (z : ℤ) → z ≡ pos (high z) -ℤ pos (low z)
+pub parts : (z : ℤ) → z ≡ pos (high z) -ℤ pos (low z)
 parts (pos m) = omega (arith, ints)
 parts (negsuc m) = omega (arith, ints)
 
 -- a number times a sum
-times_sum : (n : ℕ) (x y : ℤ) → pos n *ℤ (x +ℤ y) ≡ (pos n *ℤ x) +ℤ (pos n *ℤ y)
+pub times_sum : (n : ℕ) (x y : ℤ) → pos n *ℤ (x +ℤ y) ≡ (pos n *ℤ x) +ℤ (pos n *ℤ y)
 times_sum n x y =
     let one = scaled n x (high x) (low x) (parts x) in
     let two = scaled n y (high y) (low y) (parts y) in
@@ -112,7 +112,7 @@ one_value s c q =
 -- the whole distance
 pub picture_distance : (s : ℕ) (cs : List ℕ) (qs : List ℤ) → length cs ≡ length qs
     → pos (squared_distance (pictured s cs) (doubled qs))
-    ≡ multiplied_out s (places_squared cs) (code_dot cs qs) (record { total = value_total qs; squares = value_squares qs })
+    ≡ multiplied_out s (places_squared cs) (code_dot cs qs) (sums_over qs)
 picture_distance s [] [] same =
     let none = *ℤ-zero (pos (4 * s)) in
     omega (arith, ints, none)

@@ -4,12 +4,13 @@
 use Rattle.std.specs.Prelude.{◌≡◌, Bool, leb, slice_index, ℕ, ℤ, ◌+◌, ◌-◌, ◌/◌, List, [], ◌∷◌, drop, length, max, take}
 use Rattle.series_core.specs.Distance.{squared_distance}
 use Rattle.row_codes.specs.Roots.{root, square}
-use Rattle.row_codes.specs.Codes.{codes_of, doubled, pictured, places_squared}
+use Rattle.row_codes.specs.Middle.{shifted}
+use Rattle.row_codes.specs.Codes.{code_total, codes_of, doubled, pictured, places_squared}
 use Rattle.row_codes.specs.Rows.{Block, block_count}
 
--- how far twice the query lies from twice what the codes of a block stand for, squared
+-- how far twice the query lies from twice what the codes of a block stand for, squared; both are counted from the middle of the block
 abbrev pub block_distance : List ℤ → Block → ℕ
-block_distance query b = squared_distance (pictured b.step (codes_of b.words)) (doubled query)
+block_distance query b = squared_distance (pictured b.step (codes_of b.words)) (doubled (shifted b.middle query))
 
 -- the bound up to the end of a block: a quarter of the square by which a length, of which the square is known, is above another one
 abbrev pub bound_at : ℕ → ℕ → ℕ
@@ -26,10 +27,11 @@ bound_from before query (b ∷ bs) =
 abbrev pub code_bound : List ℤ → List Block → ℕ
 code_bound query bs = bound_from 0 query bs
 
--- the squares of blocks of a row of length n are those of the codes of its values
+-- the squares of blocks of a row of length n are those of the codes of its values, and so are the sums
 abbrev pub HaveSquares : ℕ → List Block → Type 0
 HaveSquares n [] = Unit {0}
-HaveSquares n (b ∷ bs) = (b.squares ≡ places_squared (take n (codes_of b.words))) × HaveSquares (n - 256) bs
+HaveSquares n (b ∷ bs) =
+    (b.squares ≡ places_squared (take n (codes_of b.words))) × (b.total ≡ code_total (take n (codes_of b.words))) × HaveSquares (n - 256) bs
 
 -- blocks of a row of length n: as many as it has, and each with its squares
 pub record AreCodesFor (n : ℕ) (bs : List Block) : Type 0 where

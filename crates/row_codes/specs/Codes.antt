@@ -39,6 +39,11 @@ abbrev pub places_squared : List ℕ → ℕ
 places_squared [] = 0
 places_squared (c ∷ cs) = square (unsigned_abs (place c)) + places_squared cs
 
+-- the sum of some codes
+abbrev pub code_total : List ℕ → ℕ
+code_total [] = 0
+code_total (c ∷ cs) = c + code_total cs
+
 -- the codes that words of 16 bits hold, four each: first those in the lowest bits of all words, then the next ones up
 abbrev pub codes_of : List ℕ → List ℕ
 codes_of ws =

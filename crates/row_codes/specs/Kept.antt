@@ -1,5 +1,5 @@
--- What the view of a query keeps beside the query: for each block the sum of its values and that of their squares, and the last block,
--- with zeros behind where it has fewer than 256 values.
+-- What the view of a query keeps beside the query: for each block the sum of its values, that of their squares and how many there are, and
+-- the last block, with zeros behind where it has fewer than 256 values.
 use Rattle.std.specs.Prelude.{◌≡◌, ℕ, ℤ, pos, ◌+◌, ◌-◌, ◌*◌, ◌/◌, ◌≤◌, ◌+ℤ◌, ◌-ℤ◌, ◌*ℤ◌, List, [], ◌∷◌, ◌++◌, drop, length, map, replicate, take, unsigned_abs}
 use Rattle.std.specs.List.{range_with_len}
 use Rattle.std.specs.Simd.Lanes.{chunk}
@@ -15,10 +15,25 @@ abbrev pub value_squares : List ℤ → ℕ
 value_squares [] = 0
 value_squares (x ∷ xs) = square (unsigned_abs x) + value_squares xs
 
--- the sum of a block's values, and that of their squares
+-- the sum of a block's values, that of their squares, and how many there are
 pub record Sums : Type 0 where
   pub total : ℤ
   pub squares : ℕ
+  pub count : ℕ
+
+-- those of some values
+abbrev pub sums_over : List ℤ → Sums
+sums_over xs = record { total = value_total xs; squares = value_squares xs; count = length xs }
+
+-- the sums of the same values, each less so much
+abbrev pub moved : ℤ → Sums → Sums
+moved m s =
+    let total = s.total -ℤ (pos s.count *ℤ m) in
+    record { total = total; squares = unsigned_abs (pos s.squares -ℤ ((s.total +ℤ total) *ℤ m)); count = s.count }
+
+-- the sum of the products of codes and values, each value less so much, where the codes add up to so much
+abbrev pub moved_dot : ℤ → ℕ → ℤ → ℤ
+moved_dot m total dot = dot -ℤ (pos total *ℤ m)
 
 -- the values of block k of a query
 abbrev pub values_at : List ℤ → ℕ → List ℤ
@@ -26,7 +41,7 @@ values_at query k = chunk (256 * k) 256 query
 
 -- the sums of block k
 abbrev pub sums_at : List ℤ → ℕ → Sums
-sums_at query k = record { total = value_total (values_at query k); squares = value_squares (values_at query k) }
+sums_at query k = sums_over (values_at query k)
 
 -- 256 values: zeros stand behind those that there are
 abbrev pub filled : List ℤ → List ℤ

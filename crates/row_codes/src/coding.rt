@@ -4,7 +4,7 @@ ghost use Rattle.std.specs.Prelude.{◌≡◌, ◌+◌, ◌-◌, ◌*◌, ◌/�
 ghost use Rattle.std.specs.List.{All};
 ghost use Rattle.series_core.specs.Distance.{squared_difference, squared_distance};
 ghost use Rattle.row_codes.specs.Roots.{square};
-ghost use Rattle.row_codes.specs.Codes.{code_of, doubled, from_middle, packed, pictured, place, places_squared, reach, step_of};
+ghost use Rattle.row_codes.specs.Codes.{code_of, code_total, doubled, from_middle, packed, pictured, place, places_squared, reach, step_of};
 
 /// How far the farthest of some values lies from the middle.
 fn reach_of(values: &[i16]) -> u16
@@ -91,6 +91,20 @@ pub(crate) fn squares_of(codes: &[u16]) -> u16
         squares += place_squared(codes[i]);
     }
     squares
+}
+
+/// The sum of codes.
+pub(crate) fn total_of(codes: &[u16]) -> u16
+    requires few { length codes.now ≤ 256 }
+    requires small { All (λ c. c < 16) codes.now }
+    ensures value { result ≡ code_total codes.now }
+    ensures limit { result ≤ 3840 }
+{
+    let mut total = 0;
+    for i in 0..codes.len() {
+        total += codes[i];
+    }
+    total
 }
 
 /// The square of the place of a code.

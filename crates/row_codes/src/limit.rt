@@ -6,7 +6,7 @@ use crate::roots::root_of;
 use std::marker::Model;
 
 /// Limits from here on are above every bound.
-const MOST: u64 = 1125899906842624;
+const MOST: u64 = 2251799813685248;
 
 /// A limit of a squared distance, seen as that limit, with twice the length that it allows.
 #[derive(Drop)]
@@ -23,7 +23,7 @@ impl Model for CodeLimit {
 
     ghost view = { λ l. l.limit };
 
-    ghost invariant = { λ l. l.length ≡ root (4 * min l.limit 1125899906842624 + 3) };
+    ghost invariant = { λ l. l.length ≡ root (4 * min l.limit 2251799813685248 + 3) };
 }
 
 impl CodeLimit {
@@ -46,7 +46,7 @@ impl CodeLimit {
     // stand for, and of how long what these forget is.
     #[inline(always)]
     pub(crate) fn allows(&self, squared: u64, rest: u32) -> bool
-        requires squared { squared < 2 ^ 51 }
+        requires squared { squared < 2 ^ 53 }
         requires rest { rest ≤ 33554432 }
         ensures { result ≡ leb (bound_at squared rest) self.now }
     {
