@@ -140,7 +140,7 @@ fn fill_from<R: Rows>(
 }
 
 /// How many values of each row are coded, the first ones: those of whole blocks of 256 values, and those behind them where they fill seven
-/// eighths of one block more, so that codes take three tenths of what values do at most. None are where rows have more values than a file
+/// eighths of one block more, so that codes take less than a third of what values do. None are where rows have more values than a file
 /// may hold: such rows are windows that overlap, and their codes would take more than what they lie in.
 pub fn coded_length<R: Rows>(rows: &R) -> u32
     ensures value { result ≡ coded_points (R.collection rows.now) }
