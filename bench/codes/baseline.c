@@ -9,7 +9,7 @@ static double root(double n) {
     return _mm_cvtsd_f64(_mm_sqrt_sd(v, v));
 }
 
-typedef struct { uint16_t words[64]; uint16_t step, squares; uint32_t rest; int16_t middle; uint16_t total; } block;
+typedef struct { uint16_t words[64]; uint16_t step, low; uint32_t rest; uint64_t squares; } block;
 
 static void scatter(int16_t *values, size_t count) {
     uint64_t x = 7;
@@ -25,27 +25,21 @@ static void code(const int16_t *v, block *b) {
         least = v[i] < least ? v[i] : least;
         greatest = v[i] > greatest ? v[i] : greatest;
     }
-    int middle = (least + greatest + 65537) / 2 - 32768;
-    int below = middle - least - 1, above = greatest - middle, far = below > above ? below : above;
-    int step = far / 8 + 1, squares = 0, total = 0;
-    uint32_t part = 268435456u / step + 1;
-    uint64_t lost = 0;
+    int step = (greatest - least) / 16 + 1;
+    uint32_t part = 268435456u / step + 1, lost = 0;
+    uint64_t squares = 0;
     for (int i = 0; i < POINTS; i++) {
-        int value = v[i] - middle;
-        codes[i] = ((uint32_t)(value + 8 * step) * part) >> 28;
-        int place = 2 * codes[i] - 15;
-        squares += place * place;
-        total += codes[i];
-        int left = 2 * value - step * place;
-        lost += (uint32_t)(left * left);
+        codes[i] = ((uint32_t)(v[i] - least) * part) >> 28;
+        int shown = least + step * codes[i] + step / 2, left = v[i] - shown;
+        squares += (uint32_t)(shown * shown);
+        lost += left * left;
     }
     for (int j = 0; j < 64; j++) b->words[j] = codes[j] | codes[64 + j] << 4 | codes[128 + j] << 8 | codes[192 + j] << 12;
     b->step = step;
+    b->low = least + 32768;
     b->squares = squares;
-    b->middle = middle;
-    b->total = total;
-    b->rest = (uint32_t)root((double)lost);
-    while ((uint64_t)b->rest * b->rest < lost) b->rest++;
+    b->rest = (uint32_t)root(4.0 * lost);
+    while ((uint64_t)b->rest * b->rest < 4 * (uint64_t)lost) b->rest++;
 }
 
 #define MADD(codes, place) _mm256_madd_epi16(codes, _mm256_loadu_si256((const void *)(place)))
@@ -73,10 +67,10 @@ static inline void dots(const block *b, const int16_t *const *q, int count, int3
 }
 
 static inline int near(const block *b, int32_t dot, int64_t sum, int64_t own, uint64_t length) {
-    int64_t m = b->middle, about = sum - POINTS * m, product = dot - m * b->total;
-    int64_t s = b->step, far = s * (s * b->squares + 60 * about - 8 * product) + 4 * (own - m * (sum + about));
+    int64_t center = (int64_t)b->low + b->step / 2 - 32768;
+    uint64_t far = (int64_t)b->squares + own - 2 * (b->step * (int64_t)dot + center * sum);
     uint64_t allowed = length + b->rest + 1;
-    return (uint64_t)far < allowed * allowed;
+    return 4 * far < allowed * allowed;
 }
 
 __attribute__((noinline)) static uint64_t pass(const block *codes, const int16_t *values, int count, uint64_t limit) {

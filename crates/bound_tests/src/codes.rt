@@ -50,14 +50,14 @@ fn worked_rows(rt: HostRuntime) -> Result<(), Fail> {
     outlier[15] = -3000;
     let rows: [([i16; 16], [i16; 16], u64); 9] = [
         ([0; 16], [0; 16], 0),
-        ([0; 16], [100; 16], 156816),
+        ([0; 16], [100; 16], 160000),
         ([7; 16], [7; 16], 0),
         ([8; 16], [-8; 16], 4096),
-        (rising, [0; 16], 1190),
-        (about, turned, 1190),
-        ([-32768; 16], [32767; 16], 68715282496),
+        (rising, [0; 16], 1225),
+        (about, turned, 1369),
+        ([-32768; 16], [32767; 16], 68717379600),
         ([32767; 16], [-32768; 16], 68717379600),
-        (outlier, [0; 16], 6375625),
+        (outlier, [0; 16], 6398370),
     ];
     for (row, query, bound) in rows {
         compare(&rt, rt.alloc(), (&row, &query), bound)?;
@@ -71,12 +71,12 @@ fn worked_rows(rt: HostRuntime) -> Result<(), Fail> {
 #[test]
 fn worked_rows_of_several_blocks(rt: HostRuntime) -> Result<(), Fail> {
     let rows: [(usize, i16, i16, i16, u64); 6] = [
-        (3, 1, 2, 5, 20),
+        (3, 1, 2, 5, 36),
         (256, 32767, 32767, -32768, 1099478073600),
-        (256, -32768, -32768, 32767, 1099444519936),
+        (256, -32768, -32768, 32767, 1099478073600),
         (256, 0, 32767, 0, 373416976),
         (257, 5, 5, -5, 25600),
-        (300, 1000, 1000, 0, 299982400),
+        (300, 1000, 1000, 0, 299999720),
     ];
     for (length, value, last, asked, bound) in rows {
         let mut row = Vec::from_elem(rt.alloc(), value, length)?;
@@ -98,25 +98,15 @@ fn plain_root_up(n: u64) -> u64 {
     }
 }
 
-/// The middle of the values of a block.
-fn plain_middle(values: &[i16]) -> i64 {
+/// The least and the greatest of the values of a block.
+fn plain_ends(values: &[i16]) -> (i64, i64) {
     let (mut least, mut greatest) = (32767i64, -32768i64);
     for value in values {
         let value = i64::from(*value);
         least = least.min(value);
         greatest = greatest.max(value);
     }
-    least.wrapping_add(greatest).wrapping_add(1).div_euclid(2)
-}
-
-/// The step of the values of a block, which lie about a middle.
-fn plain_step(values: &[i16], middle: i64) -> i64 {
-    let mut far = 0;
-    for value in values {
-        let value = i64::from(*value).wrapping_sub(middle);
-        far = far.max(value).max((-1i64).wrapping_sub(value));
-    }
-    (far / 8).wrapping_add(1)
+    (least, greatest)
 }
 
 /// The square of a number.
@@ -128,19 +118,22 @@ fn plain_square(n: i64) -> u64 {
 fn plain_bound(row: &[i16], query: &[i16]) -> u64 {
     let (mut far, mut lost, mut bound) = (0u64, 0u64, 0u64);
     for (values, asked) in row.chunks(256).zip(query.chunks(256)) {
-        let middle = plain_middle(values);
-        let step = plain_step(values, middle);
+        let (least, greatest) = plain_ends(values);
+        let step = (greatest.wrapping_sub(least) / 16).wrapping_add(1);
         for (value, other) in values.iter().zip(asked) {
-            let value = i64::from(*value).wrapping_sub(middle);
-            let above = step.wrapping_mul(8).wrapping_add(value);
+            let value = i64::from(*value);
+            let above = value.wrapping_sub(least);
             let code = if step <= 0 { 0 } else { above.div_euclid(step) };
-            let place = code.wrapping_mul(2).wrapping_sub(15);
-            let shown = step.wrapping_mul(place);
-            let other = i64::from(*other).wrapping_sub(middle);
-            far = far.wrapping_add(plain_square(shown.wrapping_sub(other.wrapping_mul(2))));
-            lost = lost.wrapping_add(plain_square(shown.wrapping_sub(value.wrapping_mul(2))));
+            let shown = least
+                .wrapping_add(step.wrapping_mul(code))
+                .wrapping_add(step / 2);
+            far = far.wrapping_add(plain_square(shown.wrapping_sub(i64::from(*other))));
+            lost = lost.wrapping_add(plain_square(shown.wrapping_sub(value)));
         }
-        let above = far.isqrt().saturating_sub(plain_root_up(lost));
+        let above = far
+            .wrapping_mul(4)
+            .isqrt()
+            .saturating_sub(plain_root_up(lost.wrapping_mul(4)));
         bound = bound.max(above.wrapping_mul(above) / 4);
     }
     bound

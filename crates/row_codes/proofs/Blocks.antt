@@ -1,11 +1,10 @@
 -- Blocks of a row one by one: those that are left (`blocks_more`), what is cut out of the row (`cut_out`), and how many there are.
-use Rattle.std.proofs.Common.{◌≡◌, ℕ, suc, ◌+◌, ◌-◌, ◌*◌, ◌<◌, ◌≤◌, arith, sym, ap, ◌∙◌, ◌⊎◌, inl, inr, List, [], ◌∷◌, ◌++◌, length, map, take, drop, replicate, set}
+use Rattle.std.proofs.Common.{◌≡◌, ℕ, suc, ◌+◌, ◌-◌, ◌*◌, ◌<◌, ◌≤◌, arith, sym, ap, ◌∙◌, ◌⊎◌, inl, inr, List, [], ◌∷◌, ◌++◌, length, take, drop, replicate, set}
 use Rattle.std.specs.Prelude.{ℤ, min}
 use Rattle.std.proofs.lemmas.Bool.{cases_lt}
 use Rattle.std.proofs.lemmas.List.{take_all, take_more_set, length-drop, length-map, drop-drop, append_assoc, take_at}
 use Rattle.std.proofs.lemmas.List.FromFn.{length-map-range_with_len}
-use Rattle.row_codes.specs.Middle.{centred}
-use Rattle.row_codes.specs.Codes.{code_of, step_of, packed, word_of}
+use Rattle.row_codes.specs.Codes.{code_of, least, packed, step_of, word_of}
 use Rattle.row_codes.specs.Rows.{Block, block_codes, block_of, blocks_of, forgotten, row_codes, value_codes}
 
 -- what is cut out of a row for a block
@@ -24,7 +23,7 @@ cut_out row from to is = by_cases (cases_lt (length row) (from + 256))
 -- one block more is found
 pub blocks_more : (row : List ℤ) (codes : List Block) (k count before after : ℕ) (b : Block) → k < length codes → k < count
     → take k codes ++ blocks_of (count - k) before (drop (256 * k) row) ≡ row_codes row
-    → b ≡ block_of before (take 256 (drop (256 * k) row)) → after ≡ before + forgotten (centred (take 256 (drop (256 * k) row)))
+    → b ≡ block_of before (take 256 (drop (256 * k) row)) → after ≡ before + forgotten (take 256 (drop (256 * k) row))
     → take (k + 1) (set codes k b) ++ blocks_of (count - (k + 1)) after (drop (256 * (k + 1)) row) ≡ row_codes row
 blocks_more row codes k count before after b inside left whole is_b is_after =
     let xs = drop (256 * k) row in
@@ -32,10 +31,10 @@ blocks_more row codes k count before after b inside left whole is_b is_after =
     let place : 256 * k + 256 ≡ 256 * (k + 1) = omega arith in
     let behind : drop 256 xs ≡ drop (256 * (k + 1)) row = drop-drop 256 (256 * k) row ∙ ap (λ n. drop n row) place in
     let rest : blocks_of (count - (k + 1)) after (drop (256 * (k + 1)) row)
-    ≡ blocks_of (count - (k + 1)) (before + forgotten (centred (take 256 xs))) (drop 256 xs)
+    ≡ blocks_of (count - (k + 1)) (before + forgotten (take 256 xs)) (drop 256 xs)
     = ap (λ n. blocks_of (count - (k + 1)) n (drop (256 * (k + 1)) row)) is_after
-    ∙ ap (blocks_of (count - (k + 1)) (before + forgotten (centred (take 256 xs)))) (sym behind) in
-    let rests = blocks_of (count - (k + 1)) (before + forgotten (centred (take 256 xs))) (drop 256 xs) in
+    ∙ ap (blocks_of (count - (k + 1)) (before + forgotten (take 256 xs))) (sym behind) in
+    let rests = blocks_of (count - (k + 1)) (before + forgotten (take 256 xs)) (drop 256 xs) in
     ap (λ l. l ++ blocks_of (count - (k + 1)) after (drop (256 * (k + 1)) row)) (take_more_set codes k b inside)
     ∙ ap (λ l. (take k codes ++ b ∷ []) ++ l) rest
     ∙ append_assoc (take k codes) (b ∷ []) rests
@@ -43,16 +42,11 @@ blocks_more row codes k count before after b inside left whole is_b is_after =
     ∙ ap (λ n. take k codes ++ blocks_of n before xs) (sym next)
     ∙ whole
 
--- codes by a step that was found are those of a block
-pub codes_are : (xs : List ℤ) (codes : List ℕ) (s : ℕ) → s ≡ step_of xs
-    → codes ≡ map (code_of s) xs ++ replicate (256 - length xs) 8 → codes ≡ block_codes xs
-codes_are xs codes s step is = is ∙ ap (λ n. map (code_of n) xs ++ replicate (256 - length xs) 8) step
-
 -- the first of them are those of its values
 pub own_are : (xs : List ℤ) (codes : List ℕ) → codes ≡ block_codes xs → take (length xs) codes ≡ value_codes xs
 own_are xs codes is =
     ap (take (length xs)) is
-    ∙ take_at (value_codes xs) (replicate (256 - length xs) 8) (length xs) (length-map xs (code_of (step_of xs)))
+    ∙ take_at (value_codes xs) (replicate (256 - length xs) 0) (length xs) (length-map xs (code_of (least xs) (step_of xs)))
 
 -- there are 64 words
 pub length-packed : (cs : List ℕ) → length (packed cs) ≡ 64

@@ -1,25 +1,12 @@
--- Codes by a reciprocal are exact (`by_reciprocal`); and what loops over the values of a block and their codes add (`reach_more`,
--- `code_more`, `places_more`).
-use Rattle.std.proofs.Common.{◌≡◌, ℕ, zero, suc, ◌+◌, ◌-◌, ◌*◌, ◌/◌, ◌<◌, ◌≤◌, arith, ap, refl, sym, ◌∙◌, ◌⊎◌, inl, inr, ℤ, pos, negsuc, ◌+ℤ◌, replicate, List, [], ◌∷◌, ◌++◌, get_or, length, map, take, set, subst, to_z, of_z}
-use Rattle.std.specs.Prelude.{FitsSigned, max, unsigned_abs, ◌≤ℤ◌, ◌<ℤ◌}
-use Rattle.std.proofs.lemmas.Int.{ints, to_z-of_z}
+-- Codes by a reciprocal are exact (`by_reciprocal`); what loops over the values of a block add (`least_more`, `greatest_more`,
+-- `code_more`); and that each value lies between the least and the greatest (`between`).
+use Rattle.std.proofs.Common.{◌≡◌, ℕ, zero, suc, ◌+◌, ◌-◌, ◌*◌, ◌/◌, ◌<◌, ◌≤◌, arith, ap, refl, sym, ◌∙◌, ◌⊎◌, inl, inr, ℤ, replicate, List, [], ◌∷◌, ◌++◌, get_or, length, map, take, set}
+use Rattle.std.specs.Prelude.{max, min}
 use Rattle.std.proofs.lemmas.Bool.{cases_lt}
 use Rattle.std.proofs.lemmas.Nat.{mul-le}
 use Rattle.std.proofs.lemmas.List.{length-map, length-take-le, map-append, take_more}
 use Rattle.std.proofs.Math.Nat.{div-mul-le_self, lt-div-mul-add}
-use mir.Syntax.{w16}
-use Rattle.row_codes.specs.Roots.{square}
-use Rattle.row_codes.specs.Codes.{code_total, from_middle, place, places_squared, reach}
-
--- a value within a reach is not below it
-pub reached_low : (x : ℤ) (m : ℕ) → from_middle x < m → pos 0 ≤ℤ (x +ℤ pos m)
-reached_low (pos n) m near = omega (arith, ints, near)
-reached_low (negsuc n) m near = omega (arith, ints, near)
-
--- and not above
-pub reached_high : (x : ℤ) (m : ℕ) → from_middle x < m → (x +ℤ pos m) <ℤ pos (2 * m)
-reached_high (pos n) m near = omega (arith, ints, near)
-reached_high (negsuc n) m near = omega (arith, ints, near)
+use Rattle.row_codes.specs.Codes.{greatest, least, raised}
 
 -- a product with a number that is slightly more than 2^28 parts of s divides by s
 divided : (n s m q r d : ℕ) → n ≡ q * s + r → r < s → m * s ≡ 268435456 + d → 0 < d → d ≤ s → s ≤ 4096 → n < 16 * s
@@ -72,44 +59,32 @@ by_reciprocal n s m step near is =
             let more : 16 * s ≤ q * s = mul-le 16 s q s many (omega arith) in
             absurd (omega (arith, more, low, near))
 
--- the reach of one value more
-pub reach_more : (xs : List ℤ) (i : ℕ) (d : ℤ) → i < length xs
-    → reach (take (i + 1) xs) ≡ max (from_middle (get_or xs i d)) (reach (take i xs))
-reach_more xs i d inside = ap reach (take_more xs i d inside) ∙ behind (take i xs) (get_or xs i d)
+-- the least of one value more
+pub least_more : (xs : List ℤ) (i : ℕ) (d : ℤ) → i < length xs
+    → least (take (i + 1) xs) ≡ min (raised (get_or xs i d)) (least (take i xs))
+least_more xs i d inside = ap least (take_more xs i d inside) ∙ behind (take i xs) (get_or xs i d)
   where
-    behind : (xs : List ℤ) (y : ℤ) → reach (xs ++ y ∷ []) ≡ max (from_middle y) (reach xs)
+    behind : (xs : List ℤ) (y : ℤ) → least (xs ++ y ∷ []) ≡ min (raised y) (least xs)
     behind [] y = refl
     behind (x ∷ xs) y = omega (arith, behind xs y)
 
--- each value is within the reach of all
-pub within_reach : (xs : List ℤ) (i : ℕ) (d : ℤ) → i < length xs → from_middle (get_or xs i d) ≤ reach xs
-within_reach [] i d inside = absurd (omega (arith, inside))
-within_reach (x ∷ xs) zero d inside = omega arith
-within_reach (x ∷ xs) (suc i) d inside = omega (arith, within_reach xs i d (omega (arith, inside)))
-
--- so a value that is handed on lies within a step that reaches as far as all
-pub handed_near : (xs : List ℤ) (i s : ℕ) → FitsSigned w16 (get_or xs i (pos 0)) → i < length xs → reach xs < 8 * s
-    → from_middle (to_z w16 (of_z w16 (get_or xs i (pos 0)))) < 8 * s
-handed_near xs i s fits inside near =
-    let low = within_reach xs i (pos 0) inside in
-    subst (λ z. from_middle z < 8 * s) (sym (to_z-of_z w16 (get_or xs i (pos 0)) fits)) (omega (arith, low, near))
-
--- the squares of the places of one code more
-pub places_more : (cs : List ℕ) (i : ℕ) → i < length cs
-    → places_squared (take (i + 1) cs) ≡ places_squared (take i cs) + square (unsigned_abs (place (get_or cs i 0)))
-places_more cs i inside = ap places_squared (take_more cs i 0 inside) ∙ behind (take i cs) (get_or cs i 0)
+-- and the greatest
+pub greatest_more : (xs : List ℤ) (i : ℕ) (d : ℤ) → i < length xs
+    → greatest (take (i + 1) xs) ≡ max (raised (get_or xs i d)) (greatest (take i xs))
+greatest_more xs i d inside = ap greatest (take_more xs i d inside) ∙ behind (take i xs) (get_or xs i d)
   where
-    behind : (cs : List ℕ) (c : ℕ) → places_squared (cs ++ c ∷ []) ≡ places_squared cs + square (unsigned_abs (place c))
-    behind [] c = omega arith
-    behind (b ∷ cs) c = omega (arith, behind cs c)
+    behind : (xs : List ℤ) (y : ℤ) → greatest (xs ++ y ∷ []) ≡ max (raised y) (greatest xs)
+    behind [] y = refl
+    behind (x ∷ xs) y = omega (arith, behind xs y)
 
--- the sum of one code more
-pub codes_more : (cs : List ℕ) (i : ℕ) → i < length cs → code_total (take (i + 1) cs) ≡ code_total (take i cs) + get_or cs i 0
-codes_more cs i inside = ap code_total (take_more cs i 0 inside) ∙ behind (take i cs) (get_or cs i 0)
-  where
-    behind : (cs : List ℕ) (c : ℕ) → code_total (cs ++ c ∷ []) ≡ code_total cs + c
-    behind [] c = omega arith
-    behind (b ∷ cs) c = omega (arith, behind cs c)
+-- each value lies between them
+pub between : (xs : List ℤ) (i : ℕ) (d : ℤ) → i < length xs
+    → (least xs ≤ raised (get_or xs i d)) × (raised (get_or xs i d) ≤ greatest xs)
+between [] i d inside = absurd (omega (arith, inside))
+between (x ∷ xs) zero d inside = (omega arith, omega arith)
+between (x ∷ xs) (suc i) d inside =
+    let rest = between xs i d (omega (arith, inside)) in
+    (omega (arith, rest.0), omega (arith, rest.1))
 
 -- what stands behind others is changed
 set_behind : {X : Type 0} (front : List X) (n : ℕ) (y z : X) → 0 < n

@@ -11,8 +11,6 @@ pub mod Packed
 pub mod RowLimits
 pub mod Blocks
 pub mod Lists
-pub mod Shifted
-pub mod Centred
 pub mod OfBlocks
 pub mod Forgotten
 pub mod Below

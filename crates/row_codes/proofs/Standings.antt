@@ -12,7 +12,7 @@ use Rattle.row_codes.proofs.Views.{squares_left, within_more}
 
 -- how far a query lies from the codes of the first k blocks, and whether it may be near: then what is left decides
 pub record Stands (query : List ℤ) (codes : List Block) (limit k squared : ℕ) (within : Bool) : Type 0 where
-  pub small : squared ≤ 17867047174144 * k
+  pub small : squared ≤ 8000000000000 * k
   pub left : leb (code_bound query codes) limit ≡ (within && leb (bound_from squared (drop (256 * k) query) (drop k codes)) limit)
   pub squares : HaveSquares (length query - 256 * k) (drop k codes)
 
@@ -42,7 +42,7 @@ far_more query codes limit before k b inside is_b far =
 -- behind one block more
 pub stands_more : (query : List ℤ) (codes : List Block) (limit k squared after : ℕ) (within next : Bool) (b : Block)
     → k < length codes → b ≡ get_or codes k b → Stands query codes limit k squared within
-    → after ≡ squared + block_distance (drop (256 * k) query) b → after ≤ 17867047174144 * (k + 1)
+    → after ≡ squared + block_distance (drop (256 * k) query) b → after ≤ 8000000000000 * (k + 1)
     → next ≡ (within && leb (bound_at after b.rest) limit) → Stands query codes limit (k + 1) after next
 stands_more query codes limit k squared after within next b inside is_b stands is_after small is_next = record {
   small = small;
@@ -67,7 +67,7 @@ stands_more query codes limit k squared after within next b inside is_b stands i
 pub stands_next : (query : List ℤ) (codes : List Block) (limits : List ℕ) (at k squared after : ℕ) (within next : Bool) (b : Block)
     (d : ℕ) → at < length limits → k < length codes → b ≡ get_or codes k b
     → Stands query codes (slice_index limits at) k squared within
-    → after ≡ squared + block_distance (drop (256 * k) query) b → after ≤ 17867047174144 * (k + 1)
+    → after ≡ squared + block_distance (drop (256 * k) query) b → after ≤ 8000000000000 * (k + 1)
     → next ≡ (within && leb (bound_at after b.rest) (get_or limits at d))
     → Stands query codes (slice_index limits at) (k + 1) after next
 stands_next query codes limits at k squared after within next b d there inside is_b stands is_after small is_next =

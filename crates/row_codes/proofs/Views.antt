@@ -1,22 +1,19 @@
 -- The blocks of a query's view: what is cut out of it, its last block, and how far it lies from what the codes of a block stand for.
-use Rattle.std.proofs.Common.{◌≡◌, ℕ, suc, ◌+◌, ◌-◌, ◌*◌, ◌/◌, ◌<◌, ◌≤◌, arith, sym, ap, ◌∙◌, subst, ◌⊎◌, inl, inr, ℤ, pos, ◌-ℤ◌, List, ◌∷◌, ◌++◌, length, map, take, drop, replicate, get_or, leb}
+use Rattle.std.proofs.Common.{◌≡◌, ℕ, suc, ◌+◌, ◌-◌, ◌*◌, ◌/◌, ◌<◌, ◌≤◌, arith, sym, ap, ◌∙◌, subst, ◌⊎◌, inl, inr, ℤ, pos, List, ◌∷◌, ◌++◌, length, map, take, drop, replicate, get_or, leb}
 use Rattle.std.specs.Prelude.{min, max}
 use Rattle.std.specs.List.{range_with_len}
 use Rattle.std.proofs.lemmas.Bool.{cases_lt, le-leb, lt-leb}
-use Rattle.std.proofs.lemmas.List.{take_all, length-take, length-drop, length-append, length-map, length-replicate, append-nil, drop-drop, get_or-take, take-map}
+use Rattle.std.proofs.lemmas.List.{take_all, length-take, length-drop, length-append, length-replicate, append-nil, drop-drop, get_or-take}
 use Rattle.std.proofs.lemmas.List.FromFn.{get_or-map-range_with_len}
 use Rattle.std.proofs.Math.Seq.{drop-cons}
-use Rattle.series_core.specs.Distance.{squared_distance}
-use Rattle.row_codes.specs.Middle.{shifted}
-use Rattle.row_codes.specs.Codes.{code_total, codes_of, doubled, pictured, places_squared}
+use Rattle.row_codes.specs.Codes.{codes_of, pictured, value_squares}
 use Rattle.row_codes.specs.Rows.{Block}
 use Rattle.row_codes.specs.Bound.{HaveSquares, block_distance, bound_at, bound_from}
 use Rattle.row_codes.specs.Lanes.{code_dot}
-use Rattle.row_codes.specs.Kept.{Sums, filled, moved, moved_dot, multiplied_out, sums_at, sums_over, values_at}
+use Rattle.row_codes.specs.Kept.{Sums, filled, multiplied_out, sums_at, values_at}
 use Rattle.row_codes.proofs.Dots.{codes_long, dot_filled}
 use Rattle.row_codes.proofs.Lists.{pictured_front}
 use Rattle.row_codes.proofs.Pictures.{picture_distance}
-use Rattle.row_codes.proofs.Shifted.{dot_moved, sums_moved}
 
 -- a whole block needs no zeros
 pub whole_block : (query : List ℤ) (k : ℕ) → 256 * k + 256 ≤ length query → values_at query k ≡ filled (values_at query k)
@@ -36,34 +33,22 @@ last_block query k inside short =
 
 -- how far a query lies from what the codes of a block stand for
 pub far_from_block : (query : List ℤ) (b : Block) (k : ℕ) → length b.words ≡ 64
-    → b.squares ≡ places_squared (take (length query - 256 * k) (codes_of b.words))
-    → b.total ≡ code_total (take (length query - 256 * k) (codes_of b.words))
+    → b.squares ≡ value_squares (pictured b.low b.step (take (length query - 256 * k) (codes_of b.words)))
     → pos (block_distance (drop (256 * k) query) b)
-    ≡ multiplied_out b.step b.squares (moved_dot b.middle b.total (code_dot (codes_of b.words) (filled (values_at query k))))
-    (moved b.middle (sums_at query k))
-far_from_block query b k words squares total =
+    ≡ multiplied_out b.low b.step b.squares (code_dot (codes_of b.words) (filled (values_at query k))) (sums_at query k)
+far_from_block query b k words squares =
     let q = values_at query k in
-    let m = b.middle in
     let codes = codes_of b.words in
     let many : length codes ≡ 256 = omega (arith, codes_long b.words, words) in
     let long : length q ≡ min 256 (length query - 256 * k)
     = omega (arith, length-take 256 (drop (256 * k) query), length-drop (256 * k) query) in
     let front : take (length query - 256 * k) codes ≡ take (length q) codes = fronts (cases_lt (length query - 256 * k) 256) many long in
-    let own = take (length q) codes in
-    let as_many : length own ≡ length q = omega (arith, length-take (length q) codes, many, long) in
-    let as_long : length (shifted m q) ≡ length q = length-map q (λ x. x -ℤ m) in
-    let cut : take 256 (shifted m (drop (256 * k) query)) ≡ shifted m q = take-map (λ x. x -ℤ m) 256 (drop (256 * k) query) in
-    ap pos (pictured_front 256 b.step codes (shifted m (drop (256 * k) query)) (omega (arith, many))
-    ∙ ap (λ l. squared_distance (pictured b.step (take (length l) codes)) (doubled l)) cut
-    ∙ ap (λ n. squared_distance (pictured b.step (take n codes)) (doubled (shifted m q))) as_long)
-    ∙ picture_distance b.step own (shifted m q) (as_many ∙ sym as_long)
-    ∙ ap (λ n. multiplied_out b.step n (code_dot own (shifted m q)) (sums_over (shifted m q)))
-    (sym (squares ∙ ap places_squared front))
-    ∙ ap (multiplied_out b.step b.squares (code_dot own (shifted m q))) (sums_moved m q)
-    ∙ ap (λ z. multiplied_out b.step b.squares z (moved m (sums_at query k)))
-    (dot_moved m own q as_many
-    ∙ ap (λ n. moved_dot m n (code_dot own q)) (sym (total ∙ ap code_total front))
-    ∙ ap (moved_dot m b.total) (sym (dot_filled codes q (256 - length q))))
+    let as_many : length (take (length q) codes) ≡ length q = omega (arith, length-take (length q) codes, many, long) in
+    ap pos (pictured_front 256 b.low b.step codes (drop (256 * k) query) (omega (arith, many)))
+    ∙ picture_distance b.low b.step (take (length q) codes) q as_many
+    ∙ ap (λ n. multiplied_out b.low b.step n (code_dot (take (length q) codes) q) (sums_at query k))
+    (sym (squares ∙ ap (λ cs. value_squares (pictured b.low b.step cs)) front))
+    ∙ ap (λ z. multiplied_out b.low b.step b.squares z (sums_at query k)) (sym (dot_filled codes q (256 - length q)))
   where
     fronts : (length query - 256 * k < 256) ⊎ (256 ≤ length query - 256 * k) → length (codes_of b.words) ≡ 256
         → length (values_at query k) ≡ min 256 (length query - 256 * k)
@@ -121,25 +106,21 @@ squares_left n k codes d inside squares =
     let place : n - 256 * k - 256 ≡ n - 256 * (k + 1) = omega arith in
     let all = subst (λ l. HaveSquares (n - 256 * k) l) (drop-cons codes k d inside) squares in
     subst (λ m. HaveSquares m (drop (k + 1) codes)) place
-    (subst (λ m. HaveSquares (n - 256 * k - 256) (drop m codes)) next all.2)
+    (subst (λ m. HaveSquares (n - 256 * k - 256) (drop m codes)) next all.1)
 
 -- how far, of what a view keeps and of what a block's fields say
-pub far_as_kept : (query kept : List ℤ) (sums : List Sums) (own b : Block) (k : ℕ) (dot passed middle : ℤ) (s : Sums) → kept ≡ query
-    → own ≡ b → length own.words ≡ 64 → 256 * k < length query → s ≡ get_or sums k s
+pub far_as_kept : (query kept : List ℤ) (sums : List Sums) (own b : Block) (k : ℕ) (dot passed : ℤ) (s : Sums) → kept ≡ query → own ≡ b
+    → length own.words ≡ 64 → 256 * k < length query → s ≡ get_or sums k s
     → take ((length kept + 255) / 256) sums ≡ map (sums_at kept) (range_with_len 0 ((length kept + 255) / 256))
-    → b.squares ≡ places_squared (take (length query - 256 * k) (codes_of b.words))
-    → b.total ≡ code_total (take (length query - 256 * k) (codes_of b.words))
-    → dot ≡ code_dot (codes_of b.words) (filled (values_at query k)) → middle ≡ own.middle → passed ≡ moved_dot middle own.total dot
-    → pos (block_distance (drop (256 * k) query) b) ≡ multiplied_out own.step own.squares passed (moved middle s)
-far_as_kept query kept sums own b k dot passed middle s is_query is_b words inside is_s summed squares total is_dot is_middle is_passed =
+    → b.squares ≡ value_squares (pictured b.low b.step (take (length query - 256 * k) (codes_of b.words)))
+    → dot ≡ code_dot (codes_of b.words) (filled (values_at query k)) → passed ≡ dot
+    → pos (block_distance (drop (256 * k) query) b) ≡ multiplied_out own.low own.step own.squares passed s
+far_as_kept query kept sums own b k dot passed s is_query is_b words inside is_s summed squares is_dot is_passed =
     let long : length kept ≡ length query = ap (λ (q : List ℤ). length q) is_query in
-    let far = far_from_block query b k (ap (λ (x : Block). length x.words) (sym is_b) ∙ words) squares total in
+    let far = far_from_block query b k (ap (λ (x : Block). length x.words) (sym is_b) ∙ words) squares in
     let own_sums = is_s ∙ at_front (sums_at kept) sums ((length kept + 255) / 256) k s summed (omega (arith, inside, long))
     ∙ ap (λ (q : List ℤ). sums_at q k) is_query in
     far
-    ∙ ap (λ (x : Block). multiplied_out x.step x.squares
-    (moved_dot x.middle x.total (code_dot (codes_of b.words) (filled (values_at query k)))) (moved x.middle (sums_at query k))) (sym is_b)
-    ∙ ap (λ z. multiplied_out own.step own.squares (moved_dot own.middle own.total z) (moved own.middle (sums_at query k))) (sym is_dot)
-    ∙ ap (λ z. multiplied_out own.step own.squares (moved_dot z own.total dot) (moved z (sums_at query k))) (sym is_middle)
-    ∙ ap (λ z. multiplied_out own.step own.squares z (moved middle (sums_at query k))) (sym is_passed)
-    ∙ ap (λ z. multiplied_out own.step own.squares passed (moved middle z)) (sym own_sums)
+    ∙ ap (λ z. multiplied_out b.low b.step b.squares z (sums_at query k)) (sym (is_passed ∙ is_dot))
+    ∙ ap (multiplied_out b.low b.step b.squares passed) (sym own_sums)
+    ∙ ap (λ (x : Block). multiplied_out x.low x.step x.squares passed s) (sym is_b)

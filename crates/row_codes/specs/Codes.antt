@@ -1,48 +1,43 @@
--- Codes of values: a code c, from 0 to 15, stands for half of step * (2 c - 15). So 16 codes lie side by side around 0, a step apart,
--- and what is kept of a value is its code.
-use Rattle.std.specs.Prelude.{ℕ, ℤ, pos, negsuc, ◌+◌, ◌*◌, ◌/◌, ◌%◌, ◌+ℤ◌, ◌-ℤ◌, ◌*ℤ◌, List, [], ◌∷◌, ◌++◌, map, max, slice_index, unsigned_abs}
+-- Codes of values: from the least value of a block to the greatest lie 16 equal steps at most, and what is kept of a value is the number of
+-- its step, from 0 to 15. A code stands for the middle of its step, rounded down. Values are counted from the least of 16 bits.
+use Rattle.std.specs.Prelude.{ℕ, ℤ, pos, ◌+◌, ◌-◌, ◌*◌, ◌/◌, ◌%◌, ◌+ℤ◌, ◌-ℤ◌, List, [], ◌∷◌, ◌++◌, map, max, min, slice_index, unsigned_abs}
 use Rattle.std.specs.List.{range_with_len}
 use Rattle.row_codes.specs.Roots.{square}
 
--- how far a value lies from the middle: from 0 where it is there or above, else from -1
-abbrev pub from_middle : ℤ → ℕ
-from_middle (pos n) = n
-from_middle (negsuc n) = n
+-- a value, counted from the least that there is
+abbrev pub raised : ℤ → ℕ
+raised x = unsigned_abs (x +ℤ pos 32768)
 
--- how far the farthest of some values does
-abbrev pub reach : List ℤ → ℕ
-reach [] = 0
-reach (x ∷ xs) = max (from_middle x) (reach xs)
+-- the least of some values, so counted
+abbrev pub least : List ℤ → ℕ
+least [] = 65535
+least (x ∷ xs) = min (raised x) (least xs)
 
--- the least step with which 8 codes on each side reach as far as all of them do
+-- and the greatest
+abbrev pub greatest : List ℤ → ℕ
+greatest [] = 0
+greatest (x ∷ xs) = max (raised x) (greatest xs)
+
+-- the least step of which 16 reach from the least of some values to the greatest
 abbrev pub step_of : List ℤ → ℕ
-step_of xs = reach xs / 8 + 1
+step_of xs = (greatest xs - least xs) / 16 + 1
 
--- the code of a value: how many steps lie between the least value that is coded and it
-abbrev pub code_of : ℕ → ℤ → ℕ
-code_of step x = unsigned_abs (x +ℤ pos (8 * step)) / step
+-- the code of a value: how many steps lie between the least value and it
+abbrev pub code_of : ℕ → ℕ → ℤ → ℕ
+code_of low step x = (raised x - low) / step
 
--- where a code stands, in halves of a step: from -15 to 15
-abbrev pub place : ℕ → ℤ
-place c = pos (2 * c) -ℤ pos 15
+-- what a code stands for
+abbrev pub picture_of : ℕ → ℕ → ℕ → ℤ
+picture_of low step c = pos (low + step * c + step / 2) -ℤ pos 32768
 
--- twice what codes stand for
-abbrev pub pictured : ℕ → List ℕ → List ℤ
-pictured step cs = map (λ c. pos step *ℤ place c) cs
+-- what codes stand for
+abbrev pub pictured : ℕ → ℕ → List ℕ → List ℤ
+pictured low step cs = map (picture_of low step) cs
 
--- twice some values
-abbrev pub doubled : List ℤ → List ℤ
-doubled xs = map (λ x. pos 2 *ℤ x) xs
-
--- the squares of the places of some codes, added up
-abbrev pub places_squared : List ℕ → ℕ
-places_squared [] = 0
-places_squared (c ∷ cs) = square (unsigned_abs (place c)) + places_squared cs
-
--- the sum of some codes
-abbrev pub code_total : List ℕ → ℕ
-code_total [] = 0
-code_total (c ∷ cs) = c + code_total cs
+-- the squares of some values, added up
+abbrev pub value_squares : List ℤ → ℕ
+value_squares [] = 0
+value_squares (x ∷ xs) = square (unsigned_abs x) + value_squares xs
 
 -- the codes that words of 16 bits hold, four each: first those in the lowest bits of all words, then the next ones up
 abbrev pub codes_of : List ℕ → List ℕ

@@ -1,7 +1,6 @@
 -- The definitions of this crate, and those of the crates below that its public clauses cite.
 pub mod Roots
 pub mod Codes
-pub mod Middle
 pub mod Rows
 pub mod Bound
 pub mod Lanes

@@ -1,121 +1,130 @@
-//! Codes of the values of one block. A code is found by a product with a reciprocal of the step in place of a
-//! division; it is exact, since no value lies outside of the 16 codes.
-ghost use Rattle.std.specs.Prelude.{◌≡◌, ◌+◌, ◌-◌, ◌*◌, ◌/◌, ◌<◌, ◌≤◌, ◌+ℤ◌, ◌*ℤ◌, ◌++◌, pos, length, map, replicate, unsigned_abs};
+//! Codes of the values of one block: the least and the greatest value, the step between codes, and what codes stand for and forget. A code
+//! is found by a product with a reciprocal of the step in place of a division; it is exact, since no value lies outside of the 16 codes.
+ghost use Rattle.std.specs.Prelude.{◌≡◌, ◌+◌, ◌-◌, ◌*◌, ◌/◌, ◌<◌, ◌≤◌, length, unsigned_abs};
 ghost use Rattle.std.specs.List.{All};
-ghost use Rattle.series_core.specs.Distance.{squared_difference, squared_distance};
-ghost use Rattle.row_codes.specs.Roots.{square};
-ghost use Rattle.row_codes.specs.Codes.{code_of, code_total, doubled, from_middle, packed, pictured, place, places_squared, reach, step_of};
+ghost use Rattle.row_codes.specs.Codes.{greatest, least, packed, picture_of, pictured, raised, step_of, value_squares};
+ghost use Rattle.row_codes.specs.Rows.{block_codes, forgotten, value_codes};
 
-/// How far the farthest of some values lies from the middle.
-fn reach_of(values: &[i16]) -> u16
-    ensures value { result ≡ reach values.now }
-    ensures limit { result < 32768 }
-{
-    let mut far = 0;
-    for i in 0..values.len() {
-        far = from_middle(values[i]).max(far);
-    }
-    far
-}
+use crate::sums::square_of;
 
-/// The least step with which the codes reach as far as all of some values do.
-pub(crate) fn step_of(values: &[i16]) -> u16
-    ensures value { result ≡ step_of values.now }
-    ensures limit { result ≤ 4096 }
-    ensures reached { reach values.now < 8 * result }
-{
-    reach_of(values) / 8 + 1
-}
-
-/// How far a value lies from the middle.
+/// A value, counted from the least of 16 bits.
 #[inline(always)]
-fn from_middle(value: i16) -> u16
-    ensures value { result ≡ from_middle value }
-    ensures limit { result < 32768 }
+fn raised(value: i16) -> u16
+    ensures { result ≡ raised value }
 {
-    if value < 0 {
-        (-1 - value) as u16
-    } else {
-        value as u16
-    }
+    (i32::from(value) + 32768) as u16
 }
 
-/// The codes of at most 256 values, none of which lies outside of the codes; behind them the code of 0.
-pub(crate) fn codes_of(values: &[i16], step: u16) -> [u16; 256]
+/// The least of some values, counted from the least of 16 bits.
+pub(crate) fn least_of(values: &[i16]) -> u16
+    ensures { result ≡ least values.now }
+{
+    let mut low = 65535;
+    for i in 0..values.len() {
+        low = raised(values[i]).min(low);
+    }
+    low
+}
+
+/// The greatest of some values, counted so.
+pub(crate) fn greatest_of(values: &[i16]) -> u16
+    ensures { result ≡ greatest values.now }
+{
+    let mut high = 0;
+    for i in 0..values.len() {
+        high = raised(values[i]).max(high);
+    }
+    high
+}
+
+/// The least step of which 16 reach from the least of some values to the greatest.
+pub(crate) fn step_of(low: u16, high: u16) -> u16
+    ensures value { result ≡ (high - low) / 16 + 1 }
+    ensures limit { result ≤ 4096 }
+    ensures top { low + 15 * result ≤ 65550 }
+{
+    high.saturating_sub(low) / 16 + 1
+}
+
+/// The codes of at most 256 values, by their least one and their step; behind them zeros.
+pub(crate) fn codes_of(values: &[i16], low: u16, step: u16) -> [u16; 256]
     requires few { length values.now ≤ 256 }
-    requires step { step ≤ 4096 }
-    requires reached { reach values.now < 8 * step }
-    ensures value { result ≡ map (code_of step) values.now ++ replicate (256 - length values.now) 8 }
+    requires low { low ≡ least values.now }
+    requires step { step ≡ step_of values.now }
+    requires limit { step ≤ 4096 }
+    ensures value { result ≡ block_codes values.now }
     ensures small { All (λ c. c < 16) result }
 {
     let step = u32::from(step);
     let reciprocal = 268435456 / step + 1;
-    let mut codes = [8; 256];
+    let mut codes = [0; 256];
     for i in 0..values.len() {
-        codes[i] = code_of(values[i], step, reciprocal);
+        codes[i] = code_of(raised(values[i]) - low, step, reciprocal);
     }
     codes
 }
 
-/// The code of a value that lies within the codes, by a reciprocal of the step.
+/// The code of a value that lies so far above the least one, by a reciprocal of the step.
 #[inline(always)]
-fn code_of(value: i16, step: u32, reciprocal: u32) -> u16
+fn code_of(above: u16, step: u32, reciprocal: u32) -> u16
     requires step { step ≤ 4096 }
-    requires reached { from_middle value < 8 * step }
+    requires near { above < 16 * step }
     requires reciprocal { reciprocal ≡ 268435456 / step + 1 }
-    ensures value { result ≡ code_of step value }
+    ensures value { result ≡ above / step }
     ensures small { result < 16 }
 {
-    (above(value, step) * reciprocal / 268435456) as u16
+    (u32::from(above) * reciprocal / 268435456) as u16
 }
 
-/// How far a value lies above the least one that is coded.
+/// What a code stands for.
 #[inline(always)]
-fn above(value: i16, step: u32) -> u32
+fn picture(code: u16, low: u16, step: u16) -> i32
+    requires code { code < 16 }
     requires step { step ≤ 4096 }
-    requires reached { from_middle value < 8 * step }
-    ensures value { result ≡ unsigned_abs (value +ℤ pos (8 * step)) }
-    ensures small { result < 16 * step }
+    requires top { low + 15 * step ≤ 65550 }
+    ensures value { result ≡ picture_of low step code }
+    ensures small { unsigned_abs result ≤ 34830 }
 {
-    (i32::from(value) + 8 * step as i32) as u32
+    let code = u32::from(code);
+    let step = u32::from(step);
+    (u32::from(low) + step * code + step / 2) as i32 - 32768
 }
 
-/// The squares of the places of codes, added up.
-pub(crate) fn squares_of(codes: &[u16]) -> u16
+/// The squares of what codes stand for, added up. They are added in two halves of 16 bits, whose sums take 32.
+pub(crate) fn squares_of(codes: &[u16], low: u16, step: u16) -> u64
     requires few { length codes.now ≤ 256 }
     requires small { All (λ c. c < 16) codes.now }
-    ensures { result ≡ places_squared codes.now }
+    requires step { step ≤ 4096 }
+    requires top { low + 15 * step ≤ 65550 }
+    ensures value { result ≡ value_squares (pictured low step codes.now) }
+    ensures small { result ≤ 4398046511104 }
 {
-    let mut squares = 0;
+    let (mut small, mut great) = (0u32, 0u32);
     for i in 0..codes.len() {
-        squares += place_squared(codes[i]);
+        let square = square_of(picture(codes[i], low, step));
+        small += square % 65536;
+        great += square / 65536;
     }
-    squares
+    u64::from(small) + 65536 * u64::from(great)
 }
 
-/// The sum of codes.
-pub(crate) fn total_of(codes: &[u16]) -> u16
-    requires few { length codes.now ≤ 256 }
+/// What the codes of at most 256 values forget.
+pub(crate) fn forgotten_of(values: &[i16], codes: &[u16], low: u16, step: u16) -> u64
+    requires few { length values.now ≤ 256 }
+    requires codes { codes.now ≡ value_codes values.now }
     requires small { All (λ c. c < 16) codes.now }
-    ensures value { result ≡ code_total codes.now }
-    ensures limit { result ≤ 3840 }
+    requires low { low ≡ least values.now }
+    requires step { step ≡ step_of values.now }
+    requires limit { step ≤ 4096 }
+    requires top { low + 15 * step ≤ 65550 }
+    ensures value { result ≡ forgotten values.now }
+    ensures small { result ≤ length values.now * 4194304 }
 {
-    let mut total = 0;
-    for i in 0..codes.len() {
-        total += codes[i];
+    let mut lost = 0u32;
+    for i in 0..values.len() {
+        lost += square_of(i32::from(values[i]) - picture(codes[i], low, step));
     }
-    total
-}
-
-/// The square of the place of a code.
-#[inline(always)]
-fn place_squared(code: u16) -> u16
-    requires { code < 16 }
-    ensures value { result ≡ square (unsigned_abs (place code)) }
-    ensures small { result ≤ 225 }
-{
-    let place = (2 * code).abs_diff(15);
-    place * place
+    u64::from(lost)
 }
 
 /// The words of 256 codes.

@@ -1,6 +1,6 @@
 //! Four queries against the codes of a row at once: what the words hold is taken out once for all of them, so each costs less than alone.
 ghost use Rattle.std.specs.Prelude.{◌≡◌, ◌+◌, ◌-◌, ◌*◌, ◌<◌, ◌≤◌, ◌&&◌, ◌∷◌, [], drop, length, leb, take};
-ghost use Rattle.row_codes.specs.Codes.{code_total, codes_of, places_squared};
+ghost use Rattle.row_codes.specs.Codes.{codes_of, pictured, value_squares};
 ghost use Rattle.row_codes.specs.Bound.{AreCodesFor, block_distance, bound_at, each_within};
 ghost use Rattle.row_codes.specs.Lanes.{IsBlockDot};
 ghost use Rattle.row_codes.specs.Kept.{filled, values_at};
@@ -122,12 +122,11 @@ fn behind(
 ) -> Standing
     requires inside { 256 * k < length view.now }
     requires squares { code.now.squares
-        ≡ places_squared (take (length view.now - 256 * k) (codes_of code.now.words)) }
-    requires total { code.now.total ≡ code_total (take (length view.now - 256 * k) (codes_of code.now.words)) }
+        ≡ value_squares (pictured code.now.low code.now.step (take (length view.now - 256 * k) (codes_of code.now.words))) }
     requires dot { IsBlockDot code.now.words (filled (values_at view.now k)) dot }
-    requires small { before.squared ≤ 17867047174144 * k }
+    requires small { before.squared ≤ 8000000000000 * k }
     ensures squared { result.squared ≡ before.squared + block_distance (drop (256 * k) view.now) code.now }
-    ensures small { result.squared ≤ 17867047174144 * (k + 1) }
+    ensures small { result.squared ≤ 8000000000000 * (k + 1) }
     ensures within { result.within ≡ (before.within && leb (bound_at result.squared code.now.rest) limit.now) }
 {
     let squared = before.squared + view.far_from(k, code, dot);

@@ -42,15 +42,15 @@ impl CodeLimit {
         self.limit
     }
 
-    // Whether the bound up to the end of a block is at most the limit, of the square of how far twice the query lies from twice what codes
-    // stand for, and of how long what these forget is.
+    // Whether the bound up to the end of a block is at most the limit, of the square of how far the query lies from what codes stand for, and
+    // of twice how long what these forget is.
     #[inline(always)]
     pub(crate) fn allows(&self, squared: u64, rest: u32) -> bool
-        requires squared { squared < 2 ^ 53 }
+        requires squared { squared < 2 ^ 51 }
         requires rest { rest ≤ 33554432 }
         ensures { result ≡ leb (bound_at squared rest) self.now }
     {
         let above = self.length + u64::from(rest) + 1;
-        squared < above * above
+        4 * squared < above * above
     }
 }

@@ -1,7 +1,7 @@
 //! A query as bounds by codes see it, and the test whether a row may lie within a limit. The test stops behind the first block up to whose
 //! end the row is too far.
 ghost use Rattle.std.specs.Prelude.{◌≡◌, ◌+◌, ◌-◌, ◌*◌, ◌/◌, ◌<◌, ◌≤◌, ◌∷◌, [], drop, length, leb, slice_index_or, take};
-ghost use Rattle.row_codes.specs.Codes.{code_total, codes_of, places_squared};
+ghost use Rattle.row_codes.specs.Codes.{codes_of, pictured, value_squares};
 ghost use Rattle.row_codes.specs.Bound.{AreCodesFor, block_distance, code_bound};
 ghost use Rattle.row_codes.specs.Lanes.{AreBlockValues, IsBlockDot};
 ghost use Rattle.row_codes.specs.Kept.{filled, sums_at, values_at};
@@ -9,7 +9,7 @@ ghost use Rattle.row_codes.specs.Kept.{filled, sums_at, values_at};
 use crate::block::{BLOCK, CodeBlock};
 use crate::lanes::dot;
 use crate::limit::CodeLimit;
-use crate::sums::{QuerySums, moved_dot};
+use crate::sums::QuerySums;
 use series_core::values_fit;
 use std::marker::Model;
 
@@ -123,20 +123,18 @@ impl<'a> CodeView<'a> {
         values_of(self.query, &self.last, k)
     }
 
-    // How far twice the query lies from twice what the codes of block `k` stand for, squared, where the sum of their products is known.
+    // How far the query lies from what the codes of block `k` stand for, squared, where the sum of their products is known.
     #[inline(always)]
     pub(crate) fn far_from(&self, k: usize, code: &CodeBlock, dot: i32) -> u64
         requires inside { 256 * k < length self.now }
         requires squares { code.now.squares
-            ≡ places_squared (take (length self.now - 256 * k) (codes_of code.now.words)) }
-        requires total { code.now.total ≡ code_total (take (length self.now - 256 * k) (codes_of code.now.words)) }
+            ≡ value_squares (pictured code.now.low code.now.step (take (length self.now - 256 * k) (codes_of code.now.words))) }
         requires dot { IsBlockDot code.now.words (filled (values_at self.now k)) dot }
         ensures value { result ≡ block_distance (drop (256 * k) self.now) code.now }
-        ensures small { result ≤ 17867047174144 }
+        ensures small { result ≤ 8000000000000 }
         ensures limit { length self.now ≤ 65536 }
     {
-        let own = moved_dot(dot, code.middle, code.total);
-        sums_of(&self.sums, k).distance_about(code.middle, code.step, code.squares, own)
+        sums_of(&self.sums, k).distance(code.low, code.step, code.squares, dot)
     }
 }
 

@@ -1,7 +1,6 @@
 -- One block more.
 use Rattle.std.proofs.Common.{◌∙◌, ◌+◌, ◌*◌, ◌<◌, ap, arith, length, drop}
 use Rattle.std.proofs.lemmas.List.{length-take}
-use Rattle.row_codes.specs.Middle.{centred}
 use Rattle.row_codes.specs.Rows.{block_count, block_of, forgotten}
 use Rattle.row_codes.proofs.Blocks.{blocks_more, cut_out}
 use Rattle.row_codes.proofs.block.code_row.Goals as goal
@@ -18,6 +17,6 @@ loop-k-preserved c =
       whole = blocks_more row c.loop-k.codes k (block_count (length row)) c.loop-k.before c.of-block.result.1 c.of-block.result.0
           inside left c.loop-k.invariant.whole
           (c.of-block.ensures.block ∙ ap (block_of c.loop-k.before) cut)
-          (c.of-block.ensures.forgotten ∙ ap (λ xs. c.loop-k.before + forgotten (centred xs)) cut);
+          (c.of-block.ensures.forgotten ∙ ap (λ xs. c.loop-k.before + forgotten xs) cut);
       small = omega (arith, c.of-block.ensures.small, c.loop-k.invariant.small, ap length cut, few);
     }

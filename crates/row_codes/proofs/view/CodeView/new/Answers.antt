@@ -1,7 +1,8 @@
 -- The sums of one block more.
-use Rattle.std.proofs.Common.{◌∙◌, ◌*◌, ap, arith}
+use Rattle.std.proofs.Common.{◌∙◌, ◌*◌, arith}
 use Rattle.std.proofs.lemmas.List.{length-set}
-use Rattle.row_codes.specs.Kept.{sums_at, sums_over}
+use Rattle.row_codes.specs.Codes.{value_squares}
+use Rattle.row_codes.specs.Kept.{sums_at, value_total}
 use Rattle.row_codes.proofs.Blocks.{cut_out}
 use Rattle.row_codes.proofs.Packed.{front_more}
 use Rattle.row_codes.proofs.view.CodeView.new.Goals as goal
@@ -16,5 +17,5 @@ loop-k-preserved c =
       long = length-set c.loop-k.sums k c.of.result ∙ long;
       front = front_more (sums_at query) c.loop-k.sums k c.of.result (omega (arith, long, c.loop-k-test.true, c.requires))
           c.loop-k.invariant.front
-          (c.of.ensures ∙ ap sums_over cut);
+          (c.of.ensures ∙ (λ i. record { total = value_total (cut i); squares = value_squares (cut i) }));
     }
