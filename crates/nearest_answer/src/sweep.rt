@@ -18,13 +18,11 @@ pub(crate) fn answer_by_codes<R: Rows>(search: &Search<'_, R>, limit: u64, mut l
     ensures { let a = search.now.question in result.pairs ≡ answer a.collection a.query a.k }
 {
     let index = search.index();
-    sweep(
-        search.task(),
-        index.members(),
-        index.codes(),
-        limit,
-        &mut list,
-    );
+    let task = search.task();
+    match index.codes() {
+        Some(codes) => sweep(task, index.members(), codes, limit, &mut list),
+        None => measure_all(task, index.members(), limit, &mut list),
+    }
     list
 }
 
