@@ -8,7 +8,7 @@ ghost use Rattle.discord_query.specs.Searches.{IsNear, IsReady};
 use crate::recent::{Known, RECENT, Recent};
 use best_word::Floor;
 use isax_word::Layout;
-use mean_bound::{MeanView, Means};
+use mean_bound::{MeanBox, MeanView, Means};
 use nearest_answer::{Task, one_worker_answer};
 use outside::NoMemory;
 use series_core::{NONE, Pair, Rows};
@@ -53,6 +53,14 @@ fn is_within(view: &MeanView, means: &[Means], i: usize, radius: u64) -> bool {
     match means.get(i) {
         Some(means) => view.bound(means) <= radius,
         None => true,
+    }
+}
+
+/// Whether the bound of a box, if there is one, leaves none of a leaf's members within a radius.
+fn is_far(view: &MeanView, own: Option<&MeanBox>, radius: u64) -> bool {
+    match own {
+        Some(own) => view.bound_box(own) > radius,
+        None => false,
     }
 }
 
@@ -143,7 +151,7 @@ impl<'a, R: Rows> Search<'a, R> {
         requires number { number < length (R.collection self.now.rows.now).series }
         ensures { IfSome result (λ t. IsNear (R.collection self.now.rows.now) number t radius) }
     {
-        if leaf >= self.index.leaf_count() || view.bound_box(self.index.leaf_box(leaf)) > radius {
+        if leaf >= self.index.leaf_count() || is_far(view, self.index.leaf_box(leaf), radius) {
             return None;
         }
         let means = self.index.leaf_means(leaf);

@@ -11,7 +11,7 @@ use row_codes::{CodeBlock, CodeLimit};
 use search_task::{Search, Task, codes_at_place, most_to_add};
 use series_core::{KBest, Rows};
 
-/// The list of the answer, by the codes of all members' rows, in an empty list's room.
+/// The list of the answer, by the codes of all members' rows, in an empty list's room. Without codes all rows are measured.
 pub(crate) fn answer_by_codes<R: Rows>(search: &Search<'_, R>, limit: u64, mut list: KBest) -> KBest
     requires limit { last_of search.now.question ≤ limit }
     requires empty { list ≡ record { k = search.now.question.k; pairs = [] } }
@@ -19,10 +19,12 @@ pub(crate) fn answer_by_codes<R: Rows>(search: &Search<'_, R>, limit: u64, mut l
 {
     let index = search.index();
     let task = search.task();
-    match index.codes() {
-        Some(codes) => sweep(task, index.members(), codes, limit, &mut list),
-        None => measure_all(task, index.members(), limit, &mut list),
-    }
+    let members = index.members();
+    let Some(codes) = index.codes() else {
+        task.measure_members(members, limit, &mut list);
+        return list;
+    };
+    sweep(task, members, codes, limit, &mut list);
     list
 }
 

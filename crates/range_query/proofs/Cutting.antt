@@ -127,11 +127,11 @@ module _ (a : Asked) (ix : IndexParts) (view : View) (is : IsAsked a ix view) wh
       omega (arith, above, own, inner, one, mean_is_below (get_or members k d).number low))
 
   -- in a leaf whose word has a bound above the radius nothing is near
-  pub far_word : (l : ℕ) → l < length ix.leaves → a.radius < word_bound view (leaf_at ix.leaves l).word → near_leaf a ix.leaves l ≡ []
-  far_word l inside above =
+  pub far_word : (l : ℕ) → l < length ix.leaves → All IsPart (leaf_at ix.leaves l).word
+      → a.radius < word_bound view (leaf_at ix.leaves l).word → near_leaf a ix.leaves l ≡ []
+  far_word l inside parts above =
       let bounds =
-      members_no_nearer a.collection view.layout ix l a.query is.fits is.collection is.cuts is.points is.query inside
-      (leaf_has_word ix is.index l inside).parts in
+      members_no_nearer a.collection view.layout ix l a.query is.fits is.collection is.cuts is.points is.query inside parts in
       let same : word_bound view (leaf_at ix.leaves l).word ≡ word_bound (view_of view.layout a.query) (leaf_at ix.leaves l).word =
       ap (λ v. word_bound v (leaf_at ix.leaves l).word) is.of_query in
       far_members a (leaf_at ix.leaves l).members (λ k d low. let b = bounds k d low in omega arith)

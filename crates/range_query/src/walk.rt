@@ -1,7 +1,7 @@
 //! The walk over one root child: it is cut where its bound is above the radius, and so is each leaf below it, by the box of its
 //! means; the members of the leaves that remain are tested by the bounds of their means and then by their distances. Where an index has
 //! no means, a leaf is cut by the bound of its word, and its members are tested by their distances alone.
-ghost use Rattle.std.specs.Prelude.{◌≡◌, ◌<◌, ◌≤◌, ◌++◌, [], OnOk, length, true};
+ghost use Rattle.std.specs.Prelude.{◌≡◌, ◌<◌, ◌≤◌, ◌++◌, [], IsSome, OnOk, length, true};
 ghost use Rattle.std.specs.Option.{option_to_list};
 ghost use Rattle.lower_bound.specs.Bound.{view_of};
 ghost use Rattle.mean_bound.specs.MeanBound.{mean_view_of};
@@ -130,7 +130,12 @@ impl<'a, R: Rows> Search<'a, R> {
     {
         match self.index.leaf_box(leaf) {
             Some(own) => self.means.bound_box(own) > self.radius,
-            None => self.view.bound_word(self.index.leaf_word(leaf)) > self.radius,
+            None => {
+                let word = self.index.leaf_word(leaf);
+                // for the fact that it is a word
+                let _segments = word.segments();
+                self.view.bound_word(word) > self.radius
+            }
         }
     }
 
@@ -145,9 +150,21 @@ impl<'a, R: Rows> Search<'a, R> {
         if self.is_cut(leaf) {
             return Ok(());
         }
-        if !self.index.has_means() {
-            return self.measure_all(leaf, found);
+        if self.index.has_means() {
+            self.test_all(leaf, found)
+        } else {
+            self.measure_all(leaf, found)
         }
+    }
+
+    /// The same of a leaf that is not cut, whose members have means.
+    fn test_all(&self, leaf: u32, found: &mut Vec<Pair>) -> Result<(), NoMemory>
+        requires ready { IsReady R.collection self.now }
+        requires leaf { leaf < length self.now.index.now.leaves }
+        requires means { IsSome self.now.index.now.means }
+        ensures { let near = near_leaf (asked_of R.collection self.now) self.now.index.now.leaves leaf in
+            OnOk result (found.new.items ≡ found.old.items ++ near) }
+    {
         let members = self.index.leaf_members(leaf);
         let means = self.index.leaf_means(leaf);
         for i in 0..members.len() {

@@ -103,7 +103,7 @@ module _ (a : Question) (m : Member) (is : IsQuestion a) (real : m.number < leng
       omega (arith, bound_below (take (coded_points c) row) (coded_query c a.query) coded_alike, front_below (coded_points c) row a.query)
 
 -- the members of all leaves are members of the question's collection
-all_are_members : (a : Question) (ix : IndexParts) → CanBeSearched a ix
+pub all_are_members : (a : Question) (ix : IndexParts) → CanBeSearched a ix
     → All (IsMemberOf a) (flat_map (λ (x : TreeLeaf). x.members) ix.leaves)
 all_are_members a ix searched =
     let P : TreeLeaf → Type 0 = λ x. All (IsMemberOf a) x.members in

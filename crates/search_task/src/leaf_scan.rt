@@ -29,13 +29,13 @@ impl<'a, R: Rows> Search<'a, R> {
         let index = self.index;
         let members = index.leaf_members(leaf);
         // once a leaf, so that no member of an index with tables waits for the test
-        if !index.has_tables() {
-            self.task.measure_members(members, limit, list);
-            return;
+        if index.has_tables() {
+            let means = index.leaf_means(leaf);
+            let codes = index.leaf_codes(leaf);
+            self.task.scan_members(members, means, codes, limit, list)
+        } else {
+            self.task.measure_members(members, limit, list)
         }
-        let means = index.leaf_means(leaf);
-        let codes = index.leaf_codes(leaf);
-        self.task.scan_members(members, means, codes, limit, list);
     }
 
     /// The same for each member of a leaf, but where the box of their means is too far, nothing of the leaf is read.
@@ -61,13 +61,14 @@ impl<'a, R: Rows> Search<'a, R> {
         ensures { result ≡ false
             → limit.now < (ground_of self.now).distance (slice_index (leaf_series self.now.index leaf) place) }
     {
-        if !self.index.has_codes() {
-            return true;
+        if self.index.has_codes() {
+            let members = self.index.leaf_members(leaf);
+            let codes = self.index.leaf_codes(leaf);
+            self.task
+                .codes_at_may_be_within(members, codes, place, limit)
+        } else {
+            true
         }
-        let members = self.index.leaf_members(leaf);
-        let codes = self.index.leaf_codes(leaf);
-        self.task
-            .codes_at_may_be_within(members, codes, place, limit)
     }
 
     /// A bound that is above the distance of no member of the leaf: that of the box of their means, or without means that of its word.
@@ -138,16 +139,16 @@ impl<'a, R: Rows> Task<'a, R> {
         }
     }
 
-    // Measures each of the members with this limit into a list.
-    fn measure_members(&self, members: &[Member], limit: u64, list: &mut KBest)
+    /// Measures each of the members with this limit into a list.
+    pub fn measure_members(&self, members: &[Member], limit: u64, list: &mut KBest)
         requires members { All (IsMemberOf self.now) members.now }
         requires k { list.old.k ≡ self.now.k }
         ensures k { list.new.k ≡ self.now.k }
         ensures pairs { AreScanned self.now limit (numbers_of members.now) list.old.pairs list.new.pairs }
     {
         let mut most = most_to_add(limit, list);
-        for i in 0..members.len() {
-            let member = &members[i];
+        for place in 0..members.len() {
+            let member = &members[place];
             most = self.measure(member.number, limit, most, list);
         }
     }

@@ -33,8 +33,8 @@ codes_at_may_be_within-requires-clause-place g c =
     place_inside _ c.args.self.now c.args.leaf c.args.place c.leaf_members-members.result.now c.self.view_is
     c.leaf_members-members.ensures c.requires.place
 
-pub returns : goal.returns
-returns g c above =
+pub returns-then-has_codes : goal.returns-then-has_codes
+returns-then-has_codes g c above =
     subst (λ (s : Searched). c.args.limit.now < (ground_of s).distance (slice_index (leaf_series s.index c.args.leaf) c.args.place))
     c.self.view_is
     (subst (λ (ms : List Member). c.args.limit.now

@@ -27,8 +27,8 @@ scan_members-requires-clause-coded g c =
     (leaf_is_there _ c.args.self.now c.args.leaf c.self.view_is c.requires.leaf) c.leaf_members-members.ensures
     c.leaf_codes-codes.ensures
 
-pub returns-clause-pairs : goal.returns-clause-pairs
-returns-clause-pairs g c =
+pub returns-then-has_tables-clause-pairs : goal.returns-then-has_tables-clause-pairs
+returns-then-has_tables-clause-pairs g c =
     subst (λ (s : Searched). AreScanned s.question c.args.limit (leaf_series s.index c.args.leaf) c.args.list.now.pairs
     c.scan_members.new.list.pairs)
     c.self.view_is
@@ -37,15 +37,15 @@ returns-clause-pairs g c =
     c.leaf_members-members.ensures
     c.scan_members.ensures.pairs)
 
-pub measure_members-requires : goal.measure_members-requires
-measure_members-requires g c =
+pub measure_members-requires-clause-members : goal.measure_members-requires-clause-members
+measure_members-requires-clause-members g c =
     let a = c.self.inside.task.now in
     subst (λ (ms : List Member). All (IsMemberOf a) ms) (sym c.leaf_members-members.ensures)
     (leaf_is_members a c.self.inside.index.now c.args.leaf c.self.invariant
     (leaf_is_there _ c.args.self.now c.args.leaf c.self.view_is c.requires.leaf))
 
-pub returns-then-has_tables-clause-pairs : goal.returns-then-has_tables-clause-pairs
-returns-then-has_tables-clause-pairs g c =
+pub returns-else-has_tables-clause-pairs : goal.returns-else-has_tables-clause-pairs
+returns-else-has_tables-clause-pairs g c =
     subst (λ (s : Searched). AreScanned s.question c.args.limit (leaf_series s.index c.args.leaf) c.args.list.now.pairs
     c.measure_members.new.list.pairs)
     c.self.view_is

@@ -4,5 +4,5 @@ use Rattle.subtree_build.specs.Members.{numbers_of}
 use Rattle.search_task.proofs.Meeting.{IsScanning}
 use Rattle.search_task.proofs.task.Task.measure_members.Given as goal
 
-abbrev pub invariant-loop-i : goal.invariant-loop-i
-invariant-loop-i g l = IsScanning l.self l.fn.limit (numbers_of (take l.i l.fn.members)) l.fn.list.pairs l.list l.most
+abbrev pub invariant-loop-place : goal.invariant-loop-place
+invariant-loop-place g l = IsScanning l.self l.fn.limit (numbers_of (take l.place l.fn.members)) l.fn.list.pairs l.list l.most
