@@ -103,19 +103,15 @@ impl<'a, R: Rows> Search<'a, R> {
         true
     }
 
-    /// A series with its means, looked up in its leaf.
-    fn known(&self, number: u32) -> Known {
-        let leaf = self.homes.get(number as usize).copied().unwrap_or(0);
-        if leaf < self.index.leaf_count() {
-            let means = self.index.leaf_means(leaf);
-            for (i, member) in self.index.leaf_members(leaf).iter().enumerate() {
-                if member.number == number {
-                    let means = means.get(i).copied().unwrap_or(Means::zeros());
-                    return Known { number, means };
-                }
-            }
+    /// A series with its means. Its row was just measured, so it is near at hand.
+    fn known(&self, number: u32) -> Known
+        requires ready { IsReady R.collection self.now }
+    {
+        if number >= self.rows.count() {
+            return Known::nobody();
         }
-        Known::nobody()
+        let means = Means::of(&self.layout.cuts, self.rows.row(number));
+        Known { number, means }
     }
 
     /// Another series within a radius of this one, if one is found. It is sought from the series' own leaf outwards, since leaves that

@@ -182,7 +182,8 @@ impl<'a, R: Rows> Search<'a, R> {
     {
         let members = self.index.leaf_members(leaf);
         for i in 0..members.len() {
-            keep(found, self.measured(members[i].number))?;
+            let member = &members[i];
+            keep(found, self.measured(member.number))?;
         }
         Ok(())
     }

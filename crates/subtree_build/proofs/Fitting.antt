@@ -1,5 +1,5 @@
 -- An index that is the tree of a collection fits it (`tree_fits`), as does one whose tree fits, with the means and the codes of its
--- members' series beside it (`with_tables_fits`) or with none (`bare_fits`).
+-- members' series beside it (`with_tables_fits`) or with none (`bare_fits`, `tree_alone_fits`).
 use Rattle.std.proofs.Common.{◌≡◌, ℕ, ◌+◌, ◌^◌, List, [], ◌∷◌, ◌++◌, length, map, refl, sym, ap, ◌∙◌, subst, All}
 use Rattle.std.specs.Prelude.{IfSome, None, Option, Some, flat_map}
 use Rattle.std.proofs.lemmas.List.Elements.{All-nil, All-append, All-filter}
@@ -18,7 +18,7 @@ use Rattle.subtree_build.specs.Tree.{Tree, leaves_of}
 use Rattle.subtree_build.specs.Division.{bits_left, roots_of, root_child, tree, tree_leaves}
 use Rattle.subtree_build.specs.Index.{IndexParts}
 use Rattle.subtree_build.specs.Means.{leaf_means, leaf_codes}
-use Rattle.subtree_build.specs.Fits.{IsTreeOf, Fits, TreeFits, times_in, HasItsWord, MembersAreSeries, WordContainsMembers}
+use Rattle.subtree_build.specs.Fits.{IsTreeOf, Fits, FitsByTree, TreeFits, times_in, HasItsWord, MembersAreSeries, WordContainsMembers}
 use Rattle.subtree_build.proofs.ByNumber.{times_numbers}
 use Rattle.subtree_build.proofs.Partition.{total_in, total_divided, all_divided, total_by_roots}
 use Rattle.subtree_build.proofs.RootNumbers.{root_once}
@@ -159,6 +159,12 @@ module _ (c : Collection) (layout : Layout) (ix : IndexParts) where
     own_means = subst OwnMeans (sym means) tt;
     own_codes = subst OwnCodes (sym codes) tt;
   }
+
+-- what a tree fits it fits with nothing beside it
+pub tree_alone_fits : (ix : IndexParts) → FitsByTree ix (record ix { means = None; codes = None })
+tree_alone_fits ix c layout fits =
+    bare_fits c layout (record ix { means = None; codes = None })
+    (record { segments = fits.segments; each_once = fits.each_once; own_words = fits.own_words; contained = fits.contained }) refl refl
 
 -- an index that is the tree of a collection fits it
 pub tree_fits : (c : Collection) (layout : Layout) (size : ℕ) (ix : IndexParts) → IsDivision layout.cuts

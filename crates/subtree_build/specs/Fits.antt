@@ -55,6 +55,10 @@ pub record Fits (c : Collection) (layout : Layout) (ix : IndexParts) : Type 0 wh
   pub own_means : IfSome ix.means (λ means. means ≡ map (leaf_means c layout) ix.leaves)
   pub own_codes : IfSome ix.codes (λ codes. codes ≡ map (leaf_codes c) ix.leaves)
 
+-- an index fits what the tree of another does
+abbrev pub FitsByTree : IndexParts → IndexParts → Type 0
+FitsByTree ix jx = (c : Collection) (layout : Layout) → TreeFits c layout ix → Fits c layout jx
+
 -- an index with nothing beside its tree fits exactly where its tree does
 abbrev pub BareTreesFit : Type 0
 BareTreesFit = (c : Collection) (layout : Layout) (ix : IndexParts) → ix.means ≡ None → ix.codes ≡ None

@@ -5,7 +5,7 @@ ghost use Rattle.std.specs.List.{flat_map};
 ghost use Rattle.mean_bound.specs.Boxes.{box_of, box_of_boxes};
 ghost use Rattle.subtree_build.specs.Assembly.{HasMeansOf, IsOfParts, MakeIndex};
 ghost use Rattle.subtree_build.specs.BareTree.{HasSeries, IsBare, IsBareTreeOf, bare_parts};
-ghost use Rattle.subtree_build.specs.Fits.{Fits, IsTreeOf};
+ghost use Rattle.subtree_build.specs.Fits.{Fits, FitsByTree, IsTreeOf};
 ghost use Rattle.subtree_build.specs.Index.{HasTables, IsIndex, leaf_at, root_word_at};
 ghost use Rattle.subtree_build.specs.Means.{codes_at, means_at};
 ghost use Rattle.subtree_build.specs.Places.{AreTablesOf, IsPlace, IsRange};
@@ -105,9 +105,10 @@ impl Index {
         self.tree
     }
 
-    /// The same tree, with nothing beside it.
+    /// The same tree, with nothing beside it. It fits what its tree fits, so it can be searched, as slowly as its words alone allow.
     pub fn without_tables(self) -> Index
-        ensures { result ≡ record self { means = None; codes = None } }
+        ensures tree { result ≡ record self { means = None; codes = None } }
+        ensures fits { FitsByTree self result }
     {
         Index {
             tree: self.tree,
