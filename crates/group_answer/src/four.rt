@@ -52,10 +52,11 @@ impl<'a, R: Rows> Four<'a, R> {
         requires swept { AreSwept R.collection asked.now from self.old }
         ensures { AreSwept R.collection asked.now to self.new }
     {
-        let Some(codes) = asked.index.codes() else {
-            return;
-        };
-        self.sweep_codes(asked, codes, from, to);
+        match asked.index.codes() {
+            Some(codes) => self.sweep_codes(asked, codes, from, to),
+            // it has codes where a query is chosen
+            None => {}
+        }
     }
 
     // The same by the codes of all members.

@@ -3,7 +3,7 @@ use Rattle.std.specs.Prelude.{◌≡◌, ℕ, ◌<◌, ◌≤◌, ◌↔◌, ◌
 use Rattle.std.specs.List.{All}
 use Rattle.series_core.specs.Collection.{Collection, IsCollection}
 use Rattle.segment_sums.specs.Division.{IsDivision}
-use Rattle.row_codes.specs.Rows.{Block}
+use Rattle.subtree_build.specs.RowCodes.{Block}
 use Rattle.subtree_build.specs.declared.settings.Settings.{Settings}
 use Rattle.subtree_build.specs.Fits.{Fits, IsTreeOf}
 use Rattle.subtree_build.specs.Index.{IndexParts, IsIndex}

@@ -63,8 +63,8 @@ returns g c =
     (lent_searched c.args.search.now a ix c.task-task.ensures.task c.index-index.ensures.index c.task-task.ensures.searched)
     c.requires.limit c.requires.empty c.members-members.ensures c.sweep.ensures.pairs
 
-pub returns-in-None : goal.returns-in-None
-returns-in-None g c =
+pub returns-in_default : goal.returns-in_default
+returns-in_default g c =
     let a = c.task-task.result.now in
     let ix = c.index-index.result.now in
     all_scanned c.args.search.now a ix c.args.limit c.members-members.result.now c.args.list c.measure_members.new.list.pairs
