@@ -8,7 +8,7 @@ ghost use Rattle.discord_query.specs.Searches.{IsNear, IsReady};
 use crate::recent::{Known, RECENT, Recent};
 use best_word::Floor;
 use isax_word::Layout;
-use mean_bound::{MeanView, Means};
+use mean_bound::{MeanBox, MeanView, Means};
 use nearest_answer::{Task, one_worker_answer};
 use outside::NoMemory;
 use series_core::{NONE, Pair, Rows};
@@ -56,6 +56,14 @@ fn is_within(view: &MeanView, means: &[Means], i: usize, radius: u64) -> bool {
     }
 }
 
+/// Whether the bound of a box, if there is one, leaves none of a leaf's members within a radius.
+fn is_far(view: &MeanView, own: Option<&MeanBox>, radius: u64) -> bool {
+    match own {
+        Some(own) => view.bound_box(own) > radius,
+        None => false,
+    }
+}
+
 impl<'a, R: Rows> Search<'a, R> {
     /// The nearest other of a series: of two as near, the one with the smaller number. None where there is no other.
     pub fn other(&self, alloc: Global, number: u32) -> Result<Option<Pair>, NoMemory>
@@ -95,19 +103,15 @@ impl<'a, R: Rows> Search<'a, R> {
         true
     }
 
-    /// A series with its means, looked up in its leaf.
-    fn known(&self, number: u32) -> Known {
-        let leaf = self.homes.get(number as usize).copied().unwrap_or(0);
-        if leaf < self.index.leaf_count() {
-            let means = self.index.leaf_means(leaf);
-            for (i, member) in self.index.leaf_members(leaf).iter().enumerate() {
-                if member.number == number {
-                    let means = means.get(i).copied().unwrap_or(Means::zeros());
-                    return Known { number, means };
-                }
-            }
+    /// A series with its means. Its row was just measured, so it is near at hand.
+    fn known(&self, number: u32) -> Known
+        requires ready { IsReady R.collection self.now }
+    {
+        if number >= self.rows.count() {
+            return Known::nobody();
         }
-        Known::nobody()
+        let means = Means::of(&self.layout.cuts, self.rows.row(number));
+        Known { number, means }
     }
 
     /// Another series within a radius of this one, if one is found. It is sought from the series' own leaf outwards, since leaves that
@@ -143,7 +147,7 @@ impl<'a, R: Rows> Search<'a, R> {
         requires number { number < length (R.collection self.now.rows.now).series }
         ensures { IfSome result (λ t. IsNear (R.collection self.now.rows.now) number t radius) }
     {
-        if leaf >= self.index.leaf_count() || view.bound_box(self.index.leaf_box(leaf)) > radius {
+        if leaf >= self.index.leaf_count() || is_far(view, self.index.leaf_box(leaf), radius) {
             return None;
         }
         let means = self.index.leaf_means(leaf);

@@ -1,11 +1,12 @@
 -- Queries as they are swept: each member is met by its code (`are_codes`, `far_by_codes`) or measured (`met_more`); a query that has met
 -- all members has its answer (`answer_swept`).
 use Rattle.std.proofs.Common.{◌≡◌, ◌∙◌, ◌+◌, ◌*◌, ◌<◌, ◌≤◌, Bool, false, ℕ, ℤ, List, [], ◌∷◌, ◌++◌, ap, get_or, length, refl, subst, sym, take, drop, arith}
-use Rattle.std.specs.Prelude.{flat_map, leb}
+use Rattle.std.specs.Prelude.{None, Option, Some, flat_map, is_some, leb, option_map, true}
 use Rattle.std.specs.Borrow.{Bor}
 use Rattle.std.proofs.lemmas.List.{get_or_default, get_or-map, map_more, take_all}
 use Rattle.std.proofs.lemmas.List.Elements.{All-get_or}
-use Rattle.std.proofs.lemmas.Bool.{leb-false}
+use Rattle.std.proofs.lemmas.Bool.{false≢true, leb-false}
+use Rattle.std.proofs.lemmas.Option.{none-some}
 use Rattle.isax_word.specs.declared.member.Member.{Member}
 use Rattle.row_codes.specs.Bound.{AreCodesFor, code_bound}
 use Rattle.row_codes.specs.Rows.{Block, block_count}
@@ -19,7 +20,7 @@ use Rattle.subtree_build.specs.Members.{numbers_of, series_at}
 use Rattle.search_machine.specs.Ground.{last, scan}
 use Rattle.search_task.specs.Questions.{IsMemberOf, Question, coded_query, search_over}
 use Rattle.search_task.specs.Scanning.{AreCoded, IsScannedOne, MayAdd}
-use Rattle.search_task.proofs.CodeRows.{all_coded, codes_are_below, codes_at_one, codes_fit, codes_within, each_met}
+use Rattle.search_task.proofs.CodeRows.{all_are_members, all_coded, codes_are_below, codes_at_one, codes_fit, codes_within, each_met}
 use Rattle.search_task.proofs.Meeting.{IsScanning, meet_far, member_of, one_scanned}
 use Rattle.search_task.proofs.OfIndex.{answer_is, last_is, search_fits}
 use Rattle.group_answer.proofs.Scanned.{answer_scanned}
@@ -29,6 +30,11 @@ use Rattle.group_answer.specs.declared.asked.Asked.{Asked}
 use Rattle.group_answer.specs.declared.chosen.Chosen.{Chosen}
 use Rattle.group_answer.specs.declared.swept.Swept.{Swept}
 
+-- what is made of what is there is there too
+pub none_there : {X Y A : Type 0} (f : X → Y) (o : Option X) → None ≡ option_map f o → is_some o ≡ true → A
+none_there f None is some = absurd (false≢true some)
+none_there f (Some x) is some = absurd (none-some (f x) is)
+
 -- the number of the member at a place, as it is read there
 pub number_is : (ix : IndexParts) (i : ℕ) (members : List Member) (m : Member) → members ≡ members_of ix
     → i < length (members_of ix) → m ≡ get_or members i m → number_at ix i ≡ (get_or members i m).number
@@ -37,13 +43,9 @@ number_is ix i members m lent inside item =
     ∙ ap (λ (ms : List Member). (get_or ms i m).number) (sym lent)
 
 module _ {R : Type 0} (collection : R → Collection) (a : Asked R) where
-  -- the codes of all members, leaf after leaf
-  abbrev all_codes_of : List Block
-  all_codes_of = flat_map (λ (cs : List Block). cs) a.index.now.codes
-
-  -- the members and their codes are those of what a chosen query asks
-  are_coded : (c : Chosen R) → IsChosen collection a c → AreCoded c.task (members_of a.index.now) all_codes_of
-  are_coded c is = all_coded c.task a.index.now (members_of a.index.now) all_codes_of is.searched refl refl
+  -- these are the codes of all members, leaf after leaf
+  abbrev AreAllCodes : List Block → Type 0
+  AreAllCodes codes = Some codes ≡ option_map (flat_map (λ (cs : List Block). cs)) a.index.now.codes
 
   module _ (c : Chosen R) (is : IsChosen collection a c) (i : ℕ) (inside : i < length (members_of a.index.now)) where
     -- the member at a place
@@ -55,19 +57,21 @@ module _ {R : Type 0} (collection : R → Collection) (a : Asked R) where
 
     -- it is a series of what is asked
     is_member : IsMemberOf c.task member_there
-    is_member = All-get_or (IsMemberOf c.task) (members_of a.index.now) i (member_of c.task 0) inside (are_coded c is).members
+    is_member =
+        All-get_or (IsMemberOf c.task) (members_of a.index.now) i (member_of c.task 0) inside
+        (all_are_members c.task a.index.now is.searched)
 
     -- and its number is there
     pub number_real : number_at a.index.now i < length c.task.collection.series
     number_real = subst (λ (n : ℕ). n < length c.task.collection.series) (sym number_there) is_member.series
 
     module _ (n : ℕ) (codes own : List Block) (blocks : n ≡ block_count (coded_points (collection a.rows.now)))
-        (lent : codes ≡ all_codes_of) where
+        (lent : AreAllCodes codes) where
       own_blocks : n ≡ block_count (coded_points c.task.collection)
       own_blocks = blocks ∙ ap (λ (q : Question). block_count (coded_points q.collection)) (sym is.question)
 
       coded : AreCoded c.task (members_of a.index.now) codes
-      coded = subst (λ (bs : List Block). AreCoded c.task (members_of a.index.now) bs) (sym lent) (are_coded c is)
+      coded = all_coded c.task a.index.now (members_of a.index.now) codes is.searched refl lent
 
       -- the codes of a member lie within those of all
       pub own_within : i * n + n ≤ length codes
@@ -100,7 +104,7 @@ module _ {R : Type 0} (collection : R → Collection) (a : Asked R) where
   pub record IsPlace (i n : ℕ) (codes own : List Block) : Type 0 where
     pub inside : i < length (members_of a.index.now)
     pub blocks : n ≡ block_count (coded_points (collection a.rows.now))
-    pub lent : codes ≡ all_codes_of
+    pub lent : AreAllCodes codes
     pub taken : own ≡ take n (drop (i * n) codes)
 
   module _ {i n : ℕ} {codes own : List Block} (place : IsPlace i n codes own) (s : Swept R) (was : IsSwept collection a i s)

@@ -1,5 +1,5 @@
 -- Queries as they are swept: the members of all leaves are scanned, one after another, into the list of each.
-use Rattle.std.specs.Prelude.{◌≡◌, ℕ, ◌<◌, ◌≤◌, Bool, false, List, [], flat_map, slice_index, take}
+use Rattle.std.specs.Prelude.{◌≡◌, ℕ, ◌<◌, ◌≤◌, Bool, false, IsSome, List, [], flat_map, slice_index, take}
 use Rattle.isax_word.specs.declared.member.Member.{Member}
 use Rattle.series_core.specs.Collection.{Collection}
 use Rattle.series_core.specs.Distance.{squared_distance}
@@ -21,11 +21,13 @@ members_of ix = flat_map (λ x. x.members) ix.leaves
 abbrev pub number_at : IndexParts → ℕ → ℕ
 number_at ix place = slice_index (numbers_of (members_of ix)) place
 
--- a query that may be swept: its task asks what it asks, the index can be searched for that, and its limit is not below its last distance
+-- a query that may be swept: its task asks what it asks, the index can be searched for that and has codes, and its limit is not below its
+-- last distance
 pub record IsChosen {R : Type 0} (collection : R → Collection) (a : Asked R) (c : Chosen R) : Type 0 where
   pub question : c.task ≡ question_of collection a c.number
   pub searched : CanBeSearched c.task a.index.now
   pub enough : last_of c.task ≤ c.limit
+  pub coded : IsSome a.index.now.codes
 
 -- a query whose list has met the first members, so many
 pub record IsSwept {R : Type 0} (collection : R → Collection) (a : Asked R) (met : ℕ) (s : Swept R) : Type 0 where

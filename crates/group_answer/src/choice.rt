@@ -1,6 +1,6 @@
 //! The choice: whether a query is swept with others, as a sample of leaves shows it. A wrong choice costs time, and never changes what is
 //! found.
-ghost use Rattle.std.specs.Prelude.{◌<◌, ◌≤◌, IfOk, IfSome, length};
+ghost use Rattle.std.specs.Prelude.{◌<◌, ◌≤◌, IfOk, IfSome, IsSome, length};
 ghost use Rattle.search_task.specs.Questions.{last_of, leaf_series};
 
 use crate::first_limit::first_limit;
@@ -24,11 +24,23 @@ enum Test {
 }
 
 /// A limit with which a query is swept, not below its last distance; none where means tell most rows apart, so that the tree serves it,
-/// or where codes do not, so that all rows are read.
+/// or where codes do not, so that all rows are read, or the index has none.
 pub(crate) fn limit_to_sweep<R: Rows>(
     alloc: Global,
     search: &Search<'_, R>,
 ) -> Result<Option<u64>, NoMemory>
+    ensures limit { IfOk result (λ r. IfSome r (λ v. last_of search.now.question ≤ v)) }
+    ensures coded { IfOk result (λ r. IfSome r (λ _. IsSome search.now.index.codes)) }
+{
+    if search.index().has_codes() {
+        limit_by_codes(alloc, search)
+    } else {
+        Ok(None)
+    }
+}
+
+// The same where the index has codes.
+fn limit_by_codes<R: Rows>(alloc: Global, search: &Search<'_, R>) -> Result<Option<u64>, NoMemory>
     ensures { IfOk result (λ r. IfSome r (λ v. last_of search.now.question ≤ v)) }
 {
     if search.k() > MOST_RANKS || search.task().row_length() < LEAST_VALUES {
@@ -85,7 +97,7 @@ fn is_near<R: Rows>(
     match test {
         Test::Means => match search.index().leaf_means(leaf).get(place) {
             Some(means) => search.task().means().bound(means) <= limit.limit(),
-            None => true,
+            None => search.leaf_bound(leaf) <= limit.limit(),
         },
         Test::Codes => search.codes_may_be_within(leaf, place, limit),
     }

@@ -1,13 +1,13 @@
 //! Four queries that are swept together: the codes of a row are unpacked once for all four, and each query holds its own limit against
 //! its own bound.
-ghost use Rattle.std.specs.Prelude.{◌≡◌, ◌+◌, ◌∷◌, ◌≤◌, [], All, IfOk, length};
+ghost use Rattle.std.specs.Prelude.{◌≡◌, ◌+◌, ◌∷◌, ◌≤◌, [], All, IfOk, Some, flat_map, length, option_map};
 ghost use Rattle.group_answer.specs.Sweeping.{AreSwept, IsChosen, members_of};
 
 use crate::asked::Asked;
 use crate::chosen::Chosen;
 use crate::swept::Swept;
 use outside::NoMemory;
-use row_codes::{CodeLimit, four_within};
+use row_codes::{CodeBlock, CodeLimit, four_within};
 use search_task::codes_at_place;
 use series_core::Rows;
 use std::alloc::Global;
@@ -52,9 +52,23 @@ impl<'a, R: Rows> Four<'a, R> {
         requires swept { AreSwept R.collection asked.now from self.old }
         ensures { AreSwept R.collection asked.now to self.new }
     {
+        match asked.index.codes() {
+            Some(codes) => self.sweep_codes(asked, codes, from, to),
+            // it has codes where a query is chosen
+            None => {}
+        }
+    }
+
+    // The same by the codes of all members.
+    fn sweep_codes(&mut self, asked: &Asked<'_, R>, codes: &[CodeBlock], from: usize, to: usize)
+        requires order { from ≤ to }
+        requires end { to ≤ length (members_of asked.now.index.now) }
+        requires codes { Some codes.now ≡ option_map (flat_map (λ codes. codes)) asked.now.index.now.codes }
+        requires swept { AreSwept R.collection asked.now from self.old }
+        ensures { AreSwept R.collection asked.now to self.new }
+    {
         let (a, b) = (self.a.chosen, self.b.chosen);
         let (c, d) = (self.c.chosen, self.d.chosen);
-        let codes = asked.index.codes();
         let blocks = a.task.code_blocks();
         let mut limits = self.limits();
         for i in from..to {

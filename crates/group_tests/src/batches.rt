@@ -4,7 +4,7 @@ use crate::kinds::{Kind, drawn_series};
 use breakpoints::Table;
 use group_answer::{Asked, answers, next_answer};
 use outside::{NoGate, NoMemory};
-use plain_search::{are_same, plain_nearest};
+use plain_search::{are_same, plain_nearest, tree_with};
 use rand_xoshiro::SplitMix64;
 use rand_xoshiro::rand_core::SeedableRng;
 use series_core::{Flat, Rows};
@@ -13,13 +13,15 @@ use std::test::*;
 use std::thread::Threads;
 use subtree_build::{Settings, build};
 
-/// Whether the answers to all queries are those of a plain sort, as a list and one after another, with no more than 64 ahead.
+/// Whether the answers to all queries are those of a plain sort, as a list and one after another, with no more than 64 ahead, by a tree with
+/// its tables or with nothing beside it.
 fn agree<T: Threads + Sync>(
     rt: &T,
     alloc: Global,
     rows: &Flat,
     queries: &Flat,
     k: u32,
+    tables: bool,
 ) -> Result<bool, NoMemory> {
     let length = rows.length();
     if queries.length() != length || k < 1 || k > 1024 {
@@ -27,6 +29,7 @@ fn agree<T: Threads + Sync>(
     }
     let settings = Settings::new(length, length.min(16), Table::Bent, 8);
     let index = build(rt, alloc, rows, &settings, 1, &NoGate)?;
+    let index = tree_with(rows, &settings, index, tables);
     let asked = Asked {
         rows,
         queries,
@@ -65,7 +68,10 @@ fn batches_of_each_size(rt: HostRuntime) -> Result<(), Fail> {
     for kinds in [&MIXED[..1], &MIXED[1..2], &MIXED[..]] {
         for count in [0, 1, 2, 3, 4, 5, 8, 9, 100] {
             let queries = drawn_series(alloc, &mut rng, kinds, count, 256)?;
-            assert_same!(rt; agree(&rt, alloc, &rows, &queries, 5)?, true, "{count} queries of {kinds:?}");
+            for tables in [true, false] {
+                let same = agree(&rt, alloc, &rows, &queries, 5, tables)?;
+                assert_same!(rt; same, true, "{count} queries of {kinds:?}, tables: {tables}");
+            }
         }
     }
     Ok(())
@@ -77,7 +83,7 @@ fn three_thousand_queries(rt: HostRuntime) -> Result<(), Fail> {
     let mut rng = SplitMix64::seed_from_u64(22);
     let rows = drawn_series(alloc, &mut rng, &MIXED, 200, 256)?;
     let queries = drawn_series(alloc, &mut rng, &MIXED, 3000, 256)?;
-    assert!(rt; agree(&rt, alloc, &rows, &queries, 3)?);
+    assert!(rt; agree(&rt, alloc, &rows, &queries, 3, true)?);
     Ok(())
 }
 
@@ -96,7 +102,7 @@ fn lengths_around_those_of_blocks(rt: HostRuntime) -> Result<(), Fail> {
     ] {
         let rows = drawn_series(alloc, &mut rng, &MIXED, 150, length)?;
         let queries = drawn_series(alloc, &mut rng, &MIXED, 13, length)?;
-        assert_same!(rt; agree(&rt, alloc, &rows, &queries, k)?, true, "the {k} nearest of {length} values");
+        assert_same!(rt; agree(&rt, alloc, &rows, &queries, k, true)?, true, "the {k} nearest of {length} values");
     }
     Ok(())
 }
@@ -108,7 +114,7 @@ fn collections_of_few_rows(rt: HostRuntime) -> Result<(), Fail> {
     for count in [0, 1, 4, 5, 33] {
         let rows = drawn_series(alloc, &mut rng, &MIXED[..1], count, 256)?;
         let queries = drawn_series(alloc, &mut rng, &MIXED[..1], 9, 256)?;
-        assert_same!(rt; agree(&rt, alloc, &rows, &queries, 5)?, true, "{count} rows");
+        assert_same!(rt; agree(&rt, alloc, &rows, &queries, 5, true)?, true, "{count} rows");
     }
     Ok(())
 }

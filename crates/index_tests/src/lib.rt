@@ -1,4 +1,4 @@
-//! Tests of saved indexes, in a crate of their own: the gate proves a crate that has tests twice.
+//! Tests of saved indexes and of searches by them, in a crate of their own: the gate proves a crate that has tests twice.
 //! It has no code: what is promised stands at its own calls.
 #![tactic(auto)]
 
@@ -12,5 +12,7 @@ mod plain_fault;
 mod plain_reader;
 #[cfg(test)]
 mod readers;
+#[cfg(test)]
+mod searched;
 #[cfg(test)]
 mod texts;

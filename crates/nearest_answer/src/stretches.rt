@@ -59,7 +59,7 @@ fn sweep_leaves<R: Rows>(search: &Search<'_, R>, number: u32, limit: u64, list: 
     }
 }
 
-// Scans a leaf by the codes of its members' rows alone.
+// Scans a leaf by the codes of its members' rows alone, or without codes as any leaf.
 fn sweep_leaf<R: Rows>(search: &Search<'_, R>, leaf: u32, limit: u64, list: &mut KBest)
     requires leaf { leaf < length search.now.index.leaves }
     requires k { list.old.k ≡ search.now.question.k }
@@ -67,13 +67,17 @@ fn sweep_leaf<R: Rows>(search: &Search<'_, R>, leaf: u32, limit: u64, list: &mut
     ensures pairs { AreScanned search.now.question limit (leaf_series search.now.index leaf) list.old.pairs list.new.pairs }
 {
     let index = search.index();
-    sweep(
-        search.task(),
-        index.leaf_members(leaf),
-        index.leaf_codes(leaf),
-        limit,
-        list,
-    );
+    if index.has_codes() {
+        sweep(
+            search.task(),
+            index.leaf_members(leaf),
+            index.leaf_codes(leaf),
+            limit,
+            list,
+        )
+    } else {
+        search.scan_leaf(leaf, limit, list)
+    }
 }
 
 // Scans some rows in the order of their numbers.

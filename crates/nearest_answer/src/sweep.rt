@@ -11,20 +11,20 @@ use row_codes::{CodeBlock, CodeLimit};
 use search_task::{Search, Task, codes_at_place, most_to_add};
 use series_core::{KBest, Rows};
 
-/// The list of the answer, by the codes of all members' rows, in an empty list's room.
+/// The list of the answer, by the codes of all members' rows, in an empty list's room. Without codes all rows are measured.
 pub(crate) fn answer_by_codes<R: Rows>(search: &Search<'_, R>, limit: u64, mut list: KBest) -> KBest
     requires limit { last_of search.now.question ≤ limit }
     requires empty { list ≡ record { k = search.now.question.k; pairs = [] } }
     ensures { let a = search.now.question in result.pairs ≡ answer a.collection a.query a.k }
 {
     let index = search.index();
-    sweep(
-        search.task(),
-        index.members(),
-        index.codes(),
-        limit,
-        &mut list,
-    );
+    let task = search.task();
+    let members = index.members();
+    let Some(codes) = index.codes() else {
+        task.measure_members(members, limit, &mut list);
+        return list;
+    };
+    sweep(task, members, codes, limit, &mut list);
     list
 }
 

@@ -74,7 +74,7 @@ fn sample_of<R: Rows>(search: &Search<'_, R>, limit: u64, each: usize) -> Sample
     sample
 }
 
-// The sample with one more member, that at a place of a leaf.
+// The sample with one more member, that at a place of a leaf. Of a member without means its leaf's word tells.
 fn with_member<R: Rows>(
     search: &Search<'_, R>,
     sample: Sample,
@@ -87,7 +87,7 @@ fn with_member<R: Rows>(
 {
     let near = match search.index().leaf_means(leaf).get(place) {
         Some(means) => search.task().means().bound(means) <= limit.limit(),
-        None => true,
+        None => search.leaf_bound(leaf) <= limit.limit(),
     };
     let left = near && search.codes_may_be_within(leaf, place, limit);
     Sample {

@@ -1,7 +1,7 @@
--- What a bound above the radius rules out: of a member's means that member (`far_member`), of the box of a leaf's means all of it
--- (`far_leaf`), and of a root child's all below it (`far_root`).
+-- What a bound above the radius rules out: of a member's means that member (`far_member`), of the box of a leaf's means or of its word all
+-- of it (`far_leaf`, `far_word`), and of a root child's all below it (`far_root`).
 use Rattle.std.proofs.Common.{◌≡◌, ℕ, ◌<◌, ◌≤◌, List, [], ◌∷◌, ◌++◌, All, length, get_or, refl, sym, ap, ◌∙◌, subst, true, false, arith}
-use Rattle.std.specs.Prelude.{slice_index}
+use Rattle.std.specs.Prelude.{Some, map, option_map, slice_index, slice_index_or}
 use Rattle.std.proofs.lemmas.Bool.{cond-false, lt-leb}
 use Rattle.std.proofs.lemmas.List.{get_or-map, length-map}
 use Rattle.std.proofs.lemmas.List.Concat.{flat_map-append}
@@ -15,21 +15,21 @@ use Rattle.lower_bound.specs.Bound.{View, view_of, word_bound}
 use Rattle.lower_bound.proofs.Bounds.{child_bound}
 use Rattle.mean_bound.proofs.BelowDistances.{mean_bound_below}
 use Rattle.mean_bound.proofs.Boxes.{box_below}
-use Rattle.mean_bound.specs.Boxes.{box_bound, box_of}
+use Rattle.mean_bound.specs.Boxes.{Box, box_bound, box_of}
 use Rattle.mean_bound.specs.Means.{row_means}
 use Rattle.mean_bound.specs.MeanBound.{mean_bound, mean_view_of}
 use Rattle.isax_word.specs.declared.member.Member.{Member}
 use Rattle.subtree_build.specs.Tree.{Tree, absent, leaf, split, leaves_of}
-use Rattle.subtree_build.specs.Index.{IndexParts, StandsUnder, leaf_at, root_word_at}
+use Rattle.subtree_build.specs.Index.{IndexParts, StandsUnder, leaf_at, no_leaf, root_word_at}
 use Rattle.subtree_build.specs.declared.node.Node.{Leaf}
 use Rattle.subtree_build.specs.Outline.{outline}
 use Rattle.subtree_build.specs.Start.{node_at, root_bound}
 use Rattle.isax_word.proofs.Roots.{IsWord-one_bit_word}
 use Rattle.std.proofs.lemmas.Option.{slice_get-get_or}
-use Rattle.subtree_build.specs.Means.{all_means, means_at, means_of}
+use Rattle.subtree_build.specs.Means.{all_means, leaf_means, means_of}
 use Rattle.subtree_build.specs.Members.{series_at}
 use Rattle.subtree_build.proofs.Bounds.{member_is_series, members_no_nearer}
-use Rattle.subtree_build.proofs.Meaning.{means_of_leaf}
+use Rattle.subtree_build.proofs.Meaning.{made_of_own}
 use Rattle.range_query.specs.Near.{Asked, IsAsked, near_series, near_members, near_leaf, near_leaves, near_root}
 
 -- a series above the radius is not near
@@ -107,16 +107,31 @@ module _ (a : Asked) (ix : IndexParts) (view : View) (is : IsAsked a ix view) wh
       (is.index.nodes_stand i (node_at ix i) (slice_get-get_or ix.nodes i (Leaf 0) low)) above
 
   -- in a leaf whose box has a bound above the radius nothing is near
-  pub far_leaf : (l : ℕ) → l < length ix.leaves
-      → a.radius < box_bound (mean_view_of view.layout.cuts a.query) (box_of (means_at ix.means l)) → near_leaf a ix.leaves l ≡ []
-  far_leaf l inside above =
+  pub far_leaf : (l : ℕ) (b : Box)
+      → Some b ≡ option_map (λ (means : List (List (List ℕ))). box_of (slice_index_or means l [])) ix.means → l < length ix.leaves
+      → a.radius < box_bound (mean_view_of view.layout.cuts a.query) b → near_leaf a ix.leaves l ≡ []
+  far_leaf l b told inside above =
       let c = a.collection in
       let seen = mean_view_of view.layout.cuts a.query in
       let members = (leaf_at ix.leaves l).members in
       let all = all_means c view.layout members in
-      let own = ap (λ (ms : List (List ℕ)). box_bound seen (box_of ms)) (means_of_leaf c view.layout ix l is.fits inside) in
+      let own : box_bound seen b ≡ box_bound seen (box_of all)
+      = ap (box_bound seen)
+      (made_of_own (λ (means : List (List (List ℕ))). box_of (slice_index_or means l [])) ix.means
+      (map (leaf_means c view.layout) ix.leaves) b told is.fits.own_means
+      ∙ ap box_of (get_or-map (leaf_means c view.layout) ix.leaves l no_leaf [] inside)) in
       far_members a members (λ k d there.
       let low = member_is_series c view.layout ix l k d is.fits inside there in
       let inner = box_below seen all k (omega (arith, there, length-map members (means_of c view.layout))) in
       let one = ap (mean_bound seen) (get_or-map (means_of c view.layout) members k d [] there) in
       omega (arith, above, own, inner, one, mean_is_below (get_or members k d).number low))
+
+  -- in a leaf whose word has a bound above the radius nothing is near
+  pub far_word : (l : ℕ) → l < length ix.leaves → All IsPart (leaf_at ix.leaves l).word
+      → a.radius < word_bound view (leaf_at ix.leaves l).word → near_leaf a ix.leaves l ≡ []
+  far_word l inside parts above =
+      let bounds =
+      members_no_nearer a.collection view.layout ix l a.query is.fits is.collection is.cuts is.points is.query inside parts in
+      let same : word_bound view (leaf_at ix.leaves l).word ≡ word_bound (view_of view.layout a.query) (leaf_at ix.leaves l).word =
+      ap (λ v. word_bound v (leaf_at ix.leaves l).word) is.of_query in
+      far_members a (leaf_at ix.leaves l).members (λ k d low. let b = bounds k d low in omega arith)

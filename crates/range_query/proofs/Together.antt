@@ -147,7 +147,7 @@ module _ (a : Asked) (ix : IndexParts) (view : View) (is : IsAsked a ix view) wh
   near_all_members =
       same_pieces (near_series a) (all_numbers ix.leaves)
       (range_with_len 0 (length a.collection.series))
-      (λ i. times_in_leaves i ix.leaves ∙ is.fits.each_once i
+      (λ i. times_in_leaves i ix.leaves ∙ is.fits.tree.each_once i
       ∙ sym (times_below i (length a.collection.series)))
 
   -- what all passes found, in order, is all that the collection has within the radius

@@ -1,6 +1,7 @@
 //! The walk over one root child: it is cut where its bound is above the radius, and so is each leaf below it, by the box of its
-//! means; the members of the leaves that remain are tested by the bounds of their means and then by their distances.
-ghost use Rattle.std.specs.Prelude.{◌≡◌, ◌<◌, ◌≤◌, ◌++◌, [], OnOk, length, true};
+//! means; the members of the leaves that remain are tested by the bounds of their means and then by their distances. Where an index has
+//! no means, a leaf is cut by the bound of its word, and its members are tested by their distances alone.
+ghost use Rattle.std.specs.Prelude.{◌≡◌, ◌<◌, ◌≤◌, ◌++◌, [], IsSome, OnOk, length, true};
 ghost use Rattle.std.specs.Option.{option_to_list};
 ghost use Rattle.lower_bound.specs.Bound.{view_of};
 ghost use Rattle.mean_bound.specs.MeanBound.{mean_view_of};
@@ -105,20 +106,37 @@ impl<'a, R: Rows> Search<'a, R> {
         if self.means.bound(means) > self.radius {
             return None;
         }
-        let number = member.number;
+        self.measured(member.number)
+    }
+
+    /// The pair of a series, where it is within the radius.
+    fn measured(&self, number: u32) -> Option<Pair>
+        requires ready { IsReady R.collection self.now }
+        requires number { number < length (R.collection self.now.rows.now).series }
+        ensures { option_to_list result ≡ near_series (asked_of R.collection self.now) number }
+    {
         match distance_within(self.rows.row(number), self.query, self.radius) {
             Some(distance) => Some(Pair { distance, number }),
             None => None,
         }
     }
 
-    /// Whether the bound of the box of a leaf's means is above the radius; then none of its members is near.
+    /// Whether the bound of the box of a leaf's means, or without means that of its word, is above the radius; then none of its members
+    /// is near.
     fn is_cut(&self, leaf: u32) -> bool
         requires ready { IsReady R.collection self.now }
         requires leaf { leaf < length self.now.index.now.leaves }
         ensures { result ≡ true → near_leaf (asked_of R.collection self.now) self.now.index.now.leaves leaf ≡ [] }
     {
-        self.means.bound_box(self.index.leaf_box(leaf)) > self.radius
+        match self.index.leaf_box(leaf) {
+            Some(own) => self.means.bound_box(own) > self.radius,
+            None => {
+                let word = self.index.leaf_word(leaf);
+                // for the fact that it is a word
+                let _segments = word.segments();
+                self.view.bound_word(word) > self.radius
+            }
+        }
     }
 
     /// Puts the pairs of a leaf's members that are within the radius behind those that were found. There is none where the
@@ -132,10 +150,40 @@ impl<'a, R: Rows> Search<'a, R> {
         if self.is_cut(leaf) {
             return Ok(());
         }
+        if self.index.has_means() {
+            self.test_all(leaf, found)
+        } else {
+            self.measure_all(leaf, found)
+        }
+    }
+
+    /// The same of a leaf that is not cut, whose members have means.
+    fn test_all(&self, leaf: u32, found: &mut Vec<Pair>) -> Result<(), NoMemory>
+        requires ready { IsReady R.collection self.now }
+        requires leaf { leaf < length self.now.index.now.leaves }
+        requires means { IsSome self.now.index.now.means }
+        ensures { let near = near_leaf (asked_of R.collection self.now) self.now.index.now.leaves leaf in
+            OnOk result (found.new.items ≡ found.old.items ++ near) }
+    {
         let members = self.index.leaf_members(leaf);
         let means = self.index.leaf_means(leaf);
         for i in 0..members.len() {
             keep(found, self.near(&members[i], &means[i]))?;
+        }
+        Ok(())
+    }
+
+    /// The same of a leaf whose members have no means: each is measured.
+    fn measure_all(&self, leaf: u32, found: &mut Vec<Pair>) -> Result<(), NoMemory>
+        requires ready { IsReady R.collection self.now }
+        requires leaf { leaf < length self.now.index.now.leaves }
+        ensures { let near = near_leaf (asked_of R.collection self.now) self.now.index.now.leaves leaf in
+            OnOk result (found.new.items ≡ found.old.items ++ near) }
+    {
+        let members = self.index.leaf_members(leaf);
+        for i in 0..members.len() {
+            let member = &members[i];
+            keep(found, self.measured(member.number))?;
         }
         Ok(())
     }

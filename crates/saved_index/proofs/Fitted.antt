@@ -19,6 +19,7 @@ use Rattle.subtree_build.specs.Fits.{Fits, MembersAreSeries, WordContainsMembers
 use Rattle.subtree_build.specs.Index.{IndexParts}
 use Rattle.subtree_build.specs.Means.{leaf_means, leaf_codes}
 use Rattle.subtree_build.specs.Members.{numbers_of}
+use Rattle.subtree_build.proofs.Fitting.{with_tables_fits}
 use Rattle.saved_index.specs.Membership.{first_unfit_of, is_unfit, leaf_weight, weight, weight_for}
 
 -- where none of the numbers in a row is found, none passes the test
@@ -147,11 +148,11 @@ pub fits_by_weight : (c : Collection) (layout : Layout) (ix jx : IndexParts) →
 fits_by_weight c layout ix jx segments own below none means =
     let Own : List TreeLeaf → Type 0 = λ xs. All (MembersAreSeries c layout) xs in
     let Contained : List TreeLeaf → Type 0 = λ xs. All WordContainsMembers xs in
-    record {
+    with_tables_fits c layout jx (record {
       segments = means.segments ∙ segments;
       each_once = λ i. ap (total (times_in i)) means.leaves ∙ is_once (length c.series) ix.leaves below none i;
       own_words = subst Own (sym means.leaves) own;
       contained = subst Contained (sym means.leaves) (all_contained (length c.series) ix.leaves below none);
-      own_means = means.own_means ∙ ap (map (leaf_means c layout)) (sym means.leaves);
-      own_codes = means.own_codes ∙ ap (map (leaf_codes c)) (sym means.leaves);
-    }
+    })
+    (means.own_means ∙ ap (λ (ls : List TreeLeaf). Some (map (leaf_means c layout) ls)) (sym means.leaves))
+    (means.own_codes ∙ ap (λ (ls : List TreeLeaf). Some (map (leaf_codes c) ls)) (sym means.leaves))

@@ -1,8 +1,8 @@
 -- What was loaded of bytes that are the text of an index over series of a collection's length and count: the parts make an index
 -- (`makes`), whose members are series with their own words (`series`, `words_long`), and which has the bytes as its text (`text`) and
 -- fits (`fits`), and can be saved again (`saves`), or else they have that against it (`unfit`).
-use Rattle.std.proofs.Common.{◌≡◌, ℕ, ◌<◌, ◌≤◌, List, length, map, get_or, None, Some, sym, ap, ◌∙◌, subst, arith, Fits as FitsIn, w8, All}
-use Rattle.std.specs.Prelude.{flat_map, option_map, slice_index}
+use Rattle.std.proofs.Common.{◌≡◌, ℕ, ◌<◌, ◌≤◌, List, length, map, get_or, None, Some, refl, sym, ap, ◌∙◌, subst, arith, Fits as FitsIn, w8, All}
+use Rattle.std.specs.Prelude.{IsSome, flat_map, option_map, slice_index}
 use Rattle.std.proofs.lemmas.List.{length-map}
 use Rattle.series_core.specs.Collection.{Collection}
 use Rattle.series_file.proofs.Numbers.{AreBytes}
@@ -176,6 +176,7 @@ module _ (c : Collection) (bytes : List ℕ) (r : Spelled) (each : (i : ℕ) →
         length = length_is;
         cuts = cuts;
         is_index = js;
+        tables = record { means = subst IsSome (sym means.own_means) refl; codes = subst IsSome (sym means.own_codes) refl };
         some_leaf_size = omega (arith, size_is, limits.some_leaf_size);
         leaf_size_limit = omega (arith, size_is, limits.leaf_size_limit);
       }

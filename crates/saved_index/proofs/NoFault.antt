@@ -83,16 +83,16 @@ each_fits c settings count ix of i low =
     let s = saved_of settings count ix in
     let layout = settings.layout in
     let leaves : saved_leaves s ≡ map worded_leaf ix.leaves
-    = sym (leaves_of_saved settings count ix of.index of.fits.segments) in
+    = sym (leaves_of_saved settings count ix of.index of.fits.tree.segments) in
     let held : WordedLeaf → ℕ = λ x. times i x.numbers in
     let once : total held (saved_leaves s) ≡ 1
     = ap (total held) leaves
     ∙ total_map held worded_leaf ix.leaves
-    ∙ of.fits.each_once i
+    ∙ of.fits.tree.each_once i
     ∙ once_below_yes i (length c.series) low in
     and_from (total held (saved_leaves s) == 1) (list_all (suits c layout i) (saved_leaves s))
     (ap (λ n. n == 1) once)
-    (ap (list_all (suits c layout i)) leaves ∙ all_suit c layout i ix.leaves of.fits.own_words of.fits.contained)
+    (ap (list_all (suits c layout i)) leaves ∙ all_suit c layout i ix.leaves of.fits.tree.own_words of.fits.tree.contained)
 
 -- the text of an index that fits a collection has nothing against it
 pub text_has_no_fault : (c : Collection) (bytes : List ℕ) (settings : Settings) (ix : IndexParts)

@@ -1,7 +1,7 @@
 -- What is saved of an index says what the index is: its nodes (`nodes_of_saved`), its leaves (`leaves_of_saved`), and over one
 -- collection the whole of it (`same_index`).
-use Rattle.std.proofs.Common.{◌≡◌, ℕ, ◌+◌, List, [], ◌∷◌, ◌++◌, length, map, refl, sym, ap, ◌∙◌, All}
-use Rattle.std.specs.Prelude.{flat_map}
+use Rattle.std.proofs.Common.{◌≡◌, ℕ, ◌+◌, List, [], ◌∷◌, ◌++◌, length, map, refl, sym, ap, subst, ◌∙◌, All}
+use Rattle.std.specs.Prelude.{IfSome, Option, Some, flat_map}
 use Rattle.std.proofs.lemmas.List.{length-map, map-append}
 use Rattle.std.proofs.lemmas.List.Elements.{All-head, All-tail}
 use Rattle.series_core.specs.Collection.{Collection}
@@ -128,6 +128,10 @@ same_settings s t m n same = λ i. record {
   leaf_size = (same i).leaf_size;
 }
 
+-- what there is is its own
+own_of_some : {X : Type 0} (x own : X) (o : Option X) → o ≡ Some x → IfSome o (λ y. y ≡ own) → x ≡ own
+own_of_some x own o has are = subst (λ p. IfSome p (λ y. y ≡ own)) has are
+
 -- two indexes of one collection of which the same is saved are the same
 pub same_index : (c : Collection) (s t : Settings) (m n : ℕ) (ix jx : IndexParts) → IsIndexOf c s ix → IsIndexOf c t jx
     → saved_of s m ix ≡ saved_of t n jx → (s ≡ t) × AreSame ix jx
@@ -137,20 +141,26 @@ same_index c s t m n ix jx of_ix of_jx same =
     let settings : s ≡ t = same_settings s t m n (ap (λ (x : Saved). x.header) same) in
     let layout : s.layout ≡ t.layout = ap (λ (x : Settings). x.layout) settings in
     let leaves : ix.leaves ≡ jx.leaves
-    = sym (leaves_again c s.layout ix.leaves of_ix.fits.own_words)
-    ∙ ap (map (leaf_again c s.layout)) (leaves_of_saved s m ix of_ix.index of_ix.fits.segments ∙ ap saved_leaves same
-    ∙ sym (leaves_of_saved t n jx of_jx.index of_jx.fits.segments))
+    = sym (leaves_again c s.layout ix.leaves of_ix.fits.tree.own_words)
+    ∙ ap (map (leaf_again c s.layout)) (leaves_of_saved s m ix of_ix.index of_ix.fits.tree.segments ∙ ap saved_leaves same
+    ∙ sym (leaves_of_saved t n jx of_jx.index of_jx.fits.tree.segments))
     ∙ ap (λ (l : Layout). map (leaf_again c l) (map worded_leaf jx.leaves)) layout
-    ∙ leaves_again c t.layout jx.leaves of_jx.fits.own_words in (
+    ∙ leaves_again c t.layout jx.leaves of_jx.fits.tree.own_words in (
       settings,
       record {
-        segments = of_ix.fits.segments ∙ ap (λ (l : Layout). l.cuts.segments) layout ∙ sym of_jx.fits.segments;
+        segments = of_ix.fits.tree.segments ∙ ap (λ (l : Layout). l.cuts.segments) layout ∙ sym of_jx.fits.tree.segments;
         roots = ap (λ (x : Saved). x.roots) same;
         nodes = nodes_of_saved s m ix of_ix.index ∙ ap (λ (x : Saved). all_numbered 0 x.nodes) same
             ∙ sym (nodes_of_saved t n jx of_jx.index);
         leaves = leaves;
-        means = of_ix.fits.own_means ∙ ap (map (leaf_means c s.layout)) leaves
-            ∙ ap (λ (l : Layout). map (leaf_means c l) jx.leaves) layout ∙ sym of_jx.fits.own_means;
-        codes = of_ix.fits.own_codes ∙ ap (map (leaf_codes c)) leaves ∙ sym of_jx.fits.own_codes;
+        means = λ ms ns has had.
+            own_of_some ms (map (leaf_means c s.layout) ix.leaves) ix.means has of_ix.fits.own_means
+            ∙ ap (map (leaf_means c s.layout)) leaves
+            ∙ ap (λ (l : Layout). map (leaf_means c l) jx.leaves) layout
+            ∙ sym (own_of_some ns (map (leaf_means c t.layout) jx.leaves) jx.means had of_jx.fits.own_means);
+        codes = λ cs ds has had.
+            own_of_some cs (map (leaf_codes c) ix.leaves) ix.codes has of_ix.fits.own_codes
+            ∙ ap (map (leaf_codes c)) leaves
+            ∙ sym (own_of_some ds (map (leaf_codes c) jx.leaves) jx.codes had of_jx.fits.own_codes);
       },
     )

@@ -3,6 +3,7 @@ use Rattle.std.specs.Prelude.{◌≡◌, ℕ, ◌<◌, ◌≤◌, ◌↔◌, ◌
 use Rattle.std.specs.List.{All}
 use Rattle.series_core.specs.Collection.{Collection, IsCollection}
 use Rattle.segment_sums.specs.Division.{IsDivision}
+use Rattle.subtree_build.specs.RowCodes.{Block}
 use Rattle.subtree_build.specs.declared.settings.Settings.{Settings}
 use Rattle.subtree_build.specs.Fits.{Fits, IsTreeOf}
 use Rattle.subtree_build.specs.Index.{IndexParts, IsIndex}
@@ -30,14 +31,14 @@ pub record IsIndexOf (c : Collection) (settings : Settings) (ix : IndexParts) : 
   pub index : IsIndex ix
   pub fits : Fits c settings.layout ix
 
--- indexes that are the same, wherever their nodes lie in memory
+-- indexes whose trees are the same, wherever their nodes lie in memory; and so are their means where both have some, and their codes
 pub record AreSame (ix jx : IndexParts) : Type 0 where
   pub segments : ix.segments ≡ jx.segments
   pub roots : ix.roots ≡ jx.roots
   pub nodes : map outline ix.nodes ≡ map outline jx.nodes
   pub leaves : ix.leaves ≡ jx.leaves
-  pub means : ix.means ≡ jx.means
-  pub codes : ix.codes ≡ jx.codes
+  pub means : (ms ns : List (List (List ℕ))) → ix.means ≡ Some ms → jx.means ≡ Some ns → ms ≡ ns
+  pub codes : (cs ds : List (List Block)) → ix.codes ≡ Some cs → jx.codes ≡ Some ds → cs ≡ ds
 
 -- indexes that fit one collection and have one text are the same, and have the same settings
 abbrev pub TextTellsIndex : Type 0

@@ -7,7 +7,7 @@ use Rattle.segment_sums.specs.Division.{IsDivision}
 use Rattle.series_core.specs.Collection.{Collection}
 use Rattle.subtree_build.specs.Assembly.{IsOfParts}
 use Rattle.subtree_build.specs.Fits.{Fits}
-use Rattle.subtree_build.specs.Index.{IsIndex}
+use Rattle.subtree_build.specs.Index.{HasTables, IsIndex}
 use Rattle.saved_index.specs.declared.error.IndexFault.{IndexFault}
 use Rattle.saved_index.specs.declared.error.IndexFault.TheVariants.{TooLong, ReadFault, NoMemory}
 use Rattle.saved_index.specs.declared.loading.LoadedIndex.{LoadedIndex}
@@ -19,12 +19,13 @@ use Rattle.saved_index.specs.Membership.{first_unfit_of, members_in_lists, words
 use Rattle.saved_index.specs.Parsed.{IsSavedRead}
 
 -- An index by which a collection may be searched: it fits the collection under the layout of its settings, which is for series of the
--- collection's length, and the leaf size is within its limits.
+-- collection's length, it has means and codes, and the leaf size is within its limits.
 pub record IsIndexFor (c : Collection) (loaded : LoadedIndex) : Type 0 where
   pub fits : Fits c loaded.settings.layout loaded.index
   pub length : c.points ≡ loaded.settings.layout.cuts.row_length
   pub cuts : IsDivision loaded.settings.layout.cuts
   pub is_index : IsIndex loaded.index
+  pub tables : HasTables loaded.index
   pub some_leaf_size : 1 ≤ loaded.settings.leaf_size
   pub leaf_size_limit : loaded.settings.leaf_size ≤ 65535
 

@@ -2,7 +2,7 @@
 -- codes for the query (`codes_fit`), whose bound is at most the distance (`codes_are_below`). An index has them in one row for all its
 -- members (`all_coded`), and so meets each series once (`each_met`).
 use Rattle.std.proofs.Common.{◌≡◌, ◌∙◌, ◌+◌, ◌*◌, ◌<◌, ◌≤◌, ◌++◌, ℕ, zero, suc, ℤ, List, length, map, take, drop, get_or, [], ◌∷◌, refl, ap, sym, subst, arith}
-use Rattle.std.specs.Prelude.{flat_map}
+use Rattle.std.specs.Prelude.{Some, flat_map, is_some, option_map, true}
 use Rattle.std.specs.List.{All}
 use Rattle.std.proofs.Math.Nat.{mul-le-mul_right}
 use Rattle.std.proofs.lemmas.Grind.{flat_map-append}
@@ -23,6 +23,7 @@ use Rattle.subtree_build.specs.Index.{IndexParts, leaf_at, no_leaf}
 use Rattle.subtree_build.specs.Means.{all_codes, coded_points, codes_at, codes_of_member, leaf_codes}
 use Rattle.subtree_build.specs.Members.{numbers_of, series_at}
 use Rattle.subtree_build.proofs.LeafWords.{all_pieces}
+use Rattle.subtree_build.proofs.Meaning.{made_of_own}
 use Rattle.subtree_build.proofs.MemberCodes.{coded_few, codes_of_leaf, codes_of_one, length_codes}
 use Rattle.subtree_build.proofs.OfCollection.{IsReal}
 use Rattle.search_task.specs.Questions.{CanBeSearched, IsMemberOf, IsQuestion, Question, coded_query}
@@ -35,11 +36,11 @@ are_real a members are i d inside = (are i d inside).series
 
 -- a leaf's members and their codes
 pub leaf_coded : (a : Question) (ix : IndexParts) (l : ℕ) (members : List Member) (codes : List Block)
-    → CanBeSearched a ix → l < length ix.leaves → members ≡ (leaf_at ix.leaves l).members → codes ≡ codes_at ix.codes l
-    → AreCoded a members codes
-leaf_coded a ix l members codes searched real are is = record {
+    → CanBeSearched a ix → is_some ix.codes ≡ true → l < length ix.leaves → members ≡ (leaf_at ix.leaves l).members
+    → codes ≡ codes_at ix.codes l → AreCoded a members codes
+leaf_coded a ix l members codes searched some real are is = record {
   members = subst (λ (ms : List Member). All (IsMemberOf a) ms) (sym are) (leaf_is_members a ix l searched real);
-  codes = is ∙ codes_of_leaf a.collection a.layout ix l searched.fits real ∙ ap (all_codes a.collection) (sym are);
+  codes = is ∙ codes_of_leaf a.collection a.layout ix l searched.fits some real ∙ ap (all_codes a.collection) (sym are);
 }
 
 module _ (a : Question) (members : List Member) (codes : List Block) (n i : ℕ) (question : IsQuestion a)
@@ -102,7 +103,7 @@ module _ (a : Question) (m : Member) (is : IsQuestion a) (real : m.number < leng
       omega (arith, bound_below (take (coded_points c) row) (coded_query c a.query) coded_alike, front_below (coded_points c) row a.query)
 
 -- the members of all leaves are members of the question's collection
-all_are_members : (a : Question) (ix : IndexParts) → CanBeSearched a ix
+pub all_are_members : (a : Question) (ix : IndexParts) → CanBeSearched a ix
     → All (IsMemberOf a) (flat_map (λ (x : TreeLeaf). x.members) ix.leaves)
 all_are_members a ix searched =
     let P : TreeLeaf → Type 0 = λ x. All (IsMemberOf a) x.members in
@@ -120,11 +121,13 @@ of_leaves c (x ∷ leaves) =
 
 -- so all members of an index that fits have their codes
 pub all_coded : (a : Question) (ix : IndexParts) (members : List Member) (codes : List Block) → CanBeSearched a ix
-    → members ≡ flat_map (λ (x : TreeLeaf). x.members) ix.leaves → codes ≡ flat_map (λ (cs : List Block). cs) ix.codes
-    → AreCoded a members codes
+    → members ≡ flat_map (λ (x : TreeLeaf). x.members) ix.leaves
+    → Some codes ≡ option_map (flat_map (λ (cs : List Block). cs)) ix.codes → AreCoded a members codes
 all_coded a ix members codes searched are is = record {
   members = subst (λ (ms : List Member). All (IsMemberOf a) ms) (sym are) (all_are_members a ix searched);
-  codes = is ∙ ap (flat_map (λ (cs : List Block). cs)) searched.fits.own_codes ∙ of_leaves a.collection ix.leaves
+  codes = made_of_own (flat_map (λ (cs : List Block). cs)) ix.codes (map (leaf_codes a.collection) ix.leaves) codes is
+      searched.fits.own_codes
+      ∙ of_leaves a.collection ix.leaves
       ∙ ap (all_codes a.collection) (sym are);
 }
 
@@ -141,4 +144,4 @@ times_in_all s (x ∷ leaves) =
 -- so each series is met once among all members
 pub each_met : (c : Collection) (layout : Layout) (ix : IndexParts) → IndexFits c layout ix → (s : ℕ)
     → times s (numbers_of (flat_map (λ (x : TreeLeaf). x.members) ix.leaves)) ≡ once_below s (length c.series)
-each_met c layout ix fits s = times_in_all s ix.leaves ∙ fits.each_once s
+each_met c layout ix fits s = times_in_all s ix.leaves ∙ fits.tree.each_once s

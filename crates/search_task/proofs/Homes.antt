@@ -33,14 +33,14 @@ module _ (c : Collection) (layout : Layout) (ix : IndexParts) (fits : Fits c lay
       → s < length c.series
   member_is_real l s real some =
       let part = total_place (times_in s) ix.leaves l no_leaf real in
-      once_below_low s (length c.series) (omega (arith, some, part, fits.each_once s))
+      once_below_low s (length c.series) (omega (arith, some, part, fits.tree.each_once s))
 
   -- each series is a member of some leaf
   pub home_of : (s : ℕ) → s < length c.series
       → (l : ℕ) × (l < length ix.leaves) × (0 < times s (leaf_series ix l))
   home_of s low =
       let one = once_below_yes s (length c.series) low in
-      let all = fits.each_once s in
+      let all = fits.tree.each_once s in
       total_some (times_in s) ix.leaves no_leaf (omega arith)
 
   -- no series is a member of two leaves
@@ -49,7 +49,7 @@ module _ (c : Collection) (layout : Layout) (ix : IndexParts) (fits : Fits c lay
   no_two_homes l m s before here there =
       let both = total_two (times_in s) ix.leaves l m no_leaf before (home_is_leaf m s there) in
       let most = once_below_most s (length c.series) in
-      omega (arith, here, there, both, most, fits.each_once s)
+      omega (arith, here, there, both, most, fits.tree.each_once s)
 
   -- a series is a member of one leaf alone
   pub one_leaf : (l m s : ℕ) → 0 < times s (leaf_series ix l) → 0 < times s (leaf_series ix m) → l ≡ m
@@ -67,7 +67,7 @@ module _ (c : Collection) (layout : Layout) (ix : IndexParts) (fits : Fits c lay
       (λ (h : 0 < times s (leaf_series ix l)).
       let part = total_place (times_in s) ix.leaves l no_leaf (home_is_leaf l s h) in
       let most = once_below_most s (length c.series) in
-      omega (arith, part, most, fits.each_once s))
+      omega (arith, part, most, fits.tree.each_once s))
       (λ (h : times s (leaf_series ix l) ≤ 0). omega arith)
       (cases_lt 0 (times s (leaf_series ix l)))
 
@@ -78,5 +78,5 @@ leaf_is_members a ix l searched real k d inside = record {
   series = member_is_series a.collection a.layout ix l k d searched.fits real inside;
   word =
       All-get_or (MembersAreSeries a.collection a.layout) ix.leaves l no_leaf real
-      searched.fits.own_words k d inside;
+      searched.fits.tree.own_words k d inside;
 }

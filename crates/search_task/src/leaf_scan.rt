@@ -1,6 +1,7 @@
 //! Scanning a leaf: a member is passed over by its means, or else by the codes of its row, or else measured; and a whole leaf by the box
-//! of its means. A row that is passed over is not read.
-ghost use Rattle.std.specs.Prelude.{◌≡◌, ◌+◌, ◌*◌, ◌<◌, ◌≤◌, false, length, take, drop, slice_index};
+//! of its means. A row that is passed over is not read. Of an index without these, a leaf is passed over by its word, or else each of its
+//! members is measured.
+ghost use Rattle.std.specs.Prelude.{All, ◌≡◌, ◌+◌, ◌*◌, ◌<◌, ◌≤◌, false, length, take, drop, slice_index};
 ghost use Rattle.series_core.specs.Distance.{squared_distance};
 ghost use Rattle.subtree_build.specs.Means.{all_means, codes_of_member, means_of};
 ghost use Rattle.subtree_build.specs.Members.{numbers_of, series_at};
@@ -27,9 +28,14 @@ impl<'a, R: Rows> Search<'a, R> {
     {
         let index = self.index;
         let members = index.leaf_members(leaf);
-        let means = index.leaf_means(leaf);
-        let codes = index.leaf_codes(leaf);
-        self.task.scan_members(members, means, codes, limit, list);
+        // once a leaf, so that no member of an index with tables waits for the test
+        if index.has_tables() {
+            let means = index.leaf_means(leaf);
+            let codes = index.leaf_codes(leaf);
+            self.task.scan_members(members, means, codes, limit, list)
+        } else {
+            self.task.measure_members(members, limit, list)
+        }
     }
 
     /// The same for each member of a leaf, but where the box of their means is too far, nothing of the leaf is read.
@@ -47,25 +53,33 @@ impl<'a, R: Rows> Search<'a, R> {
         self.scan_leaf(leaf, limit, list);
     }
 
-    /// Whether the codes of the member at a place of a leaf do not lie above the limit. Where they do, so does its distance.
+    /// Whether the codes of the member at a place of a leaf, if there are any, do not lie above the limit. Where they do, so does its
+    /// distance.
     pub fn codes_may_be_within(&self, leaf: u32, place: usize, limit: &CodeLimit) -> bool
         requires leaf { leaf < length self.now.index.leaves }
         requires place { place < length (leaf_series self.now.index leaf) }
         ensures { result ≡ false
             → limit.now < (ground_of self.now).distance (slice_index (leaf_series self.now.index leaf) place) }
     {
-        let members = self.index.leaf_members(leaf);
-        let codes = self.index.leaf_codes(leaf);
-        self.task
-            .codes_at_may_be_within(members, codes, place, limit)
+        if self.index.has_codes() {
+            let members = self.index.leaf_members(leaf);
+            let codes = self.index.leaf_codes(leaf);
+            self.task
+                .codes_at_may_be_within(members, codes, place, limit)
+        } else {
+            true
+        }
     }
 
-    /// A bound that is above the distance of no member of the leaf: that of the box of their means.
+    /// A bound that is above the distance of no member of the leaf: that of the box of their means, or without means that of its word.
     pub fn leaf_bound(&self, leaf: u32) -> u64
         requires leaf { leaf < length self.now.index.leaves }
         ensures { IsBelowLeaf (ground_of self.now) leaf result }
     {
-        self.task.means().bound_box(self.index.leaf_box(leaf))
+        match self.index.leaf_box(leaf) {
+            Some(own) => self.task.means().bound_box(own),
+            None => self.word_bound(leaf),
+        }
     }
 
     /// The lower bound of a leaf's word, which an outcome tells.
@@ -76,12 +90,15 @@ impl<'a, R: Rows> Search<'a, R> {
         self.task.view().bound_word(self.index.leaf_word(leaf))
     }
 
-    /// What `leaf_bound` tells of one leaf, of all sixteen leaves of a group.
+    /// What the box of its means tells of one leaf, of all sixteen leaves of a group: 0 without means.
     pub fn group_bound(&self, group: u32) -> u64
         requires group { group * 16 < length self.now.index.leaves }
         ensures { IsBelowLeaves (ground_of self.now) (group * 16) (group * 16 + 16) result }
     {
-        self.task.means().bound_box(self.index.group_box(group))
+        match self.index.group_box(group) {
+            Some(shared) => self.task.means().bound_box(shared),
+            None => 0,
+        }
     }
 
     /// And so of all 256 leaves of a wide group.
@@ -89,9 +106,10 @@ impl<'a, R: Rows> Search<'a, R> {
         requires group { group * 256 < length self.now.index.leaves }
         ensures { IsBelowLeaves (ground_of self.now) (group * 256) (group * 256 + 256) result }
     {
-        self.task
-            .means()
-            .bound_box(self.index.wide_group_box(group))
+        match self.index.wide_group_box(group) {
+            Some(shared) => self.task.means().bound_box(shared),
+            None => 0,
+        }
     }
 }
 
@@ -118,6 +136,20 @@ impl<'a, R: Rows> Task<'a, R> {
             let own = codes_at_place(codes, blocks, i);
             let near = self.may_be_within(member, &means[i], own, &most);
             most = self.measure_near(near, member, limit, most, list);
+        }
+    }
+
+    /// Measures each of the members with this limit into a list.
+    pub fn measure_members(&self, members: &[Member], limit: u64, list: &mut KBest)
+        requires members { All (IsMemberOf self.now) members.now }
+        requires k { list.old.k ≡ self.now.k }
+        ensures k { list.new.k ≡ self.now.k }
+        ensures pairs { AreScanned self.now limit (numbers_of members.now) list.old.pairs list.new.pairs }
+    {
+        let mut most = most_to_add(limit, list);
+        for place in 0..members.len() {
+            let member = &members[place];
+            most = self.measure(member.number, limit, most, list);
         }
     }
 

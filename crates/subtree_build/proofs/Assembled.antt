@@ -1,7 +1,7 @@
 -- Parts that make an index: their leaves stand under their nodes (`parts_are_index`), and lie in one row of all members
 -- (`row_is_all`).
 use Rattle.std.proofs.Common.{◌≡◌, ℕ, zero, suc, ◌+◌, ◌^◌, ◌<◌, ◌≤◌, true, false, List, [], ◌∷◌, ◌++◌, length, map, get_or, refl, sym, ap, ◌∙◌, subst, arith, append_assoc, length-append}
-use Rattle.std.specs.Prelude.{Some, flat_map, slice_get, slice_index}
+use Rattle.std.specs.Prelude.{Option, None, Some, flat_map, slice_get, slice_index}
 use Rattle.std.specs.List.{range_with_len}
 use Rattle.std.specs.List.Sorted.{IsStrictlyIncreasing}
 use Rattle.std.proofs.Math.Seq.{get_or-append_seam}
@@ -204,7 +204,7 @@ parts_are_index w roots nodes words lists ix some few short make words_are w_is 
     }
 
 -- the same with other means is an index too
-pub other_means : (ix : IndexParts) (means : List (List (List ℕ))) (codes : List (List Block)) → IsIndex ix
+pub other_means : (ix : IndexParts) (means : Option (List (List (List ℕ)))) (codes : Option (List (List Block))) → IsIndex ix
     → IsIndex (record ix { means = means; codes = codes })
 other_means ix means codes is = record {
   some_segments = is.some_segments;
@@ -271,15 +271,15 @@ long_words w roots nodes n make =
 module _ {w : ℕ} {roots : List ℕ} {nodes : List Node} {words : List (List Part)} {firsts : List ℕ}
     {lists : List (List Member)} {leaves : List GrownLeaf} {members : List Member} {places : List LeafPlace}
     (row : IsRow w roots nodes words firsts lists leaves members places) where
-  -- the parts and the row, with some means
-  abbrev as_parts : (means : List (List (List ℕ))) (codes : List (List Block)) → IndexParts
-  as_parts means codes = record {
+  -- the parts and the row
+  abbrev as_parts : IndexParts
+  as_parts = record {
     segments = w;
     roots = roots;
     nodes = nodes;
     leaves = leaves_seen members places;
-    means = means;
-    codes = codes;
+    means = None;
+    codes = None;
   }
 
   -- the leaves at the places
@@ -287,8 +287,8 @@ module _ {w : ℕ} {roots : List ℕ} {nodes : List Node} {words : List (List Pa
   row_seen = ap (leaves_seen members) row.places_are ∙ seen_is_cut members 0 leaves ∙ row.cut
 
   -- make an index
-  pub row_is_index : (means : List (List (List ℕ))) (codes : List (List Block)) → IsIndex (as_parts means codes)
-  row_is_index means codes =
+  pub row_is_index : IsIndex as_parts
+  row_is_index =
       parts_are_index w roots nodes words lists _ row.some row.few row.short row.make row.words_are refl refl refl row_seen
 
   -- at their places
@@ -323,12 +323,14 @@ module _ {w : ℕ} {roots : List ℕ} {nodes : List Node} {words : List (List Pa
   row_is_all = record { leaves = leaves; lie = row.places_are; whole = row.whole; few = row.few_members }
 
   -- and it is one of these parts
-  pub row_of_parts : (means : List (List (List ℕ))) (codes : List (List Block)) → IsOfParts w roots nodes lists (as_parts means codes)
-  row_of_parts means codes = record {
+  pub row_of_parts : IsOfParts w roots nodes lists as_parts
+  row_of_parts = record {
     segments = refl;
     roots = refl;
     nodes = refl;
     members = ap (map (λ (x : TreeLeaf). x.members)) row_seen
         ∙ members_with words lists (ap (λ (ws : List (List Part)). length ws) row.words_are
         ∙ long_words w roots nodes (length lists) row.make);
+    no_means = refl;
+    no_codes = refl;
   }

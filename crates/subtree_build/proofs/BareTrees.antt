@@ -1,7 +1,8 @@
 -- Bare trees: parts that were put together are one (`bare_of`), whose members are series (`series_of`); the members of one are series of
 -- a collection where those of its index are (`real_members`), and what has its means has those of the index that it was taken from
 -- (`same_means`).
-use Rattle.std.proofs.Common.{◌≡◌, ℕ, ◌^◌, ◌<◌, All, List, [], ap, sym, ◌∙◌, subst, length, map, arith}
+use Rattle.std.proofs.Common.{◌≡◌, ℕ, ◌^◌, ◌<◌, All, List, ap, sym, ◌∙◌, subst, length, map, arith}
+use Rattle.std.specs.Prelude.{None, Some}
 use Rattle.std.specs.declared.alloc.Global.{Global}
 use Rattle.std.specs.declared.vec.Vec.{Vec}
 use Rattle.std.proofs.lemmas.List.{length-map}
@@ -81,7 +82,7 @@ module _ (c : Collection) (layout : Layout) (size : ℕ) where
         let few = few_joined joined divides sound is in
         record {
           is_index = tree_is_index c layout size _ divides sound
-              (tree_is_seen c layout size segments roots.items joined places.items [] [] same roots_are is.nodes is.leaves lie);
+              (tree_is_seen c layout size segments roots.items joined places.items same roots_are is.nodes is.leaves lie);
           places = places_lie joined.members.items joined.leaves.items places.items is.whole lie;
           ranges = are_ranges (tree c layout size) joined.nodes.items joined.firsts.items places.items is.nodes is.firsts long many;
           seen = record { leaves = joined.leaves.items; lie = lie; whole = is.whole; few = omega (arith, is.whole, few) };
@@ -89,7 +90,7 @@ module _ (c : Collection) (layout : Layout) (size : ℕ) where
 
 module _ (c : Collection) (t : BareTree) (ix : IndexParts) where
   -- each member is a series, where those of each leaf are
-  pub real_members : IsBare t → bare_parts t ≡ record ix { means = []; codes = [] }
+  pub real_members : IsBare t → bare_parts t ≡ record ix { means = None; codes = None }
       → All (λ (x : TreeLeaf). All (IsReal c) x.members) ix.leaves → HasSeries c t
   real_members bare same each =
       let P : List TreeLeaf → Type 0 = λ ls. All (λ (x : TreeLeaf). All (IsReal c) x.members) ls in
@@ -100,7 +101,7 @@ module _ (c : Collection) (t : BareTree) (ix : IndexParts) where
 
 module _ (c : Collection) (layout : Layout) (t : BareTree) (ix : IndexParts) (after : IndexParts) where
   -- the same tree with means is that of the index with means
-  pub same_means : bare_parts t ≡ record ix { means = []; codes = [] } → HasMeansOf c layout (bare_parts t) after
+  pub same_means : bare_parts t ≡ record ix { means = None; codes = None } → HasMeansOf c layout (bare_parts t) after
       → HasMeansOf c layout ix after
   same_means same h =
       let leaves = ap (λ (x : IndexParts). x.leaves) same in
@@ -109,6 +110,6 @@ module _ (c : Collection) (layout : Layout) (t : BareTree) (ix : IndexParts) (af
         roots = h.roots ∙ ap (λ (x : IndexParts). x.roots) same;
         nodes = h.nodes ∙ ap (λ (x : IndexParts). x.nodes) same;
         leaves = h.leaves ∙ leaves;
-        own_means = h.own_means ∙ ap (λ (ls : List TreeLeaf). map (leaf_means c layout) ls) leaves;
-        own_codes = h.own_codes ∙ ap (λ (ls : List TreeLeaf). map (leaf_codes c) ls) leaves;
+        own_means = h.own_means ∙ ap (λ (ls : List TreeLeaf). Some (map (leaf_means c layout) ls)) leaves;
+        own_codes = h.own_codes ∙ ap (λ (ls : List TreeLeaf). Some (map (leaf_codes c) ls)) leaves;
       }

@@ -84,7 +84,7 @@ member_is_series c layout ix l k d fits in_leaves in_members =
     (omega (arith, length-map members (λ (m : Member). m.number)))
     (get_or-map (λ (m : Member). m.number) members k d d.number in_members) in
     let there = total_place (times_in i) ix.leaves l no_leaf in_leaves in
-    once_below_low i (length c.series) (omega (arith, here, there, fits.each_once i))
+    once_below_low i (length c.series) (omega (arith, here, there, fits.tree.each_once i))
 
 -- the bound of a leaf is at most the distance of each of its members
 pub members_no_nearer : (c : Collection) (layout : Layout) (ix : IndexParts) (l : ℕ) (q : List ℤ)
@@ -100,9 +100,9 @@ members_no_nearer c layout ix l q fits kept cuts points whole in_leaves parts k 
     let m = slice_index_or members k d in
     let series = series_at c m.number in
     let is : m.full ≡ full_word layout series
-    = All-get_or (MembersAreSeries c layout) ix.leaves l no_leaf in_leaves fits.own_words k d in_members in
+    = All-get_or (MembersAreSeries c layout) ix.leaves l no_leaf in_leaves fits.tree.own_words k d in_members in
     let holds : word_contains word m.full ≡ true
-    = All-get_or WordContainsMembers ix.leaves l no_leaf in_leaves fits.contained k d in_members in
+    = All-get_or WordContainsMembers ix.leaves l no_leaf in_leaves fits.tree.contained k d in_members in
     let contained : word_contains word (full_word layout series) ≡ true
     = ap (λ f. word_contains word f) (sym is) ∙ holds in
     let is_series : IsSeries c.points series

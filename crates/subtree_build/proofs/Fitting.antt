@@ -1,6 +1,7 @@
--- An index that is the tree of a collection fits it (`tree_fits`).
+-- An index that is the tree of a collection fits it (`tree_fits`), as does one whose tree fits, with the means and the codes of its
+-- members' series beside it (`with_tables_fits`) or with none (`bare_fits`, `tree_alone_fits`).
 use Rattle.std.proofs.Common.{◌≡◌, ℕ, ◌+◌, ◌^◌, List, [], ◌∷◌, ◌++◌, length, map, refl, sym, ap, ◌∙◌, subst, All}
-use Rattle.std.specs.Prelude.{flat_map}
+use Rattle.std.specs.Prelude.{IfSome, None, Option, Some, flat_map}
 use Rattle.std.proofs.lemmas.List.Elements.{All-nil, All-append, All-filter}
 use Rattle.list_totals.specs.Totals.{total, one_if_same, once_below}
 use Rattle.list_totals.proofs.Totals.{total_append}
@@ -11,12 +12,13 @@ use Rattle.isax_word.specs.Word.{one_bit_word}
 use Rattle.isax_word.specs.declared.member.Member.{Member}
 use Rattle.summary_phase.specs.Members.{members_of}
 use Rattle.summary_phase.specs.Roots.{has_root, of_root}
+use Rattle.row_codes.specs.Rows.{Block}
 use Rattle.subtree_build.specs.declared.leaf.TreeLeaf.{TreeLeaf}
 use Rattle.subtree_build.specs.Tree.{Tree, leaves_of}
 use Rattle.subtree_build.specs.Division.{bits_left, roots_of, root_child, tree, tree_leaves}
 use Rattle.subtree_build.specs.Index.{IndexParts}
 use Rattle.subtree_build.specs.Means.{leaf_means, leaf_codes}
-use Rattle.subtree_build.specs.Fits.{IsTreeOf, Fits, times_in, HasItsWord, MembersAreSeries, WordContainsMembers}
+use Rattle.subtree_build.specs.Fits.{IsTreeOf, Fits, FitsByTree, TreeFits, times_in, HasItsWord, MembersAreSeries, WordContainsMembers}
 use Rattle.subtree_build.proofs.ByNumber.{times_numbers}
 use Rattle.subtree_build.proofs.Partition.{total_in, total_divided, all_divided, total_by_roots}
 use Rattle.subtree_build.proofs.RootNumbers.{root_once}
@@ -119,11 +121,10 @@ contained_in_tree c layout size is =
     (root_contains_all c layout root is))
     (roots_of c layout))
 
--- an index that is the tree of a collection fits it
-pub tree_fits : (c : Collection) (layout : Layout) (size : ℕ) (ix : IndexParts) → IsDivision layout.cuts
-    → IsTreeOf c layout size ix → ix.means ≡ map (leaf_means c layout) ix.leaves
-    → ix.codes ≡ map (leaf_codes c) ix.leaves → Fits c layout ix
-tree_fits c layout size ix is tree_is means codes =
+-- the tree of a collection fits it
+built_fits : (c : Collection) (layout : Layout) (size : ℕ) (ix : IndexParts) → IsDivision layout.cuts
+    → IsTreeOf c layout size ix → TreeFits c layout ix
+built_fits c layout size ix is tree_is =
     let P : List TreeLeaf → Type 0 = λ leaves. All (MembersAreSeries c layout) leaves in
     let Q : List TreeLeaf → Type 0 = λ leaves. All WordContainsMembers leaves in
     record {
@@ -131,6 +132,43 @@ tree_fits c layout size ix is tree_is means codes =
       each_once = λ i. ap (total (times_in i)) tree_is.leaves ∙ once_in_tree c layout size i is;
       own_words = subst P (sym tree_is.leaves) (own_in_tree c layout size);
       contained = subst Q (sym tree_is.leaves) (contained_in_tree c layout size is);
-      own_means = means;
-      own_codes = codes;
     }
+
+module _ (c : Collection) (layout : Layout) (ix : IndexParts) where
+  -- means that may be beside the leaves
+  abbrev OwnMeans : Option (List (List (List ℕ))) → Type 0
+  OwnMeans o = IfSome o (λ means. means ≡ map (leaf_means c layout) ix.leaves)
+
+  -- and codes
+  abbrev OwnCodes : Option (List (List Block)) → Type 0
+  OwnCodes o = IfSome o (λ codes. codes ≡ map (leaf_codes c) ix.leaves)
+
+  -- an index with the means and the codes of its members' series fits where its tree does
+  pub with_tables_fits : TreeFits c layout ix → ix.means ≡ Some (map (leaf_means c layout) ix.leaves)
+      → ix.codes ≡ Some (map (leaf_codes c) ix.leaves) → Fits c layout ix
+  with_tables_fits fits means codes = record {
+    tree = fits;
+    own_means = subst OwnMeans (sym means) refl;
+    own_codes = subst OwnCodes (sym codes) refl;
+  }
+
+  -- and so does one with neither
+  pub bare_fits : TreeFits c layout ix → ix.means ≡ None → ix.codes ≡ None → Fits c layout ix
+  bare_fits fits means codes = record {
+    tree = fits;
+    own_means = subst OwnMeans (sym means) tt;
+    own_codes = subst OwnCodes (sym codes) tt;
+  }
+
+-- what a tree fits it fits with nothing beside it
+pub tree_alone_fits : (ix : IndexParts) → FitsByTree ix (record ix { means = None; codes = None })
+tree_alone_fits ix c layout fits =
+    bare_fits c layout (record ix { means = None; codes = None })
+    (record { segments = fits.segments; each_once = fits.each_once; own_words = fits.own_words; contained = fits.contained }) refl refl
+
+-- an index that is the tree of a collection fits it
+pub tree_fits : (c : Collection) (layout : Layout) (size : ℕ) (ix : IndexParts) → IsDivision layout.cuts
+    → IsTreeOf c layout size ix → ix.means ≡ Some (map (leaf_means c layout) ix.leaves)
+    → ix.codes ≡ Some (map (leaf_codes c) ix.leaves) → Fits c layout ix
+tree_fits c layout size ix is tree_is means codes =
+    with_tables_fits c layout ix (built_fits c layout size ix is tree_is) means codes

@@ -13,7 +13,6 @@ pub mod Divisions
 pub mod Children
 pub mod Dividing
 pub mod Grouping
-pub mod Seen
 pub mod Growing
 pub mod LeafWords
 pub mod Standing
@@ -27,6 +26,7 @@ pub mod Fitting
 pub mod Indexing
 pub mod Placed
 pub mod InRow
+pub mod Seen
 pub mod Meaning
 pub mod Gathering
 pub mod SideBySide

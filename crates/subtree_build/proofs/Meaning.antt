@@ -1,7 +1,11 @@
 -- Means in the order of all members: cut by the places of leaves they are those of the leaves (`means_are_own`), what holds of
 -- the members of all leaves holds of all members (`all_cut`), and one more stands behind (`map_push`); the means of a leaf
--- of an index that fits are those of its members (`means_of_leaf`).
+-- of an index that fits and has means are those of its members (`means_of_leaf`), and what is made of means that an index may have is
+-- made of those of its members (`made_of_own`).
 use Rattle.std.proofs.Common.{◌≡◌, ℕ, ◌+◌, ◌-◌, ◌<◌, List, [], ◌∷◌, ◌++◌, length, take, drop, map, get_or, refl, sym, ap, ◌∙◌, subst, arith, All}
+use Rattle.std.specs.Prelude.{IfSome, None, Option, Some, is_some, option_map, slice_index_or, true}
+use Rattle.std.proofs.lemmas.Bool.{false≢true}
+use Rattle.std.proofs.lemmas.Option.{none-some, same_Some}
 use Rattle.std.proofs.lemmas.List.{take-append-drop, take-map, drop-map, map-append, take_more, take_all, take-append-le, length-drop, get_or-map, ext_get_or}
 use Rattle.std.proofs.lemmas.List.Elements.{All-nil, All-append, All-head, All-tail}
 use Rattle.series_core.specs.Collection.{Collection}
@@ -57,11 +61,29 @@ map_push f xs i x ys y inside item are is =
     ∙ ap (λ z. map f (take i xs ++ z ∷ [])) item
     ∙ ap (map f) (sym (take_more xs i x inside))
 
--- the means of a leaf are those of its members' series
+-- what is made of what there may be is made of its own
+pub made_of_own : {X Y : Type 0} (f : X → Y) (o : Option X) (own : X) (y : Y) → Some y ≡ option_map f o
+    → IfSome o (λ x. x ≡ own) → y ≡ f own
+made_of_own f None own y is are = absurd (none-some y (sym is))
+made_of_own f (Some x) own y is are = same_Some y (f x) is ∙ ap f are
+
+-- and so is what else is made of it
+pub other_of_own : {X Y Z : Type 0} (f : X → Y) (h : X → Z) (o : Option X) (own : X) (y : Y) → Some y ≡ option_map f o
+    → IfSome o (λ x. x ≡ own) → Some (h own) ≡ option_map h o
+other_of_own f h None own y is are = absurd (none-some y (sym is))
+other_of_own f h (Some x) own y is are = ap (λ z. Some (h z)) (sym are)
+
+-- means that there are, for one leaf
+own_at : (own : List (List (List ℕ))) (means : Option (List (List (List ℕ)))) (l : ℕ) → IfSome means (λ ms. ms ≡ own)
+    → is_some means ≡ true → means_at means l ≡ slice_index_or own l []
+own_at own None l are some = absurd (false≢true some)
+own_at own (Some ms) l are some = ap (λ (xs : List (List (List ℕ))). slice_index_or xs l []) are
+
+-- the means of a leaf are those of its members' series, where there are means
 pub means_of_leaf : (c : Collection) (layout : Layout) (ix : IndexParts) (l : ℕ) → Fits c layout ix
-    → l < length ix.leaves → means_at ix.means l ≡ all_means c layout (leaf_at ix.leaves l).members
-means_of_leaf c layout ix l fits real =
-    ap (λ (ms : List (List (List ℕ))). means_at ms l) fits.own_means
+    → is_some ix.means ≡ true → l < length ix.leaves → means_at ix.means l ≡ all_means c layout (leaf_at ix.leaves l).members
+means_of_leaf c layout ix l fits some real =
+    own_at (map (leaf_means c layout) ix.leaves) ix.means l fits.own_means some
     ∙ get_or-map (leaf_means c layout) ix.leaves l no_leaf [] real
 
 -- a list that was written over place by place with another one of its length is that one

@@ -1,8 +1,9 @@
 -- The codes of members in one row: no more values are coded than a series has (`coded_few`), each member has as many blocks (`length_codes`),
--- cut by the places of leaves the codes are those of the leaves (`codes_are_own`), and those of a leaf of an index that fits are those of its
--- members (`codes_of_leaf`), one by one (`codes_of_one`); so tables of members are tables (`tables_are`).
+-- cut by the places of leaves the codes are those of the leaves (`codes_are_own`), and those of a leaf of an index that fits and has codes are
+-- those of its members (`codes_of_leaf`), one by one (`codes_of_one`); so tables of members are tables (`mean_table_is`, `code_table_is`).
 use Rattle.std.proofs.Common.{◌≡◌, ℕ, ◌+◌, ◌-◌, ◌*◌, ◌<◌, ◌≤◌, Bool, true, false, cond, ℤ, List, [], ◌∷◌, ◌++◌, length, take, drop, map, get_or, refl, sym, ap, ◌∙◌, subst, arith, All}
-use Rattle.std.specs.Prelude.{ltb}
+use Rattle.std.specs.Prelude.{IfSome, None, Option, Some, is_some, ltb, slice_index_or}
+use Rattle.std.proofs.lemmas.Bool.{false≢true}
 use Rattle.std.proofs.lemmas.List.{get_or-map, length-map, length-take-le}
 use Rattle.std.proofs.lemmas.List.Elements.{All-drop, All-get_or}
 use Rattle.series_core.specs.Collection.{Collection, IsCollection}
@@ -17,7 +18,7 @@ use Rattle.subtree_build.specs.Fits.{Fits}
 use Rattle.subtree_build.specs.Index.{IndexParts, leaf_at, no_leaf}
 use Rattle.subtree_build.specs.Means.{all_codes, coded_points, coded_values, codes_at, codes_of_member, leaf_codes, means_of}
 use Rattle.subtree_build.specs.Members.{series_at}
-use Rattle.subtree_build.specs.Places.{leaves_seen, codes_seen, AreTables, AreTablesOf}
+use Rattle.subtree_build.specs.Places.{leaves_seen, codes_seen, AreTablesOf, IsCodeTable, IsMeanTable}
 use Rattle.subtree_build.proofs.Flattened.{length_pieces, drop_pieces, take_pieces, first_piece, drop_at, piece_push}
 use Rattle.subtree_build.proofs.OfCollection.{IsReal}
 use Rattle.subtree_build.proofs.SideBySide.{IsPart, element, own_row, part_long, series_long}
@@ -73,17 +74,23 @@ module _ (c : Collection) (sound : IsCollection c) where
       ∙ first_piece (codes_of_member c) n (IsReal c) codes_long m (drop (i + 1) members)
       (subst (IsReal c) (sym item) (All-get_or (IsReal c) members i m inside real))
 
-  -- the tables of the members and places are tables beside them
-  pub tables_are : (layout : Layout) (members : List Member) (places : List LeafPlace) (t : Tables) → All (IsReal c) members
-      → AreTablesOf c layout members places t → AreTables members places t
-  tables_are layout members places t real are =
+  -- the table of the members' means is a table beside them
+  pub mean_table_is : (layout : Layout) (members : List Member) (places : List LeafPlace) (t : Tables)
+      → AreTablesOf c layout members places t → IsMeanTable members places t.means
+  mean_table_is layout members places t are = record {
+    means_each = ap (λ (ms : List (List ℕ)). length ms) are.means ∙ length-map members (means_of c layout);
+    boxes_are = are.boxes;
+  }
+
+  -- and so is that of their codes
+  pub code_table_is : (layout : Layout) (members : List Member) (places : List LeafPlace) (t : Tables) → All (IsReal c) members
+      → AreTablesOf c layout members places t → IsCodeTable members t.codes
+  code_table_is layout members places t real are =
       let few : coded_points c ≤ 65536 = omega (arith, coded_few c, sound.length_limit) in
       record {
-        means_each = ap (λ (ms : List (List ℕ)). length ms) are.means ∙ length-map members (means_of c layout);
         few_blocks = subst (λ k. k ≤ 256) (sym are.blocks) (few_blocks (coded_points c) few);
         codes_each = ap (λ (cs : List Block). length cs) are.codes ∙ length_codes members real
             ∙ ap (λ k. length members * k) (sym are.blocks);
-        boxes_are = are.boxes;
       }
     where
       few_blocks : (n : ℕ) → n ≤ 65536 → block_count n ≤ 256
@@ -109,9 +116,15 @@ codes_push c members values i l n front own is coded are is_own =
     ∙ ap (λ k. row_codes (take k (take (i * l + l - i * l) (drop (i * l) values)))) coded
     ∙ ap (λ (xs : List ℤ). row_codes (take (coded_points c) xs)) (own_row c members values i l is some.0 some.1))
 
--- the codes of a leaf of an index that fits are those of its members' series
+-- codes that there are, for one leaf
+own_at : (own : List (List Block)) (codes : Option (List (List Block))) (l : ℕ) → IfSome codes (λ cs. cs ≡ own)
+    → is_some codes ≡ true → codes_at codes l ≡ slice_index_or own l []
+own_at own None l are some = absurd (false≢true some)
+own_at own (Some cs) l are some = ap (λ (xs : List (List Block)). slice_index_or xs l []) are
+
+-- the codes of a leaf of an index that fits are those of its members' series, where there are codes
 pub codes_of_leaf : (c : Collection) (layout : Layout) (ix : IndexParts) (l : ℕ) → Fits c layout ix
-    → l < length ix.leaves → codes_at ix.codes l ≡ all_codes c (leaf_at ix.leaves l).members
-codes_of_leaf c layout ix l fits real =
-    ap (λ (cs : List (List Block)). codes_at cs l) fits.own_codes
+    → is_some ix.codes ≡ true → l < length ix.leaves → codes_at ix.codes l ≡ all_codes c (leaf_at ix.leaves l).members
+codes_of_leaf c layout ix l fits some real =
+    own_at (map (leaf_codes c) ix.leaves) ix.codes l fits.own_codes some
     ∙ get_or-map (leaf_codes c) ix.leaves l no_leaf [] real

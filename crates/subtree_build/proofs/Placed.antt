@@ -1,7 +1,7 @@
 -- Where things lie in an index: the leaves at their places are those that were cut (`seen_is_cut`), each place is one
 -- (`are_places`), and the leaves below each root child are a range (`are_ranges`).
 use Rattle.std.proofs.Common.{◌≡◌, ℕ, zero, suc, ◌+◌, ◌-◌, ◌^◌, ◌<◌, ◌≤◌, List, [], ◌∷◌, ◌++◌, length, get_or, map, take, drop, refl, sym, ap, ◌∙◌, subst, arith, length-append, add_assoc, add-zero}
-use Rattle.std.specs.Prelude.{Some, slice_get, slice_index, flat_map}
+use Rattle.std.specs.Prelude.{None, Some, slice_get, slice_index, flat_map}
 use Rattle.std.specs.List.{range_with_len}
 use Rattle.std.proofs.lemmas.List.{drop-drop, get_or_default, length-drop, length-map, length-take-le}
 use Rattle.std.proofs.lemmas.List.Elements.{All-nil, All-cons}
@@ -12,7 +12,6 @@ use Rattle.segment_sums.specs.Division.{IsDivision}
 use Rattle.isax_word.specs.declared.layout.Layout.{Layout}
 use Rattle.isax_word.specs.declared.member.Member.{Member}
 use Rattle.summary_phase.specs.Members.{members_of}
-use Rattle.row_codes.specs.Rows.{Block}
 use Rattle.subtree_build.specs.declared.leaf.GrownLeaf.{GrownLeaf}
 use Rattle.subtree_build.specs.declared.leaf.LeafPlace.{LeafPlace}
 use Rattle.subtree_build.specs.declared.leaf.TreeLeaf.{TreeLeaf}
@@ -175,7 +174,7 @@ few_members c layout size leaves members is kept are whole =
 
 -- an index with these root numbers, nodes and leaves at their places is the tree
 pub tree_is_seen : (c : Collection) (layout : Layout) (size segments : ℕ) (roots : List ℕ) (joined : Joined)
-    (places : List LeafPlace) (means : List (List (List ℕ))) (codes : List (List Block)) → segments ≡ layout.cuts.segments → roots ≡ roots_of c layout
+    (places : List LeafPlace) → segments ≡ layout.cuts.segments → roots ≡ roots_of c layout
     → map outline joined.nodes.items ≡ all_numbered 0 (tree c layout size)
     → cut_leaves joined.leaves.items joined.members.items ≡ tree_leaves c layout size
     → places ≡ places_from 0 joined.leaves.items
@@ -184,10 +183,10 @@ pub tree_is_seen : (c : Collection) (layout : Layout) (size segments : ℕ) (roo
       roots = roots;
       nodes = joined.nodes.items;
       leaves = leaves_seen joined.members.items places;
-      means = means;
-      codes = codes;
+      means = None;
+      codes = None;
     })
-tree_is_seen c layout size segments roots joined places means codes same roots_are nodes_are leaves_are at = record {
+tree_is_seen c layout size segments roots joined places same roots_are nodes_are leaves_are at = record {
   segments = same;
   roots = roots_are;
   nodes = nodes_are;

@@ -1,5 +1,5 @@
 -- Parts that make an index, and the index that they make.
-use Rattle.std.specs.Prelude.{◌≡◌, ℕ, ◌+◌, ◌^◌, ◌<◌, ◌≤◌, true, false, List, [], ◌∷◌, ◌++◌, length, map, Some, slice_get, slice_index}
+use Rattle.std.specs.Prelude.{◌≡◌, ℕ, ◌+◌, ◌^◌, ◌<◌, ◌≤◌, true, false, List, [], ◌∷◌, ◌++◌, length, map, Some, None, slice_get, slice_index}
 use Rattle.std.specs.List.{All, range_with_len, flat_map}
 use Rattle.std.specs.List.Sorted.{IsStrictlyIncreasing}
 use Rattle.series_core.specs.Collection.{Collection}
@@ -42,13 +42,15 @@ pub record MakeIndex (segments : ℕ) (roots : List ℕ) (nodes : List Node) (le
   pub all_stand : AllStand segments roots nodes
   pub in_order : flat_map leaf_numbers nodes ≡ range_with_len 0 leaves
 
--- an index of these parts
+-- an index of these parts, with nothing beside its tree
 pub record IsOfParts (count : ℕ) (numbers : List ℕ) (subtrees : List Node) (lists : List (List Member)) (ix : IndexParts)
     : Type 0 where
   pub segments : ix.segments ≡ count
   pub roots : ix.roots ≡ numbers
   pub nodes : ix.nodes ≡ subtrees
   pub members : map (λ x. x.members) ix.leaves ≡ lists
+  pub no_means : ix.means ≡ None
+  pub no_codes : ix.codes ≡ None
 
 -- the numbers of a tree's leaves are those from `first` on, all of them at most up to `end`
 pub record AreNumbered (first end : ℕ) (t : Tree ℕ) : Type 0 where
@@ -81,5 +83,5 @@ pub record HasMeansOf (c : Collection) (layout : Layout) (before after : IndexPa
   pub roots : after.roots ≡ before.roots
   pub nodes : after.nodes ≡ before.nodes
   pub leaves : after.leaves ≡ before.leaves
-  pub own_means : after.means ≡ map (leaf_means c layout) before.leaves
-  pub own_codes : after.codes ≡ map (leaf_codes c) before.leaves
+  pub own_means : after.means ≡ Some (map (leaf_means c layout) before.leaves)
+  pub own_codes : after.codes ≡ Some (map (leaf_codes c) before.leaves)

@@ -1,23 +1,29 @@
 -- A tree but for the tables beside its members.
-use Rattle.std.specs.Prelude.{◌<◌, [], length}
+use Rattle.std.specs.Prelude.{◌<◌, Option, None, IfSome, length}
 use Rattle.std.specs.List.{All}
 use Rattle.series_core.specs.Collection.{Collection}
 use Rattle.subtree_build.specs.declared.bare_tree.BareTree.{BareTree}
 use Rattle.subtree_build.specs.declared.settings.Settings.{Settings}
+use Rattle.subtree_build.specs.declared.tables.MeanTable.{MeanTable}
+use Rattle.subtree_build.specs.declared.tables.CodeTable.{CodeTable}
 use Rattle.subtree_build.specs.Fits.{IsTreeOf}
 use Rattle.subtree_build.specs.Index.{IndexParts, IsIndex}
-use Rattle.subtree_build.specs.Places.{leaves_seen, AreAllSeen, ArePlaces, AreRanges}
+use Rattle.subtree_build.specs.Places.{leaves_seen, means_beside, codes_beside, AreAllSeen, ArePlaces, AreRanges, IsCodeTable, IsMeanTable}
 
--- what is seen of a tree that has no means and no codes
-abbrev pub bare_parts : BareTree → IndexParts
-bare_parts t = record {
+-- what is seen of a tree with what stands beside it
+abbrev pub parts_with : BareTree → Option MeanTable → Option CodeTable → IndexParts
+parts_with t means codes = record {
   segments = t.segments;
   roots = t.roots.items;
   nodes = t.nodes.items;
   leaves = leaves_seen t.members.items t.leaves.items;
-  means = [];
-  codes = [];
+  means = means_beside means t.leaves.items;
+  codes = codes_beside codes t.leaves.items;
 }
+
+-- what is seen of a tree with nothing beside it
+abbrev pub bare_parts : BareTree → IndexParts
+bare_parts t = parts_with t None None
 
 -- it makes an index, and each thing lies at its place
 pub record IsBare (t : BareTree) : Type 0 where
@@ -25,6 +31,11 @@ pub record IsBare (t : BareTree) : Type 0 where
   pub places : ArePlaces t.members.items t.leaves.items
   pub ranges : AreRanges t.nodes.items t.firsts.items t.leaves.items
   pub seen : AreAllSeen t.members.items t.leaves.items
+
+-- what stands beside it are tables of its members
+pub record AreBeside (t : BareTree) (means : Option MeanTable) (codes : Option CodeTable) : Type 0 where
+  pub means_are : IfSome means (IsMeanTable t.members.items t.leaves.items)
+  pub codes_are : IfSome codes (IsCodeTable t.members.items)
 
 -- it is the tree of the collection
 abbrev pub IsBareTreeOf : Collection → Settings → BareTree → Type 0

@@ -1,5 +1,5 @@
 -- An index that is the tree of a collection, and an index that fits a collection whatever its tree.
-use Rattle.std.specs.Prelude.{◌≡◌, ℕ, ℤ, ◌≤◌, true, List, length, map}
+use Rattle.std.specs.Prelude.{◌≡◌, ℕ, ℤ, ◌≤◌, ◌↔◌, true, IfSome, List, None, length, map}
 use Rattle.series_core.specs.Distance.{squared_distance}
 use Rattle.std.specs.List.{All}
 use Rattle.list_totals.specs.Totals.{total, times, once_below}
@@ -39,16 +39,30 @@ MembersAreSeries c layout x = All (HasItsWord c layout) x.members
 abbrev pub WordContainsMembers : TreeLeaf → Type 0
 WordContainsMembers x = All (λ m. word_contains x.word m.full ≡ true) x.members
 
--- the index fits the collection under a layout: it has the layout's number of segments, each number of a
+-- the tree of the index fits the collection under a layout: it has the layout's number of segments, each number of a
 -- series is that of a member of exactly one leaf, once, no other number is, each member has its series' full
--- word, and its leaf's word contains it; and the means and the codes of each leaf are those of its members' series
-pub record Fits (c : Collection) (layout : Layout) (ix : IndexParts) : Type 0 where
+-- word, and its leaf's word contains it
+pub record TreeFits (c : Collection) (layout : Layout) (ix : IndexParts) : Type 0 where
   pub segments : ix.segments ≡ layout.cuts.segments
   pub each_once : (i : ℕ) → total (times_in i) ix.leaves ≡ once_below i (length c.series)
   pub own_words : All (MembersAreSeries c layout) ix.leaves
   pub contained : All WordContainsMembers ix.leaves
-  pub own_means : ix.means ≡ map (leaf_means c layout) ix.leaves
-  pub own_codes : ix.codes ≡ map (leaf_codes c) ix.leaves
+
+-- the index fits the collection under a layout: its tree does, and where it has means or codes, those of each leaf are those of
+-- its members' series
+pub record Fits (c : Collection) (layout : Layout) (ix : IndexParts) : Type 0 where
+  pub tree : TreeFits c layout ix
+  pub own_means : IfSome ix.means (λ means. means ≡ map (leaf_means c layout) ix.leaves)
+  pub own_codes : IfSome ix.codes (λ codes. codes ≡ map (leaf_codes c) ix.leaves)
+
+-- an index fits what the tree of another does
+abbrev pub FitsByTree : IndexParts → IndexParts → Type 0
+FitsByTree ix jx = (c : Collection) (layout : Layout) → TreeFits c layout ix → Fits c layout jx
+
+-- an index with nothing beside its tree fits exactly where its tree does
+abbrev pub BareTreesFit : Type 0
+BareTreesFit = (c : Collection) (layout : Layout) (ix : IndexParts) → ix.means ≡ None → ix.codes ≡ None
+    → Fits c layout ix ↔ TreeFits c layout ix
 
 -- the distance of a member's series to a query is at least a bound
 abbrev pub IsNoNearerThan : ℕ → Collection → List ℤ → Member → Type 0

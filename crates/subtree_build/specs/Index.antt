@@ -1,5 +1,5 @@
 -- What an index holds, and the facts that every index keeps.
-use Rattle.std.specs.Prelude.{◌≡◌, ℕ, ◌^◌, ◌<◌, ◌≤◌, List, [], length, Some, slice_get, slice_index, slice_index_or, true, ◌&&◌, false}
+use Rattle.std.specs.Prelude.{◌≡◌, ℕ, ◌^◌, ◌<◌, ◌≤◌, List, [], length, IsSome, Option, Some, slice_get, slice_index, slice_index_or, true, ◌&&◌, false}
 use Rattle.std.specs.List.{All, range_with_len, flat_map}
 use Rattle.std.specs.List.Sorted.{IsStrictlyIncreasing}
 use Rattle.isax_word.specs.declared.word.Part.{Part}
@@ -10,15 +10,20 @@ use Rattle.subtree_build.specs.declared.leaf.TreeLeaf.{TreeLeaf}
 use Rattle.subtree_build.specs.Tree.{Tree, absent, leaf, split, is_absent}
 use Rattle.subtree_build.specs.Outline.{outline, leaf_numbers}
 
--- an index: how many segments its words have, the root numbers and nodes of its root children, its leaves, and for each leaf
--- the means and the codes of its members
+-- an index: how many segments its words have, the root numbers and nodes of its root children, its leaves, and, where it has
+-- them, for each leaf the means and the codes of its members
 pub record IndexParts : Type 0 where
   pub segments : ℕ
   pub roots : List ℕ
   pub nodes : List Node
   pub leaves : List TreeLeaf
-  pub means : List (List (List ℕ))
-  pub codes : List (List Block)
+  pub means : Option (List (List (List ℕ)))
+  pub codes : Option (List (List Block))
+
+-- an index that has means and codes
+pub record HasTables (ix : IndexParts) : Type 0 where
+  pub means : IsSome ix.means
+  pub codes : IsSome ix.codes
 
 -- the leaf that stands past the end
 abbrev pub no_leaf : TreeLeaf

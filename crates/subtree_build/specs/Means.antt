@@ -1,5 +1,5 @@
 -- The means of members and the codes of their rows, member by member and leaf by leaf.
-use Rattle.std.specs.Prelude.{ℕ, ℤ, ◌≡◌, ◌+◌, ◌*◌, ◌/◌, ◌^◌, ◌<◌, ◌≤◌, All, List, [], cond, length, ltb, map, min, slice_index_or, take}
+use Rattle.std.specs.Prelude.{ℕ, ℤ, ◌≡◌, ◌+◌, ◌*◌, ◌/◌, ◌^◌, ◌<◌, ◌≤◌, All, List, [], Option, Some, None, cond, length, ltb, map, min, slice_index_or, take}
 use Rattle.std.specs.List.{flat_map}
 use Rattle.series_core.specs.Collection.{Collection}
 use Rattle.series_core.specs.declared.rows.TheConstants.{MAX_VALUES}
@@ -22,9 +22,10 @@ all_means c layout members = map (means_of c layout) members
 abbrev pub leaf_means : Collection → Layout → TreeLeaf → List (List ℕ)
 leaf_means c layout x = all_means c layout x.members
 
--- the means that stand for leaf l
-abbrev pub means_at : List (List (List ℕ)) → ℕ → List (List ℕ)
-means_at means l = slice_index_or means l []
+-- the means that stand for leaf l: none where there are none of any leaf
+abbrev pub means_at : Option (List (List (List ℕ))) → ℕ → List (List ℕ)
+means_at None l = []
+means_at (Some means) l = slice_index_or means l []
 
 -- how many values of a series of n are coded, the first ones: those of each whole block of 256, and those behind the last of these where
 -- they fill seven eighths of one block more
@@ -47,9 +48,10 @@ all_codes c members = flat_map (codes_of_member c) members
 abbrev pub leaf_codes : Collection → TreeLeaf → List Block
 leaf_codes c x = all_codes c x.members
 
--- the codes that stand for leaf l
-abbrev pub codes_at : List (List Block) → ℕ → List Block
-codes_at codes l = slice_index_or codes l []
+-- the codes that stand for leaf l: none where there are none of any leaf
+abbrev pub codes_at : Option (List (List Block)) → ℕ → List Block
+codes_at None l = []
+codes_at (Some codes) l = slice_index_or codes l []
 
 -- the values of members' series, one series after another
 abbrev pub all_values : Collection → List Member → List ℤ

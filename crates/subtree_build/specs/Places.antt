@@ -1,5 +1,5 @@
 -- Where an index keeps things: the members of each leaf in the row of all members, and the leaves below each root child.
-use Rattle.std.specs.Prelude.{◌≡◌, ℕ, ◌+◌, ◌-◌, ◌*◌, ◌^◌, ◌<◌, ◌≤◌, List, [], ◌∷◌, Some, length, map, take, drop, slice_get, slice_index}
+use Rattle.std.specs.Prelude.{◌≡◌, ℕ, ◌+◌, ◌-◌, ◌*◌, ◌^◌, ◌<◌, ◌≤◌, List, [], ◌∷◌, Option, Some, length, map, option_map, take, drop, slice_get, slice_index}
 use Rattle.std.specs.List.{All, range_with_len}
 use Rattle.series_core.specs.Collection.{Collection}
 use Rattle.mean_bound.specs.Boxes.{Box, box_of, box_of_boxes}
@@ -11,6 +11,8 @@ use Rattle.subtree_build.specs.declared.boxes.Boxes.{Boxes}
 use Rattle.subtree_build.specs.declared.leaf.GrownLeaf.{GrownLeaf}
 use Rattle.subtree_build.specs.declared.leaf.LeafPlace.{LeafPlace}
 use Rattle.subtree_build.specs.declared.leaf.TreeLeaf.{TreeLeaf}
+use Rattle.subtree_build.specs.declared.tables.CodeTable.{CodeTable}
+use Rattle.subtree_build.specs.declared.tables.MeanTable.{MeanTable}
 use Rattle.subtree_build.specs.declared.tables.Tables.{Tables}
 use Rattle.subtree_build.specs.declared.node.Node.{Node}
 use Rattle.subtree_build.specs.Division.{leaf_with}
@@ -56,6 +58,14 @@ abbrev pub codes_seen : ℕ → List Block → List LeafPlace → List (List Blo
 codes_seen blocks codes places =
     map (λ p. take ((p.end - p.first) * blocks) (drop (p.first * blocks) codes)) places
 
+-- the means of a table for the leaves at places, where there is one
+abbrev pub means_beside : Option MeanTable → List LeafPlace → Option (List (List (List ℕ)))
+means_beside table places = option_map (λ t. means_seen t.means.items places) table
+
+-- and the codes of one
+abbrev pub codes_beside : Option CodeTable → List LeafPlace → Option (List (List Block))
+codes_beside table places = option_map (λ t. codes_seen t.blocks t.codes.items places) table
+
 -- a place lies among `count` members
 pub record IsPlace (count : ℕ) (p : LeafPlace) : Type 0 where
   pub order : p.first ≤ p.end
@@ -72,20 +82,23 @@ pub record AreAllSeen (members : List Member) (places : List LeafPlace) : Type 0
   pub whole : members_in leaves ≡ length members
   pub few : length members < 2 ^ 32
 
--- the tables beside the members: the means of each, the codes of its row, and the boxes of the means at places
-pub record AreTables (members : List Member) (places : List LeafPlace) (t : Tables) : Type 0 where
+-- a table of means: those of each member, and the boxes of those at places
+pub record IsMeanTable (members : List Member) (places : List LeafPlace) (t : MeanTable) : Type 0 where
   pub means_each : length t.means.items ≡ length members
+  pub boxes_are : AreBoxes t.means.items places t.boxes
+
+-- a table of codes: as many blocks for each member
+pub record IsCodeTable (members : List Member) (t : CodeTable) : Type 0 where
   pub few_blocks : t.blocks ≤ 256
   pub codes_each : length t.codes.items ≡ length members * t.blocks
-  pub boxes_are : AreBoxes t.means.items places t.boxes
 
 -- the tables of members that are series of the collection, and of places among them
 pub record AreTablesOf (c : Collection) (layout : Layout) (members : List Member) (places : List LeafPlace) (t : Tables)
     : Type 0 where
-  pub means : t.means.items ≡ all_means c layout members
-  pub blocks : t.blocks ≡ block_count (coded_points c)
-  pub codes : t.codes.items ≡ all_codes c members
-  pub boxes : AreBoxes t.means.items places t.boxes
+  pub means : t.means.means.items ≡ all_means c layout members
+  pub boxes : AreBoxes t.means.means.items places t.means.boxes
+  pub blocks : t.codes.blocks ≡ block_count (coded_points c)
+  pub codes : t.codes.codes.items ≡ all_codes c members
 
 -- the leaves below a node are those from the first up to but not including the end, which are some of these leaves
 pub record IsRange (count first end : ℕ) (node : Node) : Type 0 where

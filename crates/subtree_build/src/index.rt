@@ -1,12 +1,12 @@
-//! The index: root children by root number, the nodes and the range of leaves below each, the leaves in order, and in that
-//! order the members of all leaves in one row, and beside it their means, their codes, and the boxes of the leaves' means.
-ghost use Rattle.std.specs.Prelude.{◌≡◌, [], ◌*◌, ◌<◌, ◌≤◌, ◌^◌, All, IfOk, OnOk, IsErrOf, length, map, take, drop, Some, slice_get, slice_index};
+//! The index: a tree, and what stands beside it, if anything does: the means of its members with the boxes of the leaves' means, and the
+//! codes of the members' rows. The tree alone says what is found; the tables beside it tell a search what it need not read.
+ghost use Rattle.std.specs.Prelude.{◌≡◌, [], ◌*◌, ◌<◌, ◌≤◌, ◌^◌, ◌↔◌, All, IfOk, IsTrue, OnOk, IsErrOf, is_some, length, map, option_copied, option_map, take, drop, None, Some, slice_get, slice_index, slice_index_or};
 ghost use Rattle.std.specs.List.{flat_map};
 ghost use Rattle.mean_bound.specs.Boxes.{box_of, box_of_boxes};
 ghost use Rattle.subtree_build.specs.Assembly.{HasMeansOf, IsOfParts, MakeIndex};
 ghost use Rattle.subtree_build.specs.BareTree.{HasSeries, IsBare, IsBareTreeOf, bare_parts};
-ghost use Rattle.subtree_build.specs.Fits.{Fits, IsTreeOf};
-ghost use Rattle.subtree_build.specs.Index.{IsIndex, leaf_at, root_word_at};
+ghost use Rattle.subtree_build.specs.Fits.{Fits, FitsByTree, IsTreeOf};
+ghost use Rattle.subtree_build.specs.Index.{HasTables, IsIndex, leaf_at, root_word_at};
 ghost use Rattle.subtree_build.specs.Means.{codes_at, means_at};
 ghost use Rattle.subtree_build.specs.Places.{AreTablesOf, IsPlace, IsRange};
 ghost use Rattle.subtree_build.specs.Start.{node_at};
@@ -14,13 +14,13 @@ ghost use Rattle.subtree_build.specs.declared.assembly.Assembly.TheVariants.{Par
 
 use crate::assembly::{Assembly, make_index};
 use crate::bare_tree::BareTree;
-use crate::leaf::{LeafPlace, MemberList};
+use crate::leaf::MemberList;
 use crate::leaf_row::{Gathered, LeafWords, gather_leaves, words_below};
 use crate::node::Node;
 use crate::part::placed;
 use crate::room::Room;
 use crate::settings::Settings;
-use crate::tables::{Tables, blank_tables, tables_alone, tables_of};
+use crate::tables::{CodeTable, MeanTable, Tables, tables_alone, tables_of};
 use isax_word::{Layout, Member, Word};
 use mean_bound::{MeanBox, Means};
 use outside::NoMemory;
@@ -30,49 +30,27 @@ use std::alloc::Global;
 use std::marker::Model;
 use std::thread::Threads;
 
-/// An iSAX tree over a collection, seen as its segments, root numbers, root children's nodes, leaves and means.
+/// An iSAX tree over a collection, seen as its segments, root numbers, root children's nodes and leaves, and what stands beside these.
 #[derive(Drop)]
 pub struct Index {
-    segments: u32,
-    roots: Vec<u32>,
-    nodes: Vec<Node>,
-    firsts: Vec<u32>,
-    leaves: Vec<LeafPlace>,
-    members: Vec<Member>,
-    tables: Tables,
+    tree: BareTree,
+    mean_table: Option<MeanTable>,
+    code_table: Option<CodeTable>,
 }
 
 impl Model for Index {
-    ghost use Rattle.std.specs.Prelude.{◌≡◌, length};
     ghost use Rattle.std.specs.Coded.{codes};
     ghost use Rattle.subtree_build.specs.contracts.node.Node as node;
-    ghost use Rattle.subtree_build.specs.Index.{IndexParts, IsIndex};
-    ghost use Rattle.subtree_build.specs.Places.{leaves_seen, means_seen, codes_seen, AreAllSeen, ArePlaces, AreRanges, AreTables};
+    ghost use Rattle.subtree_build.specs.BareTree.{AreBeside, IsBare, parts_with};
+    ghost use Rattle.subtree_build.specs.Index.{IndexParts};
 
     ghost Value = { IndexParts };
 
     ghost coded = { Prim.hlevel (codes, node.the_row.coded) };
 
-    ghost view = { λ x. record {
-      segments = x.segments;
-      roots = x.roots.items;
-      nodes = x.nodes.items;
-      leaves = leaves_seen x.members.items x.leaves.items;
-      means = means_seen x.tables.means.items x.leaves.items;
-      codes = codes_seen x.tables.blocks x.tables.codes.items x.leaves.items;
-    } };
+    ghost view = { λ x. parts_with x.tree x.mean_table x.code_table };
 
-    ghost invariant = { λ x. IsIndex (record {
-      segments = x.segments;
-      roots = x.roots.items;
-      nodes = x.nodes.items;
-      leaves = leaves_seen x.members.items x.leaves.items;
-      means = means_seen x.tables.means.items x.leaves.items;
-      codes = codes_seen x.tables.blocks x.tables.codes.items x.leaves.items;
-    }) × ArePlaces x.members.items x.leaves.items
-        × AreRanges x.nodes.items x.firsts.items x.leaves.items
-        × AreTables x.members.items x.leaves.items x.tables
-        × AreAllSeen x.members.items x.leaves.items };
+    ghost invariant = { λ x. IsBare x.tree × AreBeside x.tree x.mean_table x.code_table };
 }
 
 impl Index {
@@ -86,22 +64,10 @@ impl Index {
         let _ = layout;
         // for the fact that the rows are a collection
         let _count = rows.count();
-        let BareTree {
-            segments,
-            roots,
-            nodes,
-            firsts,
-            leaves,
-            members,
-        } = bare;
         Index {
-            segments,
-            roots,
-            nodes,
-            firsts,
-            leaves,
-            members,
-            tables,
+            tree: bare,
+            mean_table: Some(tables.means),
+            code_table: Some(tables.codes),
         }
     }
 
@@ -119,6 +85,7 @@ impl Index {
             AreTablesOf (R.collection rows.now) settings.now.layout bare.members.items places tables }
         ensures tree { IsTreeOf (R.collection rows.now) settings.now.layout settings.now.leaf_size result }
         ensures fits { Fits (R.collection rows.now) settings.now.layout result }
+        ensures tables { HasTables result }
     {
         // for the fact that the cuts divide a series
         let _segments = settings.layout.cuts.segments();
@@ -132,31 +99,26 @@ impl Index {
         ensures few { length result.members.items < 2 ^ 32 }
         ensures places { All (IsPlace (length result.members.items)) result.leaves.items }
         ensures series { HasSeries (R.collection rows.now) result }
-        ensures same { bare_parts result ≡ record self { means = []; codes = [] } }
+        ensures same { bare_parts result ≡ record self { means = None; codes = None } }
     {
-        let Index {
-            segments,
-            roots,
-            nodes,
-            firsts,
-            leaves,
-            members,
-            tables,
-        } = self;
-        drop(tables);
         let _ = rows;
-        BareTree {
-            segments,
-            roots,
-            nodes,
-            firsts,
-            leaves,
-            members,
+        self.tree
+    }
+
+    /// The same tree, with nothing beside it. It fits what its tree fits, so it can be searched, as slowly as its words alone allow.
+    pub fn without_tables(self) -> Index
+        ensures tree { result ≡ record self { means = None; codes = None } }
+        ensures fits { FitsByTree self result }
+    {
+        Index {
+            tree: self.tree,
+            mean_table: None,
+            code_table: None,
         }
     }
 
-    /// The index of these parts, whose leaves are words by their nodes. Parts where they make no index, and only there. The
-    /// means of its members are those of no rows: `with_means` makes these.
+    /// The index of these parts, whose leaves are words by their nodes. Parts where they make no index, and only there. Nothing stands
+    /// beside its tree: `with_means` puts the tables there.
     pub fn assemble(
         alloc: Global,
         segments: u32,
@@ -204,15 +166,17 @@ impl Index {
         } = gather_leaves(alloc, words.as_slice(), leaves.as_slice())?;
         drop(leaves);
         let leaves = placed(alloc, own.as_slice())?;
-        let tables = blank_tables(alloc, members.as_slice(), leaves.as_slice())?;
         Ok(Index {
-            segments,
-            roots,
-            nodes,
-            firsts,
-            leaves,
-            members,
-            tables,
+            tree: BareTree {
+                segments,
+                roots,
+                nodes,
+                firsts,
+                leaves,
+                members,
+            },
+            mean_table: None,
+            code_table: None,
         })
     }
 
@@ -256,7 +220,7 @@ impl Index {
         ensures count { result ≡ length self.now.leaves }
         ensures is_index { IsIndex self.now }
     {
-        self.leaves.len() as u32
+        self.tree.leaves.len() as u32
     }
 
     /// How many root children there are.
@@ -264,7 +228,7 @@ impl Index {
         ensures count { result ≡ length self.now.roots }
         ensures is_index { IsIndex self.now }
     {
-        self.roots.len() as u32
+        self.tree.roots.len() as u32
     }
 
     /// The node of root child number `i`, counted from 0 in the order of the root numbers.
@@ -272,7 +236,7 @@ impl Index {
         requires { i < length self.now.roots }
         ensures { slice_get self.now.nodes i ≡ Some result.now }
     {
-        &self.nodes[i as usize]
+        &self.tree.nodes[i as usize]
     }
 
     /// The leaves below root child number `i`, in order: those from the first of the two numbers up to but not including
@@ -282,7 +246,7 @@ impl Index {
         ensures { IsRange (length self.now.leaves) result.0 result.1 (node_at self.now i) }
     {
         let i = i as usize;
-        (self.firsts[i], self.firsts[i + 1])
+        (self.tree.firsts[i], self.tree.firsts[i + 1])
     }
 
     /// The root number of root child number `i`, of one bit for each segment.
@@ -291,7 +255,7 @@ impl Index {
         ensures value { result ≡ slice_index self.now.roots i }
         ensures bits { result < 2 ^ self.now.segments }
     {
-        self.roots[i as usize]
+        self.tree.roots[i as usize]
     }
 
     /// The word of root child number `i`, which has one bit in each segment.
@@ -300,7 +264,7 @@ impl Index {
         ensures value { result ≡ root_word_at self.now i }
         ensures segments { length result ≡ self.now.segments }
     {
-        Word::of_root(self.roots[i as usize], self.segments)
+        Word::of_root(self.tree.roots[i as usize], self.tree.segments)
     }
 
     /// The word of leaf number `l`.
@@ -308,21 +272,48 @@ impl Index {
         requires { l < length self.now.leaves }
         ensures { result.now ≡ (leaf_at self.now.leaves l).word }
     {
-        &self.leaves[l as usize].word
+        &self.tree.leaves[l as usize].word
     }
 
     /// The members of all leaves, leaf after leaf.
     pub fn members(&self) -> &[Member]
         ensures { result.now ≡ flat_map (λ x. x.members) self.now.leaves }
     {
-        &self.members
+        &self.tree.members
     }
 
-    /// The codes of the members of all leaves, in the order of the members: each has those of its row.
-    pub fn codes(&self) -> &[CodeBlock]
-        ensures { result.now ≡ flat_map (λ codes. codes) self.now.codes }
+    /// Whether it has the means of its members.
+    #[inline(always)]
+    pub fn has_means(&self) -> bool
+        ensures { result ≡ is_some self.now.means }
     {
-        &self.tables.codes
+        self.mean_table.is_some()
+    }
+
+    /// Whether it has the codes of its members' rows.
+    #[inline(always)]
+    pub fn has_codes(&self) -> bool
+        ensures { result ≡ is_some self.now.codes }
+    {
+        self.code_table.is_some()
+    }
+
+    /// Whether it has both.
+    #[inline(always)]
+    pub fn has_tables(&self) -> bool
+        ensures { IsTrue result ↔ HasTables self.now }
+    {
+        self.has_means() && self.has_codes()
+    }
+
+    /// The codes of the members of all leaves, in the order of the members: each has those of its row. None where it has no codes.
+    pub fn codes(&self) -> Option<&[CodeBlock]>
+        ensures { option_copied result ≡ option_map (flat_map (λ codes. codes)) self.now.codes }
+    {
+        match &self.code_table {
+            Some(table) => Some(&table.codes),
+            None => None,
+        }
     }
 
     /// The members of leaf number `l`, in the order in which they are listed.
@@ -330,51 +321,68 @@ impl Index {
         requires { l < length self.now.leaves }
         ensures { result.now ≡ (leaf_at self.now.leaves l).members }
     {
-        let place = &self.leaves[l as usize];
-        &self.members[place.first as usize..place.end as usize]
+        let place = &self.tree.leaves[l as usize];
+        &self.tree.members[place.first as usize..place.end as usize]
     }
 
-    /// The means of the members of leaf number `l`, in the order of the members.
+    /// The means of the members of leaf number `l`, in the order of the members. None where it has no means.
     pub fn leaf_means(&self, l: u32) -> &[Means]
         requires { l < length self.now.leaves }
         ensures { result.now ≡ means_at self.now.means l }
     {
-        let place = &self.leaves[l as usize];
-        &self.tables.means[place.first as usize..place.end as usize]
+        match &self.mean_table {
+            Some(table) => table.at(&self.tree.leaves[l as usize]),
+            None => &[],
+        }
     }
 
-    /// The codes of the members of leaf number `l`, in the order of the members: as many for each as its row has blocks.
+    /// The codes of the members of leaf number `l`, in the order of the members: as many for each as its row has blocks. None where it
+    /// has no codes.
     pub fn leaf_codes(&self, l: u32) -> &[CodeBlock]
         requires { l < length self.now.leaves }
         ensures { result.now ≡ codes_at self.now.codes l }
     {
-        let place = &self.leaves[l as usize];
-        let blocks = self.tables.blocks as usize;
-        &self.tables.codes[place.first as usize * blocks..place.end as usize * blocks]
+        match &self.code_table {
+            Some(table) => table.at(&self.tree.leaves[l as usize]),
+            None => &[],
+        }
     }
 
-    /// The box of the means of the members of leaf number `l`.
-    pub fn leaf_box(&self, l: u32) -> &MeanBox
+    /// The box of the means of the members of leaf number `l`. None where it has no means.
+    pub fn leaf_box(&self, l: u32) -> Option<&MeanBox>
         requires { l < length self.now.leaves }
-        ensures { result.now ≡ box_of (means_at self.now.means l) }
+        ensures { option_copied result ≡ option_map (λ means. box_of (slice_index_or means l [])) self.now.means }
     {
-        &self.tables.boxes.leaves[l as usize]
+        match &self.mean_table {
+            Some(table) => Some(&table.boxes.leaves[l as usize]),
+            None => None,
+        }
     }
 
-    /// The box of the means of all members of group number `g`: of 16 leaves, from number `16 * g` on, or those that are left.
-    pub fn group_box(&self, g: u32) -> &MeanBox
+    /// The box of the means of all members of group number `g`: of 16 leaves, from number `16 * g` on, or those that are left. None where it
+    /// has no means.
+    pub fn group_box(&self, g: u32) -> Option<&MeanBox>
         requires { g * 16 < length self.now.leaves }
-        ensures { result.now ≡ box_of_boxes (map box_of (take 16 (drop (g * 16) self.now.means))) }
+        ensures { option_copied result
+            ≡ option_map (λ means. box_of_boxes (map box_of (take 16 (drop (g * 16) means)))) self.now.means }
     {
-        &self.tables.boxes.groups[g as usize]
+        match &self.mean_table {
+            Some(table) => Some(&table.boxes.groups[g as usize]),
+            None => None,
+        }
     }
 
-    /// The box of the means of all members of wide group number `g`: of 256 leaves, from number `256 * g` on, or those that are left.
-    pub fn wide_group_box(&self, g: u32) -> &MeanBox
+    /// The box of the means of all members of wide group number `g`: of 256 leaves, from number `256 * g` on, or those that are left. None
+    /// where it has no means.
+    pub fn wide_group_box(&self, g: u32) -> Option<&MeanBox>
         requires { g * 256 < length self.now.leaves }
-        ensures { result.now ≡ box_of_boxes (map box_of (take 256 (drop (g * 256) self.now.means))) }
+        ensures { option_copied result
+            ≡ option_map (λ means. box_of_boxes (map box_of (take 256 (drop (g * 256) means)))) self.now.means }
     {
-        &self.tables.boxes.wide_groups[g as usize]
+        match &self.mean_table {
+            Some(table) => Some(&table.boxes.wide_groups[g as usize]),
+            None => None,
+        }
     }
 
     /// How many segments the words have, from 1 to 16.
@@ -382,6 +390,6 @@ impl Index {
         ensures count { result ≡ self.now.segments }
         ensures is_index { IsIndex self.now }
     {
-        self.segments
+        self.tree.segments
     }
 }

@@ -1,7 +1,7 @@
 //! Laws of trees that searches rest on. Each is proved of the definitions alone.
 ghost use Rattle.std.specs.Prelude.{◌≡◌, ◌<◌, ◌≤◌, length, All};
 ghost use Rattle.lower_bound.specs.Bound.{view_of, word_bound};
-ghost use Rattle.subtree_build.specs.Fits.{Fits, IsNoNearerThan};
+ghost use Rattle.subtree_build.specs.Fits.{BareTreesFit, Fits, IsNoNearerThan};
 ghost use Rattle.subtree_build.specs.Index.{StandsUnder, leaf_at};
 ghost use Rattle.subtree_build.specs.Outline.{outline, leaf_numbers};
 
@@ -40,3 +40,8 @@ pub fn leaf_bound_is_below_distances<R: Rows>(
     let _segments = layout.cuts.segments();
     let _parts = index.leaf_word(l).segments();
 }
+
+/// The law that an index with nothing beside its tree fits a collection exactly where its tree does.
+pub fn bare_tree_fits()
+    ensures { BareTreesFit }
+{}

@@ -27,7 +27,7 @@ mod tables;
 pub use assembly::Assembly;
 pub use boxes::{GROUP, WIDE_GROUP};
 pub use index::Index;
-pub use laws::{leaf_bound_is_below_distances, leaf_bound_is_no_less};
+pub use laws::{bare_tree_fits, leaf_bound_is_below_distances, leaf_bound_is_no_less};
 pub use leaf::{MemberList, TreeLeaf};
 pub use means::coded_length;
 pub use node::Node;

@@ -3,6 +3,7 @@ ghost use Rattle.std.specs.Prelude.{◌≡◌, ◌^◌, ◌<◌, ◌≤◌, IfOk
 ghost use Rattle.std.specs.Thread.{IsSync};
 ghost use Rattle.series_core.specs.Collection.{IsCollection};
 ghost use Rattle.subtree_build.specs.Fits.{Fits, IsTreeOf};
+ghost use Rattle.subtree_build.specs.Index.{HasTables};
 ghost use Rattle.subtree_build.specs.BareTree.{IsTreeBuilt};
 ghost use Rattle.subtree_build.specs.Building.{CanBuild, HoldsRoots};
 ghost use Rattle.subtree_build.specs.Summaries.{HoldAllMembers};
@@ -37,6 +38,7 @@ pub fn build<H: Threads + Sync, R: Rows + Sync, G: Gate + Sync>(
     requires workers { (1 ≤ workers) × (workers ≤ 64) }
     ensures tree { IfOk result (IsTreeOf (R.collection rows.now) settings.now.layout settings.now.leaf_size) }
     ensures fits { IfOk result (Fits (R.collection rows.now) settings.now.layout) }
+    ensures tables { IfOk result HasTables }
 {
     let (bare, room) = tree_and_room(rt, alloc, rows, settings, workers, gate)?;
     let tables = tables_of(rt, room, rows, &settings.layout, &bare, workers)?;
@@ -101,6 +103,7 @@ pub fn build_alone<R: Rows>(alloc: Global, rows: &R, settings: &Settings) -> Res
     requires length { settings.now.layout.cuts.row_length ≡ (R.collection rows.now).points }
     ensures tree { IfOk result (IsTreeOf (R.collection rows.now) settings.now.layout settings.now.leaf_size) }
     ensures fits { IfOk result (Fits (R.collection rows.now) settings.now.layout) }
+    ensures tables { IfOk result HasTables }
 {
     let layout = &settings.layout;
     let summaries = summarise_alone(alloc, rows, layout)?;

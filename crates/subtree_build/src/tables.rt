@@ -1,7 +1,8 @@
-//! The tables beside the members of an index: their means, the codes of their rows, and the boxes of the leaves' means.
-ghost use Rattle.std.specs.Prelude.{◌≡◌, ◌<◌, ◌≤◌, ◌^◌, All, IfOk, length};
+//! What may stand beside the tree of an index: a table of the members' means, with the boxes of the leaves' means, and a table of the
+//! codes of their rows. A search looks at what there is.
+ghost use Rattle.std.specs.Prelude.{◌≡◌, ◌-◌, ◌*◌, ◌<◌, ◌≤◌, ◌^◌, All, IfOk, length, take, drop};
 ghost use Rattle.subtree_build.specs.BareTree.{HasSeries};
-ghost use Rattle.subtree_build.specs.Places.{AreBoxes, AreTables, AreTablesOf, IsPlace};
+ghost use Rattle.subtree_build.specs.Places.{AreBoxes, AreTablesOf, IsPlace};
 
 use crate::bare_tree::BareTree;
 use crate::boxes::{Boxes, boxes_of};
@@ -9,7 +10,7 @@ use crate::fetched::FETCHED;
 use crate::leaf::LeafPlace;
 use crate::means::{Source, fill, fill_in_turn};
 use crate::room::{Room, room_for};
-use isax_word::{Layout, Member};
+use isax_word::Layout;
 use mean_bound::Means;
 use outside::NoMemory;
 use row_codes::{CodeBlock, block_count};
@@ -17,13 +18,51 @@ use series_core::Rows;
 use std::alloc::Global;
 use std::thread::Threads;
 
-/// The means of all members, in their order; the codes of their rows, each of so many blocks; and the boxes of leaves.
+/// The means of all members, in their order, and the boxes of the leaves' means.
 #[derive(Drop)]
-pub(crate) struct Tables {
+pub(crate) struct MeanTable {
     pub(crate) means: Vec<Means>,
+    pub(crate) boxes: Boxes,
+}
+
+/// The codes of the rows of all members, in the order of the members, each of so many blocks.
+#[derive(Drop)]
+pub(crate) struct CodeTable {
     pub(crate) blocks: u32,
     pub(crate) codes: Vec<CodeBlock>,
-    pub(crate) boxes: Boxes,
+}
+
+/// Both tables.
+#[derive(Drop)]
+pub(crate) struct Tables {
+    pub(crate) means: MeanTable,
+    pub(crate) codes: CodeTable,
+}
+
+impl MeanTable {
+    /// The means of the members at a place.
+    #[inline(always)]
+    pub(crate) fn at(&self, place: &LeafPlace) -> &[Means]
+        requires { IsPlace (length self.now.means.items) place.now }
+        ensures { result.now ≡ take (place.now.end - place.now.first) (drop place.now.first self.now.means.items) }
+    {
+        &self.means[place.first as usize..place.end as usize]
+    }
+}
+
+impl CodeTable {
+    /// The codes of the members at a place.
+    #[inline(always)]
+    pub(crate) fn at(&self, place: &LeafPlace) -> &[CodeBlock]
+        requires order { place.now.first ≤ place.now.end }
+        requires few { self.now.blocks ≤ 256 }
+        requires inside { place.now.end * self.now.blocks ≤ length self.now.codes.items }
+        ensures { let blocks = self.now.blocks in
+            result.now ≡ take ((place.now.end - place.now.first) * blocks) (drop (place.now.first * blocks) self.now.codes.items) }
+    {
+        let blocks = self.blocks as usize;
+        &self.codes[place.first as usize * blocks..place.end as usize * blocks]
+    }
 }
 
 /// Tables of these means and codes, so many blocks of codes a member, with the boxes of the means at places.
@@ -35,17 +74,15 @@ fn with_boxes(
     places: &[LeafPlace],
 ) -> Result<Tables, NoMemory>
     requires { All (IsPlace (length means.items)) places.now }
-    ensures means { IfOk result (λ t. t.means.items ≡ means.items) }
-    ensures blocks { IfOk result (λ t. t.blocks ≡ blocks) }
-    ensures codes { IfOk result (λ t. t.codes.items ≡ codes.items) }
-    ensures boxes { IfOk result (λ t. AreBoxes t.means.items places.now t.boxes) }
+    ensures means { IfOk result (λ t. t.means.means.items ≡ means.items) }
+    ensures boxes { IfOk result (λ t. AreBoxes t.means.means.items places.now t.means.boxes) }
+    ensures blocks { IfOk result (λ t. t.codes.blocks ≡ blocks) }
+    ensures codes { IfOk result (λ t. t.codes.codes.items ≡ codes.items) }
 {
     let boxes = boxes_of(alloc, means.as_slice(), places)?;
     Ok(Tables {
-        means,
-        blocks,
-        codes,
-        boxes,
+        means: MeanTable { means, boxes },
+        codes: CodeTable { blocks, codes },
     })
 }
 
@@ -116,17 +153,4 @@ pub(crate) fn tables_alone<R: Rows>(
     );
     let blocks = block_count(source.coded);
     with_boxes(alloc, means, blocks, codes, bare.leaves.as_slice())
-}
-
-/// Tables of members and of the places of leaves among them, by no rows: every mean is 0, and there are no codes.
-pub(crate) fn blank_tables(
-    alloc: Global,
-    members: &[Member],
-    places: &[LeafPlace],
-) -> Result<Tables, NoMemory>
-    requires { All (IsPlace (length members.now)) places.now }
-    ensures { IfOk result (AreTables members.now places.now) }
-{
-    let means = vec![in alloc; Means::zeros(); members.len()]?;
-    with_boxes(alloc, means, 0, Vec::new(alloc), places)
 }

@@ -55,6 +55,7 @@ fn the_worked_parts(rt: HostRuntime) -> Result<(), Fail> {
     assert_same!(rt; index.root_count(), 2, "root children");
     assert_same!(rt; is_leaf(&index, 0, &[(0, 1), (0, 1)], &[2]), true, "the first leaf");
     assert_same!(rt; is_leaf(&index, 1, &[(1, 1), (1, 1)], &[0, 1, 3]), true, "the second leaf");
+    assert_same!(rt; index.has_means() || index.has_codes(), false, "something beside the tree");
     Ok(())
 }
 

@@ -5,7 +5,7 @@ ghost use Rattle.std.specs.Prelude.{◌≡◌, IfOk};
 use crate::claims::assert_same;
 use crate::worked::{collection, is_leaf};
 use breakpoints::Table;
-use mean_bound::MeanView;
+use mean_bound::{MeanBox, MeanView};
 use outside::NoGate;
 use rand_xoshiro::SplitMix64;
 use rand_xoshiro::rand_core::{Rng, SeedableRng};
@@ -277,6 +277,14 @@ fn drawn_collections_have_the_plain_tree(rt: HostRuntime) -> Result<(), Fail> {
     Ok(())
 }
 
+/// The bound of a box that there is, else 0.
+fn bound_of(view: &MeanView, own: Option<&MeanBox>) -> u64 {
+    match own {
+        Some(own) => view.bound_box(own),
+        None => 0,
+    }
+}
+
 #[test]
 fn a_group_is_no_farther_than_its_leaves(rt: HostRuntime) -> Result<(), Fail> {
     let rows = draw(rt.alloc(), 5, 700, 19000)?;
@@ -287,9 +295,9 @@ fn a_group_is_no_farther_than_its_leaves(rt: HostRuntime) -> Result<(), Fail> {
     let view = MeanView::new(&settings.layout.cuts, &[0; LENGTH as usize]);
     let mut far = 0u32;
     for l in 0..index.leaf_count() {
-        let own = view.bound_box(index.leaf_box(l));
-        let group = view.bound_box(index.group_box(l / GROUP));
-        let wide = view.bound_box(index.wide_group_box(l / WIDE_GROUP));
+        let own = bound_of(&view, index.leaf_box(l));
+        let group = bound_of(&view, index.group_box(l / GROUP));
+        let wide = bound_of(&view, index.wide_group_box(l / WIDE_GROUP));
         assert_same!(rt; wide <= group && group <= own, true, "leaf {l}: {wide}, {group}, {own}");
         far = far.wrapping_add(u32::from(group > 0));
     }

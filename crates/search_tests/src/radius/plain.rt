@@ -2,7 +2,7 @@
 use crate::claims::assert_same;
 use breakpoints::Table;
 use outside::{Gate, NoGate, NoMemory};
-use plain_search::{Source, Turns, by_distance};
+use plain_search::{Source, Turns, by_distance, tree_with};
 use range_query::within;
 use series_core::{Flat, Pair, Rows};
 use std::alloc::Global;
@@ -40,13 +40,14 @@ pub fn listed(alloc: Global, pairs: &[Pair]) -> Result<Vec<(u64, u32)>, NoMemory
     Ok(list)
 }
 
-/// How a tree is cut into words and leaves, and how many workers search it.
+/// How a tree is cut into words and leaves, how many workers search it, and whether it has its tables.
 #[derive(Clone, Copy)]
 struct Shape {
     table: Table,
     segments: u32,
     leaf_size: u32,
     workers: u32,
+    tables: bool,
 }
 
 fn shaped(table: Table, segments: u32, leaf_size: u32, workers: u32) -> Shape {
@@ -55,6 +56,7 @@ fn shaped(table: Table, segments: u32, leaf_size: u32, workers: u32) -> Shape {
         segments,
         leaf_size,
         workers,
+        tables: true,
     }
 }
 
@@ -78,6 +80,7 @@ fn found<T: Threads + Sync, G: Gate + Sync>(
     let settings = Settings::new(6, shape.segments, shape.table, shape.leaf_size);
     let layout = &settings.layout;
     let index = build(rt, alloc, rows, &settings, 1, &NoGate)?;
+    let index = tree_with(rows, &settings, index, shape.tables);
     let pairs = within(
         rt,
         alloc,
@@ -114,8 +117,11 @@ fn wrong_radius<T: Threads + Sync>(
         u64::MAX,
     ] {
         let want = plain_within(alloc, &all, radius)?;
-        if found(rt, alloc, rows, shape, query, radius, &NoGate)? != want {
-            return Ok(Some(radius));
+        for tables in [true, false] {
+            let shape = Shape { tables, ..shape };
+            if found(rt, alloc, rows, shape, query, radius, &NoGate)? != want {
+                return Ok(Some(radius));
+            }
         }
     }
     Ok(None)

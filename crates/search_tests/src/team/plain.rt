@@ -4,7 +4,7 @@ use crate::claims::assert_same;
 use breakpoints::Table;
 use nearest_answer::{ApartBy, Task, answer_by_stretches, answer_by_team};
 use outside::{NoGate, NoMemory};
-use plain_search::{Source, are_same, plain_nearest};
+use plain_search::{Source, are_same, plain_nearest, tree_with};
 use series_core::{Flat, Rows};
 use std::alloc::Global;
 use std::test::*;
@@ -54,6 +54,7 @@ struct Search {
     leaf: u32,
     by: Option<ApartBy>,
     workers: u32,
+    tables: bool,
 }
 
 /// Whether the answer to a query is what a plain sort finds, for each of these searches.
@@ -68,6 +69,7 @@ fn agree<T: Threads + Sync>(
         leaf,
         by,
         workers,
+        tables,
     } = search;
     if values.len() % LENGTH as usize != 0 || values.len() > 16777216 {
         return Err(NoMemory);
@@ -78,6 +80,7 @@ fn agree<T: Threads + Sync>(
     let rows = Flat::from_values(LENGTH, values);
     let settings = Settings::new(LENGTH, 16, Table::Bent, leaf);
     let index = build(rt, alloc, &rows, &settings, 1, &NoGate)?;
+    let index = tree_with(&rows, &settings, index, tables);
     let query = [100i16; LENGTH as usize];
     let task = Task::new(&rows, &query, k, &settings.layout);
     let found = match by {
@@ -89,6 +92,7 @@ fn agree<T: Threads + Sync>(
 
 const KINDS: [Kind; 4] = [Kind::Walks, Kind::Equal, Kind::Clusters, Kind::Noise];
 
+// How many workers search; two and eight of them by a tree with nothing beside it.
 const WORKERS: [u32; 5] = [1, 2, 3, 8, 64];
 
 // Each way, and none, so that the search chooses one.
@@ -123,6 +127,7 @@ fn each_way_finds_what_a_plain_sort_finds(rt: HostRuntime) -> Result<(), Fail> {
                         leaf: 5,
                         by,
                         workers,
+                        tables: workers != 2 && workers != 8,
                     };
                     assert_same!(rt;
                         agree(&rt, alloc, values_of(alloc, kind, count)?, search)?,
@@ -162,6 +167,7 @@ fn what_is_great_enough_is_shared(rt: HostRuntime) -> Result<(), Fail> {
                 leaf: 100,
                 by: None,
                 workers,
+                tables: true,
             };
             assert_same!(rt; agree(&rt, alloc, values_of(alloc, kind, count)?, search)?, true, "{count} series, {kind:?}, {search:?}");
         }

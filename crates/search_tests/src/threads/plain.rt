@@ -3,7 +3,9 @@ use super::forms::{Form, searched};
 use crate::claims::assert_same;
 use crate::workers::drawn::is_right;
 use outside::{NoGate, NoMemory};
-use plain_search::{Shape, drawn_collection, drawn_series, drawn_shape, plain_nearest};
+use plain_search::{
+    Shape, drawn_collection, drawn_series, drawn_shape, plain_nearest, tree_with,
+};
 use query_core::Task;
 use rand_xoshiro::SplitMix64;
 use rand_xoshiro::rand_core::{Rng, SeedableRng};
@@ -17,19 +19,21 @@ use subtree_build::build;
 /// How many workers search.
 const WORKERS: [u32; 4] = [1, 2, 3, 8];
 
-/// Whether a search without locks and one over locked queues find what a plain sort finds.
+/// Whether a search without locks and one over locked queues find what a plain sort finds, by a tree with its tables or with nothing beside it.
 fn agrees<T: Threads + Wait + Sync>(
     rt: &T,
     alloc: Global,
     rows: &Flat,
     query: &[i16; 4],
     shape: Shape,
+    tables: bool,
 ) -> Result<bool, NoMemory> {
     if !shape.is_sound() || rows.length() != 4 {
         return Err(NoMemory);
     }
     let settings = shape.settings();
     let index = build(rt, alloc, rows, &settings, 1, &NoGate)?;
+    let index = tree_with(rows, &settings, index, tables);
     let task = Task::new(rows, query, shape.k, &settings.layout);
     let wanted = plain_nearest(alloc, rows, query, shape.k)?;
     for locked in [false, true] {
@@ -59,7 +63,10 @@ fn finds_what_a_plain_sort_finds(rt: HostRuntime) -> Result<(), Fail> {
         let rows = drawn_collection(alloc, &mut rng, count)?;
         let shape = drawn_shape(&mut rng, WORKERS);
         let query = drawn_series(&mut rng);
-        assert_same!(rt; agrees(&rt, alloc, &rows, &query, shape)?, true, "round {round}: {count} series, {shape:?}");
+        for tables in [true, false] {
+            let same = agrees(&rt, alloc, &rows, &query, shape, tables)?;
+            assert_same!(rt; same, true, "round {round}: {count} series, {shape:?}, tables: {tables}");
+        }
     }
     Ok(())
 }
@@ -79,7 +86,7 @@ fn one_worker_and_64_find_what_a_plain_sort_finds(rt: HostRuntime) -> Result<(),
                 ..drawn_shape(&mut rng, WORKERS)
             };
             let query = drawn_series(&mut rng);
-            assert_same!(rt; agrees(&rt, alloc, &rows, &query, shape)?, true, "{count} series, {shape:?}");
+            assert_same!(rt; agrees(&rt, alloc, &rows, &query, shape, true)?, true, "{count} series, {shape:?}");
         }
     }
     Ok(())

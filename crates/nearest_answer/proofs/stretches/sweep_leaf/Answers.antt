@@ -1,5 +1,5 @@
 -- The members of a leaf and their codes are lent.
-use Rattle.std.proofs.Common.{◌<◌, List, length, subst, sym}
+use Rattle.std.proofs.Common.{◌∙◌, ◌<◌, List, length, subst, sym}
 use Rattle.isax_word.specs.declared.member.Member.{Member}
 use Rattle.subtree_build.specs.Index.{IndexParts}
 use Rattle.subtree_build.specs.Members.{numbers_of}
@@ -15,11 +15,12 @@ sweep-requires-clause-coded g c =
     let ix = c.index-index.result.now in
     leaf_coded a ix c.args.leaf c.leaf_members.result.now c.leaf_codes.result.now
     (lent_searched c.args.search.now a ix c.task.ensures.task c.index-index.ensures.index c.task.ensures.searched)
+    (sym c.has_codes.ensures ∙ c.if-has_codes.true)
     (subst (λ (x : IndexParts). c.args.leaf < length x.leaves) (sym c.index-index.ensures.index) c.requires.leaf)
     c.leaf_members.ensures c.leaf_codes.ensures
 
-pub returns-clause-pairs : goal.returns-clause-pairs
-returns-clause-pairs g c =
+pub returns-then-has_codes-clause-pairs : goal.returns-then-has_codes-clause-pairs
+returns-then-has_codes-clause-pairs g c =
     let s = c.args.search.now in
     let a = c.task.result.now in
     let ix = c.index-index.result.now in

@@ -1,9 +1,6 @@
--- Each member of the leaf is that of a series, and has its means.
-use Rattle.range_query.proofs.Scanning.{number_is_series}
+-- A leaf whose members have means is tested by them.
+use Rattle.std.proofs.Common.{sym, ◌∙◌}
 use Rattle.range_query.proofs.walk.Search.scan.Goals as goal
 
-pub near-requires-clause-number : goal.near-requires-clause-number
-near-requires-clause-number g c =
-    number_is_series _ _ _ c.requires.ready.0 c.args.leaf c.loop-i.i
-    c.leaf_members-members.result.now c.index-members-i.result c.requires.leaf
-    c.leaf_members-members.ensures c.loop-i-test.true c.index-members-i.is
+pub test_all-requires-clause-means : goal.test_all-requires-clause-means
+test_all-requires-clause-means g c = sym c.has_means.ensures ∙ c.if-has_means.true

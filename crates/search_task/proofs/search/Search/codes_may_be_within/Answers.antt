@@ -1,5 +1,5 @@
 -- A place of a leaf is one of its members, which have their codes.
-use Rattle.std.proofs.Common.{◌≡◌, ◌<◌, ℕ, List, length, ap, subst, arith}
+use Rattle.std.proofs.Common.{◌≡◌, ◌∙◌, ◌<◌, ℕ, List, length, ap, subst, sym, arith}
 use Rattle.std.specs.Prelude.{slice_index}
 use Rattle.std.proofs.lemmas.List.{length-map}
 use Rattle.series_core.specs.Distance.{squared_distance}
@@ -24,7 +24,7 @@ place_inside s t l i members same are inside =
 pub codes_at_may_be_within-requires-clause-coded : goal.codes_at_may_be_within-requires-clause-coded
 codes_at_may_be_within-requires-clause-coded g c =
     leaf_coded c.self.inside.task.now c.self.inside.index.now c.args.leaf c.leaf_members-members.result.now
-    c.leaf_codes-codes.result.now c.self.invariant
+    c.leaf_codes-codes.result.now c.self.invariant (sym c.has_codes.ensures ∙ c.if-has_codes.true)
     (leaf_is_there _ c.args.self.now c.args.leaf c.self.view_is c.requires.leaf) c.leaf_members-members.ensures
     c.leaf_codes-codes.ensures
 
@@ -33,8 +33,8 @@ codes_at_may_be_within-requires-clause-place g c =
     place_inside _ c.args.self.now c.args.leaf c.args.place c.leaf_members-members.result.now c.self.view_is
     c.leaf_members-members.ensures c.requires.place
 
-pub returns : goal.returns
-returns g c above =
+pub returns-then-has_codes : goal.returns-then-has_codes
+returns-then-has_codes g c above =
     subst (λ (s : Searched). c.args.limit.now < (ground_of s).distance (slice_index (leaf_series s.index c.args.leaf) c.args.place))
     c.self.view_is
     (subst (λ (ms : List Member). c.args.limit.now

@@ -12,7 +12,7 @@ bound_word-requires g c =
     let real = leaf_is_there _ c.args.self.now c.args.leaf c.self.view_is c.requires.leaf in
     ap (λ (word : List Part). length word) c.leaf_word.ensures
     ∙ leaf_has_segments c.self.inside.index.now c.self.invariant.index c.args.leaf real
-    ∙ c.self.invariant.fits.segments
+    ∙ c.self.invariant.fits.tree.segments
     ∙ ap (λ (view : View). view.layout.cuts.segments) (sym c.view.ensures.view)
 
 pub returns : goal.returns

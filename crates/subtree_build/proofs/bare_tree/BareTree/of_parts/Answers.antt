@@ -1,5 +1,5 @@
 -- The parts of all root children, put together, are the tree of the collection, and each thing lies at its place.
-use Rattle.std.proofs.Common.{◌≡◌, ◌^◌, ◌<◌, All, List, [], length, map, sym, ap, ◌∙◌, subst}
+use Rattle.std.proofs.Common.{◌≡◌, ◌^◌, ◌<◌, All, List, length, map, sym, ap, ◌∙◌, subst}
 use Rattle.std.specs.List.{range_with_len}
 use Rattle.series_core.specs.Collection.{Collection}
 use Rattle.isax_word.specs.declared.member.Member.{Member}
@@ -67,7 +67,7 @@ returns-clause-tree g c =
     let is = own g (goal.at.returns-clause-tree g c).In_ok-joined in
     let settings = c.args.settings.now in
     tree_is_seen (g.R.Rows.collection c.args.rows.now) settings.layout settings.leaf_size c.segments-segments.result
-    c.args.found.roots.items c.in_ok-joined.joined c.in_ok-leaves.leaves.items [] [] c.segments-segments.ensures.value
+    c.args.found.roots.items c.in_ok-joined.joined c.in_ok-leaves.leaves.items c.segments-segments.ensures.value
     c.requires.roots.roots is.nodes is.leaves (c.in_ok-leaves.ensures ∙ ap (places_from 0) c.as_slice.ensures.value)
 
 pub returns-clause-bare : goal.returns-clause-bare

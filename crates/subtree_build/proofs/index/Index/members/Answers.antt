@@ -8,7 +8,7 @@ use Rattle.subtree_build.proofs.index.Index.members.Goals as goal
 
 pub returns : goal.returns
 returns c =
-    let x = c.self.inside in
+    let x = c.self.inside.tree in
     c.deref.ensures.value
-    ∙ sym (members_seen x.members.items x.leaves.items c.self.invariant.4)
+    ∙ sym (members_seen x.members.items x.leaves.items c.self.invariant.0.seen)
     ∙ ap (λ (ix : IndexParts). flat_map (λ (y : TreeLeaf). y.members) ix.leaves) c.self.view_is

@@ -1,6 +1,6 @@
 -- With tables it is the same tree, and fits.
-use Rattle.std.proofs.Common.{ℕ, ◌∙◌, sym, ap, List}
-use Rattle.std.specs.Prelude.{map}
+use Rattle.std.proofs.Common.{ℕ, ◌∙◌, sym, ap, refl, subst, List}
+use Rattle.std.specs.Prelude.{IsSome, Some, map}
 use Rattle.series_core.specs.Collection.{Collection}
 use Rattle.isax_word.specs.declared.layout.Layout.{Layout}
 use Rattle.subtree_build.specs.declared.leaf.TreeLeaf.{TreeLeaf}
@@ -35,5 +35,10 @@ returns-clause-fits g c =
     let has = c.of_bare.ensures in
     tree_fits rows layout c.args.settings.now.leaf_size _ c.segments-segments.ensures.divides
     (tree_with rows layout c.args.settings.now.leaf_size _ _ c.requires.tree has)
-    (has.own_means ∙ ap (λ (ls : List TreeLeaf). map (leaf_means rows layout) ls) (sym has.leaves))
-    (has.own_codes ∙ ap (λ (ls : List TreeLeaf). map (leaf_codes rows) ls) (sym has.leaves))
+    (has.own_means ∙ ap (λ (ls : List TreeLeaf). Some (map (leaf_means rows layout) ls)) (sym has.leaves))
+    (has.own_codes ∙ ap (λ (ls : List TreeLeaf). Some (map (leaf_codes rows) ls)) (sym has.leaves))
+
+pub returns-clause-tables : goal.returns-clause-tables
+returns-clause-tables g c =
+    let has = c.of_bare.ensures in
+    record { means = subst IsSome (sym has.own_means) refl; codes = subst IsSome (sym has.own_codes) refl }

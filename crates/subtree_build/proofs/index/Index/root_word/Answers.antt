@@ -5,5 +5,5 @@ use Rattle.subtree_build.proofs.index.Index.root_word.Goals as goal
 
 pub returns-clause-segments : goal.returns-clause-segments
 returns-clause-segments c =
-    ap length c.of_root.ensures ∙ length-one_bit_word c.index.result.now c.self.inside.segments
+    ap length c.of_root.ensures ∙ length-one_bit_word c.index.result.now c.self.inside.tree.segments
     ∙ ap (λ ix. ix.segments) c.self.view_is

@@ -1,7 +1,7 @@
 use Rattle.std.proofs.Common.{◌≡◌, ◌++◌, take}
 use Rattle.range_query.specs.Near.{near_members}
 use Rattle.range_query.specs.Searches.{asked_of}
-use Rattle.range_query.proofs.walk.Search.scan.Given as goal
+use Rattle.range_query.proofs.walk.Search.measure_all.Given as goal
 
 abbrev pub invariant-loop-i : goal.invariant-loop-i
 invariant-loop-i g l =

@@ -1,7 +1,7 @@
 -- All four have met the members before this place, and their limits are those of their lists.
 use Rattle.std.proofs.Common.{◌≡◌, ◌∷◌, []}
 use Rattle.group_answer.specs.Sweeping.{AreSwept}
-use Rattle.group_answer.proofs.four.Four.sweep.Given as goal
+use Rattle.group_answer.proofs.four.Four.sweep_codes.Given as goal
 
 abbrev pub invariant-loop-i : goal.invariant-loop-i
 invariant-loop-i g l = record {
