@@ -4,28 +4,21 @@ use Rattle.std.proofs.Common.{◌≡◌, ℕ, zero, suc, ◌+◌, ◌-◌, ◌/�
 use Rattle.std.specs.Prelude.{FitsSigned, max, min}
 use Rattle.std.specs.List.{All}
 use Rattle.std.proofs.lemmas.Int.{ints, to_z-of_z}
-use Rattle.std.proofs.lemmas.List.{take_more, take_at, length-map}
+use Rattle.std.proofs.lemmas.List.{take_at, length-map}
 use Rattle.std.proofs.lemmas.List.Elements.{All-head, All-tail}
 use mir.Syntax.{w16}
 use Rattle.row_codes.specs.Middle.{greatest, least, middle_of, raised, shifted}
+use Rattle.row_codes.proofs.Lists.{passed_in}
 
--- the least of one value more
-pub least_more : (xs : List ℤ) (i : ℕ) (d : ℤ) → i < length xs
-    → least (take (i + 1) xs) ≡ min (raised (get_or xs i d)) (least (take i xs))
-least_more xs i d inside = ap least (take_more xs i d inside) ∙ behind (take i xs) (get_or xs i d)
-  where
-    behind : (xs : List ℤ) (y : ℤ) → least (xs ++ y ∷ []) ≡ min (raised y) (least xs)
-    behind [] y = refl
-    behind (x ∷ xs) y = omega (arith, behind xs y)
+-- the least of one value more, which is handed on
+pub least_more : (xs : List ℤ) (i n : ℕ) → i < length xs → FitsSigned w16 (get_or xs i (pos 0))
+    → n ≡ raised (to_z w16 (of_z w16 (get_or xs i (pos 0)))) → least (take (i + 1) xs) ≡ min n (least (take i xs))
+least_more = passed_in least raised min (λ x xs. refl) (λ a b n. omega arith)
 
 -- and the greatest
-pub greatest_more : (xs : List ℤ) (i : ℕ) (d : ℤ) → i < length xs
-    → greatest (take (i + 1) xs) ≡ max (raised (get_or xs i d)) (greatest (take i xs))
-greatest_more xs i d inside = ap greatest (take_more xs i d inside) ∙ behind (take i xs) (get_or xs i d)
-  where
-    behind : (xs : List ℤ) (y : ℤ) → greatest (xs ++ y ∷ []) ≡ max (raised y) (greatest xs)
-    behind [] y = refl
-    behind (x ∷ xs) y = omega (arith, behind xs y)
+pub greatest_more : (xs : List ℤ) (i n : ℕ) → i < length xs → FitsSigned w16 (get_or xs i (pos 0))
+    → n ≡ raised (to_z w16 (of_z w16 (get_or xs i (pos 0)))) → greatest (take (i + 1) xs) ≡ max n (greatest (take i xs))
+greatest_more = passed_in greatest raised max (λ x xs. refl) (λ a b n. omega arith)
 
 -- each value lies between them
 between : (xs : List ℤ) (i : ℕ) (d : ℤ) → i < length xs

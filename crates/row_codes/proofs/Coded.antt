@@ -10,6 +10,7 @@ use Rattle.std.proofs.Math.Nat.{div-mul-le_self, lt-div-mul-add}
 use mir.Syntax.{w16}
 use Rattle.row_codes.specs.Roots.{square}
 use Rattle.row_codes.specs.Codes.{code_total, from_middle, place, places_squared, reach}
+use Rattle.row_codes.proofs.Lists.{passed_in, taken_in}
 
 -- a value within a reach is not below it
 pub reached_low : (x : ℤ) (m : ℕ) → from_middle x < m → pos 0 ≤ℤ (x +ℤ pos m)
@@ -72,14 +73,10 @@ by_reciprocal n s m step near is =
             let more : 16 * s ≤ q * s = mul-le 16 s q s many (omega arith) in
             absurd (omega (arith, more, low, near))
 
--- the reach of one value more
-pub reach_more : (xs : List ℤ) (i : ℕ) (d : ℤ) → i < length xs
-    → reach (take (i + 1) xs) ≡ max (from_middle (get_or xs i d)) (reach (take i xs))
-reach_more xs i d inside = ap reach (take_more xs i d inside) ∙ behind (take i xs) (get_or xs i d)
-  where
-    behind : (xs : List ℤ) (y : ℤ) → reach (xs ++ y ∷ []) ≡ max (from_middle y) (reach xs)
-    behind [] y = refl
-    behind (x ∷ xs) y = omega (arith, behind xs y)
+-- the reach of one value more, which is handed on
+pub reach_more : (xs : List ℤ) (i n : ℕ) → i < length xs → FitsSigned w16 (get_or xs i (pos 0))
+    → n ≡ from_middle (to_z w16 (of_z w16 (get_or xs i (pos 0)))) → reach (take (i + 1) xs) ≡ max n (reach (take i xs))
+reach_more = passed_in reach from_middle max (λ x xs. refl) (λ a b n. omega arith)
 
 -- each value is within the reach of all
 pub within_reach : (xs : List ℤ) (i : ℕ) (d : ℤ) → i < length xs → from_middle (get_or xs i d) ≤ reach xs
@@ -96,20 +93,12 @@ handed_near xs i s fits inside near =
 
 -- the squares of the places of one code more
 pub places_more : (cs : List ℕ) (i : ℕ) → i < length cs
-    → places_squared (take (i + 1) cs) ≡ places_squared (take i cs) + square (unsigned_abs (place (get_or cs i 0)))
-places_more cs i inside = ap places_squared (take_more cs i 0 inside) ∙ behind (take i cs) (get_or cs i 0)
-  where
-    behind : (cs : List ℕ) (c : ℕ) → places_squared (cs ++ c ∷ []) ≡ places_squared cs + square (unsigned_abs (place c))
-    behind [] c = omega arith
-    behind (b ∷ cs) c = omega (arith, behind cs c)
+    → places_squared (take (i + 1) cs) ≡ square (unsigned_abs (place (get_or cs i 0))) + places_squared (take i cs)
+places_more cs i = taken_in places_squared (λ c. square (unsigned_abs (place c))) ◌+◌ (λ c cs. refl) (λ a b n. omega arith) cs i 0
 
 -- the sum of one code more
-pub codes_more : (cs : List ℕ) (i : ℕ) → i < length cs → code_total (take (i + 1) cs) ≡ code_total (take i cs) + get_or cs i 0
-codes_more cs i inside = ap code_total (take_more cs i 0 inside) ∙ behind (take i cs) (get_or cs i 0)
-  where
-    behind : (cs : List ℕ) (c : ℕ) → code_total (cs ++ c ∷ []) ≡ code_total cs + c
-    behind [] c = omega arith
-    behind (b ∷ cs) c = omega (arith, behind cs c)
+pub codes_more : (cs : List ℕ) (i : ℕ) → i < length cs → code_total (take (i + 1) cs) ≡ get_or cs i 0 + code_total (take i cs)
+codes_more cs i = taken_in code_total (λ c. c) ◌+◌ (λ c cs. refl) (λ a b n. omega arith) cs i 0
 
 -- what stands behind others is changed
 set_behind : {X : Type 0} (front : List X) (n : ℕ) (y z : X) → 0 < n

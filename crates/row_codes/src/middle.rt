@@ -8,32 +8,24 @@ use series_core::values_fit;
 pub(crate) fn middle_of(values: &[i16]) -> i16
     ensures { result ≡ middle_of values.now }
 {
-    let sum = least_of(values) + greatest_of(values) + 1;
+    let (low, high) = ends_of(values);
+    let sum = low + high + 1;
     (sum as i32 / 2 - 32768) as i16
 }
 
-/// The least of some values, counted from the least of 16 bits.
-fn least_of(values: &[i16]) -> u32
-    ensures value { result ≡ least values.now }
-    ensures limit { result ≤ 65535 }
+/// The least and the greatest of some values, counted from the least of 16 bits.
+fn ends_of(values: &[i16]) -> (u32, u32)
+    ensures low { result.0 ≡ least values.now }
+    ensures high { result.1 ≡ greatest values.now }
+    ensures limits { (result.0 ≤ 65535) × (result.1 ≤ 65535) }
 {
-    let mut low = 65535;
+    let (mut low, mut high) = (65535, 0);
     for i in 0..values.len() {
-        low = raised(values[i]).min(low);
+        let value = raised(values[i]);
+        low = value.min(low);
+        high = value.max(high);
     }
-    low
-}
-
-/// The greatest of some values, counted from the least of 16 bits.
-fn greatest_of(values: &[i16]) -> u32
-    ensures value { result ≡ greatest values.now }
-    ensures limit { result ≤ 65535 }
-{
-    let mut high = 0;
-    for i in 0..values.len() {
-        high = raised(values[i]).max(high);
-    }
-    high
+    (low, high)
 }
 
 /// A value, counted from the least of 16 bits.
