@@ -23,6 +23,18 @@ insert_front p q qs h = cond-false (is_before q p) (q ∷ insert p qs) (p ∷ q 
 pub insert_behind : (p q : Pair) (qs : List Pair) → is_before q p ≡ true → insert p (q ∷ qs) ≡ q ∷ insert p qs
 insert_behind p q qs h = cond-true (is_before q p) (q ∷ insert p qs) (p ∷ q ∷ qs) h
 
+-- what is said of each pair of a list, and so of a pair that is inserted, is said of all of them
+pub said_insert : (Said : List Pair → Type 0) (Each : Pair → Type 0) → Said []
+    → ((q : Pair) (qs : List Pair) → Each q → Said qs → Said (q ∷ qs))
+    → ((q : Pair) (qs : List Pair) → Said (q ∷ qs) → Each q × Said qs)
+    → (x : Pair) (qs : List Pair) → Each x → Said qs → Said (insert x qs)
+said_insert Said Each none join part x [] here said = join x [] here none
+said_insert Said Each none join part x (q ∷ qs) here said =
+    let parts = part q qs said in
+    cond_both (is_before q x) (q ∷ insert x qs) (x ∷ q ∷ qs) Said
+    (λ _. join q (insert x qs) parts.0 (said_insert Said Each none join part x qs here parts.1))
+    (λ _. join x (q ∷ qs) here said)
+
 -- what has no smaller pair in a list has none before a pair that is not smaller
 none_before_trans : (p q : Pair) (qs : List Pair) → is_before q p ≡ false → NoneBefore q qs → NoneBefore p qs
 none_before_trans p q [] h n = tt
@@ -30,11 +42,8 @@ none_before_trans p q (r ∷ rs) h n = (not_before_trans p q r h n.0, none_befor
 
 -- a pair that is not smaller may be inserted
 none_before_insert : (p x : Pair) (qs : List Pair) → is_before x p ≡ false → NoneBefore p qs → NoneBefore p (insert x qs)
-none_before_insert p x [] h n = (h, tt)
-none_before_insert p x (q ∷ qs) h n =
-    cond_both (is_before q x) (q ∷ insert x qs) (x ∷ q ∷ qs) (NoneBefore p)
-    (λ _. (n.0, none_before_insert p x qs h n.1))
-    (λ _. (h, n))
+none_before_insert p =
+    said_insert (NoneBefore p) (λ q. is_before q p ≡ false) tt (λ q qs here rest. (here, rest)) (λ q qs all. all)
 
 -- an insert keeps a list in order
 pub sorted_insert : (x : Pair) (qs : List Pair) → IsSorted qs → IsSorted (insert x qs)
