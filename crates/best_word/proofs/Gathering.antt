@@ -13,7 +13,7 @@ use Rattle.best_word.specs.declared.rule.Terms.{Terms}
 use Rattle.best_word.specs.declared.rule.Event.{Event}
 use Rattle.best_word.specs.Traces.{reply, Crosses, Offered, IsMet, least}
 use Rattle.best_word.specs.Rule.{both, Met, Source, Kept}
-use Rattle.best_word.specs.Passes.{Pass, IsPass, pass_of, together}
+use Rattle.best_word.specs.Passes.{Pass, IsBest, IsPass, pass_of, together}
 use Rattle.table_passes.specs.AllBack.{AllBack, joined}
 use Rattle.best_word.proofs.TraceLaws.{least_is}
 use Rattle.best_word.proofs.Sources.{same_record}
@@ -83,3 +83,10 @@ back terms t all word every b =
     some-injective _ _ (sym (ap (λ (ws : List ℕ). get_elem? ws 0) b.kept.word) ∙ b.word_is) in
     subst (λ (n : ℕ). KnowsAll terms.start n (together all)) low
     (subst (λ (es : List Event). KnowsAll terms.start b.kept.low es) g.is known)
+
+-- and so of a number with this start, where as many passes are back as it has
+pub back_of : (key : Terms) (t : TableId) (start callers : ℕ) (all : List Pass) (word : ℕ) → IsBest t key start callers
+    → length all ≡ callers → AllBack (Kept key) (pass_of t) IsPass both all word → KnowsAll start word (together all)
+back_of key t start callers all word is every b =
+    subst (λ (n : ℕ). KnowsAll n word (together all)) (ap (λ (k : Terms). k.start) is.0)
+    (back key t all word (every ∙ sym (ap (λ (k : Terms). k.callers) is.0)) b)

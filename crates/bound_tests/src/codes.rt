@@ -1,5 +1,8 @@
 //! Worked rows, whose expected bounds were found by hand or by a small program apart from the crate; and rows of many lengths against a
 //! plain computation of their bounds, one value at a time and with a division for each.
+ghost use Rattle.std.specs.Prelude.{◌≤◌, IfOk, length};
+ghost use Rattle.row_codes.specs.Bound.{AreCodesFor};
+
 use crate::claims::assert_same;
 use crate::drawn::scattered;
 use row_codes::{
@@ -11,6 +14,19 @@ use std::test::Fail;
 
 /// The longest row.
 const LONGEST: usize = 65536;
+
+/// The codes of a row.
+fn coded(rt: &impl Abort, alloc: Global, row: &[i16]) -> Result<Vec<CodeBlock>, AllocError>
+    requires { length row.now ≤ 65536 }
+    ensures { IfOk result (λ codes. AreCodesFor (length row.now) codes.items) }
+{
+    let count = block_count(row.len() as u32) as usize;
+    let mut codes = vec![in alloc; CodeBlock::zeros(); count]?;
+    assert!(rt; codes.len() == count, "{count} blocks");
+    code_row(row, &mut codes);
+    codes_have_squares(row);
+    Ok(codes)
+}
 
 /// Compares the bound of a row by its codes for a query with an expected one: it is within that, and not within one less.
 fn compare(
@@ -24,11 +40,7 @@ fn compare(
         length == query.len() && length <= LONGEST,
         "{length} values are no row"
     );
-    let count = block_count(length as u32) as usize;
-    let mut codes = vec![in alloc; CodeBlock::zeros(); count]?;
-    assert!(rt; codes.len() == count, "{count} blocks");
-    code_row(row, &mut codes);
-    codes_have_squares(row);
+    let codes = coded(rt, alloc, row)?;
     let view = CodeView::new(query);
     let within = view.is_within(&codes, &CodeLimit::new(bound));
     assert_same!(rt; within, true, "{length} values within {bound}");
@@ -202,11 +214,7 @@ fn compare_four(
         length == c.len() && length == d.len(),
         "two more of {length} values"
     );
-    let count = block_count(length as u32) as usize;
-    let mut codes = vec![in alloc; CodeBlock::zeros(); count]?;
-    assert!(rt; codes.len() == count, "{count} blocks");
-    code_row(row, &mut codes);
-    codes_have_squares(row);
+    let codes = coded(rt, alloc, row)?;
     let (second, last) = (plain_bound(row, b), plain_bound(row, d));
     let limits = [
         CodeLimit::new(plain_bound(row, a)),

@@ -12,7 +12,7 @@ use Rattle.list_totals.proofs.Greatest.{at_most_greatest}
 use Rattle.claim_word.specs.declared.rule.View.{View}
 use Rattle.claim_word.specs.declared.rule.Terms.{Terms}
 use Rattle.claim_word.specs.Rule.{both, Kept}
-use Rattle.claim_word.specs.Passes.{Pass, IsOnePass, pass_of, EachDrawnOnce}
+use Rattle.claim_word.specs.Passes.{Pass, IsClaim, IsOnePass, pass_of, EachDrawnOnce}
 use Rattle.table_passes.specs.AllBack.{AllBack, joined}
 
 -- 1 for a pass that has ended, and else 0
@@ -114,3 +114,10 @@ back terms t all word every b =
     let g = subst (λ (ps : List Pass). Gathered ps v) b.shown (gathered t b.before b.last b.each_own) in
     let parts = g.parts in
     each_once terms.count all v g (knows_all terms b.place v b.state b.kept b.there (omega arith))
+
+-- and so of claims with this count, where as many passes are back as they have
+pub back_of : (key : Terms) (t : TableId) (count callers : ℕ) (all : List Pass) (word : ℕ) → IsClaim t key count callers
+    → length all ≡ callers → AllBack (Kept key) (pass_of t) IsOnePass both all word → EachDrawnOnce count all
+back_of key t count callers all word is every b =
+    subst (λ (n : ℕ). EachDrawnOnce n all) (ap (λ (k : Terms). k.count) is.0)
+    (back key t all word (every ∙ sym (ap (λ (k : Terms). k.callers) is.0)) b)

@@ -19,8 +19,8 @@ pub const PLAIN: [u8; 48] = [
     0xf6, 0xff, 0xf6, 0xff, 0xf6, 0xff, 0xf6, 0xff, 0, 0, 0, 0, 10, 0, 10, 0,
 ];
 
-// The same with the labels 100, 7, 7 and the greatest, in a file of version 2.
-const LABELLED: [u8; 80] = [
+/// The same with the labels 100, 7, 7 and the greatest, in a file of version 2.
+pub const LABELLED: [u8; 80] = [
     0x49, 0x53, 0x45, 0x52, 2, 0, 0, 0, 4, 0, 0, 0, 4, 0, 0, 0, //
     100, 0, 0, 0, 0, 0, 0, 0, 7, 0, 0, 0, 0, 0, 0, 0, //
     7, 0, 0, 0, 0, 0, 0, 0, 0xff, 0xff, 0xff, 0xff, 0xff, 0xff, 0xff, 0xff, //

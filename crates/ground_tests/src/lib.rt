@@ -5,16 +5,4 @@
 #[cfg(test)]
 mod claims;
 #[cfg(test)]
-mod linked_lists;
-#[cfg(test)]
-mod locks;
-#[cfg(test)]
-mod memory_forms;
-#[cfg(test)]
-mod merged_lists;
-#[cfg(test)]
-mod pairs_and_rows;
-#[cfg(test)]
-mod queues;
-#[cfg(test)]
-mod sealed;
+mod tests;

@@ -1,6 +1,6 @@
 //! The refusals of the outside. Want of memory is a variant or a type of its own, merged with no other.
 ghost use Rattle.std.specs.Prelude.{◌≡◌};
-ghost use Rattle.outside.specs.declared.faults.AllError.TheVariants.{ReadFault, NoMemory as NoMemoryLeft};
+ghost use Rattle.outside.specs.declared.faults.AllError.TheVariants.{NoMemory as NoMemoryLeft};
 
 use std::alloc::{AllocError, AllocFailed};
 use thiserror::Error;
@@ -52,14 +52,6 @@ impl From<AllocError> for NoMemory {
 impl<T: Drop> From<AllocFailed<T>> for NoMemory {
     fn from(_: AllocFailed<T>) -> NoMemory {
         NoMemory
-    }
-}
-
-impl From<Failed> for AllError {
-    ghost from_gives = { λ _ e. e ≡ ReadFault };
-
-    fn from(_: Failed) -> AllError {
-        AllError::ReadFault
     }
 }
 

@@ -32,7 +32,9 @@ pub fn read_all<F: Files>(alloc: Global, files: &mut F, limit: u64) -> Result<Ve
     loop {
         let within = limit - bytes.len() as u64;
         let want = one_more(within, piece.len());
-        let count = files.read(&mut piece[..want])?;
+        let Ok(count) = files.read(&mut piece[..want]) else {
+            return Err(AllError::ReadFault);
+        };
         if count == 0 {
             return Ok(bytes);
         }

@@ -12,8 +12,8 @@ use Rattle.search_machine.specs.Sound.{scans}
 use Rattle.search_machine.specs.Basics.{entered}
 use Rattle.subtree_build.specs.Index.{IndexParts}
 use Rattle.subtree_build.specs.Start.{start_leaf_of}
-use Rattle.search_task.specs.Questions.{CanBeSearched, Question, search_over, view_in}
-use Rattle.query_core.specs.Teams.{AreOver, AreShown}
+use Rattle.search_task.specs.Questions.{CanBeSearched, Question, view_in}
+use Rattle.query_core.specs.Teams.{AreOver}
 use Rattle.query_core.specs.Working.{Working}
 
 -- the fate of leaf l where no queue gave it
@@ -52,8 +52,3 @@ AreMarked start m es before after =
 pub record AreUnqueued (g : Ground) (s : State) (n : ℕ) (fs : List Fate) : Type 0 where
   pub count : length fs ≡ n
   pub each : (l : ℕ) → l < n → slice_get fs l ≡ Some (fate_unqueued g s l)
-
--- the fates of all leaves of an index in each state whose workers these show, where no queue gave any
-abbrev pub FatesUnqueued : Question → IndexParts → List Working → List Fate → Type 0
-FatesUnqueued a ix ws fs =
-    (n m : ℕ) (s : State) → AreShown ws s.workers → AreUnqueued (search_over a ix n m) s (length ix.leaves) fs

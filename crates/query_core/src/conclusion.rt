@@ -7,7 +7,7 @@ ghost use Rattle.search_machine.specs.Machine.{State};
 ghost use Rattle.search_machine.specs.Outcome.{fates_from, first_place, is_start, outcome};
 ghost use Rattle.search_machine.specs.Sound.{scans};
 ghost use Rattle.search_machine.specs.Workers.{Worker as Shown};
-ghost use Rattle.query_core.specs.Fates.{AreMarked, FatesUnqueued, HaveSearched, fate_unqueued, leaf_of};
+ghost use Rattle.query_core.specs.Fates.{AreMarked, HaveSearched, fate_unqueued, leaf_of};
 ghost use Rattle.search_task.specs.Questions.{leaf_bound, search_over, view_in};
 ghost use Rattle.query_core.specs.Teams.{AreOver, AreShown, EndsIn, HaveLeaf, all_lists};
 
@@ -59,7 +59,7 @@ fn merged<R: Rows>(alloc: Global, k: u32, workers: &[Worker<'_, R>]) -> Result<P
     Ok(PairList { items: pairs })
 }
 
-// The fate of each leaf.
+// The fate of each leaf: first as where no queue gave it, and then that of each leaf that a queue gave.
 fn fates<R: Rows>(
     alloc: Global,
     search: &Search<'_, R>,
@@ -72,7 +72,11 @@ fn fates<R: Rows>(
     ensures { (n m : ℕ) (s : State) → EndsIn workers.now lines.now s
         → IfOk result (λ fs. fs ≡ fates_from (search_over search.now.question search.now.index n m) s 0 (length search.now.index.leaves)) }
 {
-    let mut fates = unqueued(alloc, search, start, workers)?;
+    let leaves = search.leaf_count();
+    let mut fates = Vec::with_capacity(alloc, leaves as usize)?;
+    for leaf in 0..leaves {
+        fates.push_reserved(unqueued_fate(search, start, workers, leaf));
+    }
     let mut m = lines.len();
     while m > 0 {
         m -= 1;
@@ -80,24 +84,6 @@ fn fates<R: Rows>(
         mark(&mut fates, start, m as u32, &line.taken.items);
     }
     Ok(FateList { items: fates })
-}
-
-// The fate of each leaf where no queue gave it.
-fn unqueued<R: Rows>(
-    alloc: Global,
-    search: &Search<'_, R>,
-    start: Option<Start>,
-    workers: &[Worker<'_, R>],
-) -> Result<Vec<Fate>, NoMemory>
-    requires ended { HaveSearched search.now.question search.now.index start workers.now }
-    ensures { IfOk result (λ fs. FatesUnqueued search.now.question search.now.index workers.now fs.items) }
-{
-    let leaves = search.leaf_count();
-    let mut fates = Vec::with_capacity(alloc, leaves as usize)?;
-    for leaf in 0..leaves {
-        fates.push_reserved(unqueued_fate(search, start, workers, leaf));
-    }
-    Ok(fates)
 }
 
 // The fate of a leaf where no queue gave it.

@@ -1,6 +1,6 @@
 -- Four small searches with their schedules, and what they end with: so the definitions are not
 -- empty.
-use Rattle.std.specs.Prelude.{ℕ, zero, suc, List, [], ◌∷◌, ◌++◌, None, Some, cond, nat_lt, replicate}
+use Rattle.std.specs.Prelude.{ℕ, zero, suc, List, [], ◌∷◌, ◌++◌, None, Some, cond, nat_lt, replicate, slice_get, unwrap_or}
 use Rattle.series_core.specs.declared.pair.Pair.{Pair}
 use Rattle.series_core.specs.declared.queue_words.Entry.{Entry}
 use Rattle.series_core.specs.declared.distance.TheConstants.{NONE}
@@ -176,12 +176,7 @@ shut_outcome = record {
 
 -- the distances
 abbrev pub six_distances : ℕ → ℕ
-six_distances zero = 9
-six_distances (suc zero) = 6
-six_distances (suc (suc zero)) = 6
-six_distances (suc (suc (suc zero))) = 5
-six_distances (suc (suc (suc (suc zero)))) = 7
-six_distances (suc (suc (suc (suc (suc s))))) = 12
+six_distances s = unwrap_or (slice_get (9 ∷ 6 ∷ 6 ∷ 5 ∷ 7 ∷ []) s) 12
 
 -- the members of the six leaves
 abbrev pub six_members : ℕ → List ℕ
@@ -189,12 +184,7 @@ six_members l = cond (nat_lt l 6) (l ∷ []) []
 
 -- their bounds
 abbrev pub six_bounds : ℕ → ℕ
-six_bounds zero = 0
-six_bounds (suc zero) = 4
-six_bounds (suc (suc zero)) = 6
-six_bounds (suc (suc (suc zero))) = 5
-six_bounds (suc (suc (suc (suc zero)))) = 7
-six_bounds (suc (suc (suc (suc (suc l))))) = 10
+six_bounds l = unwrap_or (slice_get (0 ∷ 4 ∷ 6 ∷ 5 ∷ 7 ∷ []) l) 10
 
 -- the search of the nearest with one worker and two queues; leaf 0 is the start leaf
 abbrev pub six_series : Ground

@@ -1,12 +1,12 @@
 -- Two lists in order are joined from the back: the greater of their last pairs is the last of all (`ascending_greatest`).
 use Rattle.std.proofs.Common.{◌≡◌, ℕ, ◌+◌, ◌-◌, ◌≤◌, ◌<◌, List, [], ◌∷◌, ◌++◌, length, take, get_or, true, false, refl, sym, ap, ◌∙◌, subst, ⊎_elim, arith, append_assoc, length-append, length-take, length-set, drop, set}
-use Rattle.std.proofs.lemmas.Bool.{cond_both, cases_Bool}
+use Rattle.std.proofs.lemmas.Bool.{cases_Bool}
 use Rattle.std.proofs.lemmas.List.{take_more, take-append-le, take_all, take-set-le, drop-set, get_or_default, take-take}
 use Rattle.series_core.specs.Pairs.{is_before, insert, ascending, smallest}
 use Rattle.series_core.specs.Best.{IsBehind, AreBehind}
 use Rattle.series_core.specs.declared.pair.Pair.{Pair}
 use Rattle.series_core.proofs.Order.{not_after, not_before_trans, same_pair}
-use Rattle.series_core.proofs.Sorting.{NoneBefore, IsSorted, insert_front, insert_behind, insert_first, sorted_ascending}
+use Rattle.series_core.proofs.Sorting.{NoneBefore, IsSorted, said_insert, insert_front, insert_behind, insert_first, sorted_ascending}
 use Rattle.series_core.proofs.Smallest.{take_insert, ascending-append_swap}
 use Rattle.series_core.proofs.Room.{sorted_from, ascending_take}
 use Rattle.series_core.proofs.Plain.{length-ascending}
@@ -21,11 +21,7 @@ behind_append p [] qs a b = b
 behind_append p (r ∷ rs) qs a b = (a.0, behind_append p rs qs a.1 b)
 
 behind_insert : (p x : Pair) (qs : List Pair) → is_before p x ≡ false → IsBehind p qs → IsBehind p (insert x qs)
-behind_insert p x [] h b = (h, tt)
-behind_insert p x (q ∷ qs) h b =
-    cond_both (is_before q x) (q ∷ insert x qs) (x ∷ q ∷ qs) (IsBehind p)
-    (λ _. (b.0, behind_insert p x qs h b.1))
-    (λ _. (h, b))
+behind_insert p = said_insert (IsBehind p) (λ q. is_before p q ≡ false) tt (λ q qs here rest. (here, rest)) (λ q qs all. all)
 
 behind_ascending : (p : Pair) (qs : List Pair) → IsBehind p qs → IsBehind p (ascending qs)
 behind_ascending p [] b = tt

@@ -8,6 +8,7 @@ use Rattle.series_core.specs.Order.{Among, Above, Ascending, AllNear, distance_a
 use Rattle.series_core.specs.declared.pair.Pair.{Pair}
 use Rattle.series_core.specs.declared.distance.TheConstants.{NONE}
 use Rattle.series_core.proofs.Order.{not_self, not_both, before_trans, same_pair, before_distance}
+use Rattle.series_core.proofs.Sorting.{said_insert, said_take}
 
 -- what stands in a list above p is greater than p
 pub above_has : (p : Pair) (qs : List Pair) → Above p qs → (q : Pair) → In q qs → is_before p q ≡ true
@@ -27,11 +28,7 @@ above_trans p q [] low above = tt
 above_trans p q (r ∷ rs) low above = (before_trans p q r low above.0, above_trans p q rs low above.1)
 
 above_insert : (p x : Pair) (qs : List Pair) → is_before p x ≡ true → Above p qs → Above p (insert x qs)
-above_insert p x [] low above = (low, tt)
-above_insert p x (q ∷ qs) low above =
-    cond_both (is_before q x) (q ∷ insert x qs) (x ∷ q ∷ qs) (Above p)
-    (λ _. (above.0, above_insert p x qs low above.1))
-    (λ _. (low, above))
+above_insert p = said_insert (Above p) (λ q. is_before p q ≡ true) tt (λ q qs here rest. (here, rest)) (λ q qs all. all)
 
 -- of two different pairs one is smaller
 other_before : (p q : Pair) → (p ≡ q → ⊥) → is_before q p ≡ false → is_before p q ≡ true
@@ -77,14 +74,11 @@ has_take (suc n) p (q ∷ qs) has =
     ⊎_elim (λ (e : p ≡ q). inl e) (λ (t : In p (take n qs)). inr (has_take n p qs t)) has
 
 above_take : (n : ℕ) (p : Pair) (qs : List Pair) → Above p qs → Above p (take n qs)
-above_take zero p qs above = tt
-above_take (suc n) p [] above = tt
-above_take (suc n) p (q ∷ qs) above = (above.0, above_take n p qs above.1)
+above_take n p =
+    said_take (Above p) (λ q qs. is_before p q ≡ true) tt (λ q qs here rest. (here, rest)) (λ q qs all. all) (λ n q qs here. here) n
 
 pub ascending_take : (n : ℕ) (qs : List Pair) → Ascending qs → Ascending (take n qs)
-ascending_take zero qs up = tt
-ascending_take (suc n) [] up = tt
-ascending_take (suc n) (q ∷ qs) up = (above_take n q qs up.0, ascending_take n qs up.1)
+ascending_take = said_take Ascending Above tt (λ q qs here rest. (here, rest)) (λ q qs all. all) above_take
 
 take_more : (n : ℕ) (p : Pair) (qs : List Pair) → In p (take n qs) → In p (take (suc n) qs)
 take_more zero p qs has = absurd has

@@ -2,11 +2,10 @@
 //! Each test of a format has its own error, with the values that failed it.
 
 ghost use Rattle.std.specs.Prelude.{◌≡◌};
-ghost use Rattle.series_file.specs.declared.error.FileError.TheVariants.{ReadFault, NoMemory};
+ghost use Rattle.series_file.specs.declared.error.FileError.TheVariants.{NoMemory};
 
-use outside::Failed;
 use series_core::{Flat, LabelList};
-use std::alloc::{AllocError, AllocFailed};
+use std::alloc::AllocError;
 use thiserror::Error;
 
 /// How a series file is spelled.
@@ -73,26 +72,10 @@ pub enum FileError {
     NoMemory,
 }
 
-impl From<Failed> for FileError {
-    ghost from_gives = { λ _ e. e ≡ ReadFault };
-
-    fn from(_: Failed) -> FileError {
-        FileError::ReadFault
-    }
-}
-
 impl From<AllocError> for FileError {
     ghost from_gives = { λ _ e. e ≡ NoMemory };
 
     fn from(_: AllocError) -> FileError {
-        FileError::NoMemory
-    }
-}
-
-impl<T: Drop> From<AllocFailed<T>> for FileError {
-    ghost from_gives = { λ _ e. e ≡ NoMemory };
-
-    fn from(_: AllocFailed<T>) -> FileError {
         FileError::NoMemory
     }
 }

@@ -19,7 +19,9 @@ pub fn fill<F: Files>(files: &mut F, buffer: &mut [u8]) -> Result<usize, FileErr
 {
     let mut done = 0;
     while done < buffer.len() {
-        let count = files.read(&mut buffer[done..])?;
+        let Ok(count) = files.read(&mut buffer[done..]) else {
+            return Err(FileError::ReadFault);
+        };
         if count == 0 {
             break;
         }

@@ -5,7 +5,7 @@ ghost use Rattle.summary_phase.specs.Chunks.{chunk_count};
 use std::ops::Range;
 
 /// The number of series in a chunk; the last chunk of a collection may have fewer.
-pub const CHUNK: u32 = 256;
+pub(crate) const CHUNK: u32 = 256;
 
 /// The number of chunks of `count` series. It takes no memory.
 pub fn chunks(count: u32) -> u64

@@ -8,7 +8,7 @@ mod laws;
 mod summary;
 
 pub use buffers::Buffers;
-pub use chunk::{CHUNK, chunks};
+pub use chunk::chunks;
 pub use laws::root_law;
 pub use summary::summarise;
 

@@ -3,14 +3,6 @@
 #![tactic(auto)]
 
 #[cfg(test)]
-mod bounds;
-#[cfg(test)]
 mod claims;
 #[cfg(test)]
-mod distances;
-#[cfg(test)]
-mod segments;
-#[cfg(test)]
-mod tables;
-#[cfg(test)]
-mod words;
+mod tests;

@@ -1,22 +1,13 @@
 //! Tests: each beginning of a file, and each byte of its header changed to each value, against the plain reader.
 
-use super::PLAIN;
 use super::plain_reader::{Content, plain_read};
+use super::{LABELLED, PLAIN};
 use crate::claims::assert_same;
 use outside::{Files, MemFiles};
 use series_core::{Flat, Rows};
 use series_file::{FileError, Form, Loaded, read_series, write_series};
 use std::alloc::Global;
 use std::test::Fail;
-
-// The series of `PLAIN` with the labels 0 to 3, in a file of version 2.
-const NUMBERED: [u8; 80] = [
-    0x49, 0x53, 0x45, 0x52, 2, 0, 0, 0, 4, 0, 0, 0, 4, 0, 0, 0, //
-    0, 0, 0, 0, 0, 0, 0, 0, 1, 0, 0, 0, 0, 0, 0, 0, //
-    2, 0, 0, 0, 0, 0, 0, 0, 3, 0, 0, 0, 0, 0, 0, 0, //
-    0, 0, 0, 0, 0, 0, 0, 0, 10, 0, 10, 0, 10, 0, 10, 0, //
-    0xf6, 0xff, 0xf6, 0xff, 0xf6, 0xff, 0xf6, 0xff, 0, 0, 0, 0, 10, 0, 10, 0,
-];
 
 // What the bytes are read to, in pieces of at most `cap` bytes.
 fn read(alloc: Global, bytes: &[u8], cap: usize) -> Result<Loaded, FileError> {
@@ -75,7 +66,7 @@ fn first_wrong_byte(alloc: Global, file: &[u8], place: usize) -> Option<u8> {
 
 // A file of each version.
 fn versions() -> [(u8, &'static [u8]); 2] {
-    [(1, &PLAIN), (2, &NUMBERED)]
+    [(1, &PLAIN), (2, &LABELLED)]
 }
 
 #[test]

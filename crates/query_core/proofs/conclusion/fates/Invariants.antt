@@ -1,10 +1,18 @@
-use Rattle.std.proofs.Common.{◌≡◌, ◌<◌, ◌≤◌, ℕ, Some, drop, length}
+use Rattle.std.proofs.Common.{◌≡◌, ◌<◌, ◌≤◌, ℕ, Some, drop, length, vec_capacity, vec_len}
 use Rattle.std.specs.Prelude.{slice_get}
-use Rattle.query_core.specs.Fates.{fate_queued, fate_unqueued, leaf_of}
+use Rattle.query_core.specs.Fates.{AreUnqueued, fate_queued, fate_unqueued, leaf_of}
 use Rattle.search_machine.specs.Machine.{State}
 use Rattle.search_task.specs.Questions.{search_over}
 use Rattle.query_core.specs.Teams.{AreShown}
 use Rattle.query_core.proofs.conclusion.fates.Given as goal
+
+abbrev pub invariant-loop-leaf : goal.invariant-loop-leaf
+invariant-loop-leaf g l = record {
+  len : vec_len l.fates ≡ l.leaf;
+  room : l.leaves ≤ vec_capacity l.fates;
+  each : (n m : ℕ) (s : State) → AreShown l.workers s.workers
+      → AreUnqueued (search_over l.search.question l.search.index n m) s l.leaf l.fates.items;
+}
 
 abbrev pub invariant-loop-m : goal.invariant-loop-m
 invariant-loop-m g l = record {

@@ -8,14 +8,14 @@ use Rattle.series_file.proofs.fill.fill.Goals as goal
 pub loop-done-preserved : goal.loop-done-preserved
 loop-done-preserved g c =
     let before = c.loop-done.invariant in
-    let read = c.in_ok-count.ensures in
-    let fits : c.in_ok-count.count ≤ length c.read.new.buf =
+    let read = c.in-Ok.ensures in
+    let fits : c.in-Ok.count ≤ length c.read.new.buf =
     omega (arith, read.amount.0, c.read.auto.buf) in
     let size = same_len_mid c.loop-done.done
     (length c.loop-done.buffer - c.loop-done.done)
     c.loop-done.buffer c.read.new.buf c.read.auto.buf in
     let front =
-    take-put_mid_front c.loop-done.done c.in_ok-count.count c.loop-done.buffer c.read.new.buf before.within fits in
+    take-put_mid_front c.loop-done.done c.in-Ok.count c.loop-done.buffer c.read.new.buf before.within fits in
     record {
       within = omega (arith, read.amount.0, length-take {A = ℕ}, length-drop {A = ℕ}, size);
       taken = rw front (taken_then _ _ _ _ _ before.taken read.taken);

@@ -9,6 +9,7 @@ use Rattle.series_file.specs.Format.{magic}
 use Rattle.series_file.specs.Faults.{field}
 use Rattle.series_file.proofs.HeaderTests.{gives}
 use Rattle.series_file.proofs.header.parse.Goals as goal
+use Rattle.series_file.proofs.header.parse.Goals.{After-read_u32-last}
 
 -- the number in front of all bytes from a place on is the field there
 field_is : (place n : ℕ) (bytes : List ℕ)
@@ -24,22 +25,26 @@ pub returns-then-ne-clause-exact : goal.returns-then-ne-clause-exact
 returns-then-ne-clause-exact c =
     cond-true (not (bytes_eq (take 4 c.args.bytes.now) magic)) _ _ (sym c.ne.ensures ∙ c.if-ne.true)
 
+-- what was read are the fields, behind the magic
+fields : (c : After-read_u32-last)
+    → let bytes = c.args.bytes.now in
+    (bytes_eq (take 4 bytes) magic ≡ true) × (c.read_u16-version.result ≡ field 4 2 bytes) × (c.read_u16-narrow.result ≡ field 6 2 bytes)
+    × (c.read_u32-middle.result ≡ field 8 4 bytes) × (c.read_u32-last.result ≡ field 12 4 bytes)
+fields c =
+    let bytes = c.args.bytes.now in (
+      holds _ (sym c.ne.ensures ∙ c.if-ne.false),
+      c.read_u16-version.ensures ∙ field_is 4 2 bytes,
+      c.read_u16-narrow.ensures ∙ field_is 6 2 bytes,
+      c.read_u32-middle.ensures ∙ field_is 8 4 bytes,
+      c.read_u32-last.ensures ∙ field_is 12 4 bytes,
+    )
+
 pub returns-in-1-clause-exact : goal.returns-in-1-clause-exact
 returns-in-1-clause-exact c =
-    let bytes = c.args.bytes.now in
-    gives (bytes_eq (take 4 bytes) magic) (field 4 2 bytes) (field 6 2 bytes) (field 8 4 bytes) (field 12 4 bytes) 1 _ _ _ _
-    (holds _ (sym c.ne.ensures ∙ c.if-ne.false))
-    (sym (c.read_u16-version.ensures ∙ field_is 4 2 bytes) ∙ c.in-1.is)
-    (sym (c.from.ensures ∙ c.read_u16-narrow.ensures ∙ field_is 6 2 bytes))
-    (sym (c.read_u32-middle.ensures ∙ field_is 8 4 bytes))
-    (sym (c.read_u32-last.ensures ∙ field_is 12 4 bytes)) c.test.ensures
+    let is = fields (goal.at.returns-in-1-clause-exact c).After-read_u32-last in
+    gives _ _ _ _ _ 1 _ _ _ _ is.0 (sym is.1 ∙ c.in-1.is) (sym (c.from.ensures ∙ is.2)) (sym is.3) (sym is.4) c.test.ensures
 
 pub returns-in-2-clause-exact : goal.returns-in-2-clause-exact
 returns-in-2-clause-exact c =
-    let bytes = c.args.bytes.now in
-    gives (bytes_eq (take 4 bytes) magic) (field 4 2 bytes) (field 6 2 bytes) (field 8 4 bytes) (field 12 4 bytes) 2 _ _ _ _
-    (holds _ (sym c.ne.ensures ∙ c.if-ne.false))
-    (sym (c.read_u16-version.ensures ∙ field_is 4 2 bytes) ∙ c.in-2.is)
-    (sym (c.from-in-2.ensures ∙ c.read_u16-narrow.ensures ∙ field_is 6 2 bytes))
-    (sym (c.read_u32-middle.ensures ∙ field_is 8 4 bytes))
-    (sym (c.read_u32-last.ensures ∙ field_is 12 4 bytes)) c.test-in-2.ensures
+    let is = fields (goal.at.returns-in-2-clause-exact c).After-read_u32-last in
+    gives _ _ _ _ _ 2 _ _ _ _ is.0 (sym is.1 ∙ c.in-2.is) (sym (c.from-in-2.ensures ∙ is.2)) (sym is.3) (sym is.4) c.test-in-2.ensures

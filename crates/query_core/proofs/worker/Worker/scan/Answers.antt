@@ -5,8 +5,7 @@ use Rattle.std.specs.Option.{is_some}
 use Rattle.query_core.specs.Portions.{portion_rank}
 use Rattle.search_task.specs.Questions.{search_over, view_in}
 use Rattle.query_core.specs.Working.{OnwardInRange, Working, is_marked, phase_of}
-use Rattle.query_core.proofs.Keeping.{keeps_sharing, leaf_of_same, portion_of_same, scan_keeps, scan_offers}
-use Rattle.search_task.proofs.OfIndex.{search_fits}
+use Rattle.query_core.proofs.Keeping.{keeps_sharing, leaf_of_same, portion_of_same, scan_keeps, scan_offers, working_fits}
 use Rattle.query_core.proofs.LimitsKept.{keeps_scanned, scanned_some}
 use Rattle.query_core.proofs.Portions.{rank_some}
 use Rattle.query_core.proofs.Showing.{scan_shown_as}
@@ -20,7 +19,7 @@ note_scan-requires-clause-rank g c =
     let wanted : c.div_ceil-rank.result ≡ portion_rank search
     = c.div_ceil-rank.ensures ∙ ap (λ (n : ℕ). div_ceil n inside.queues) c.k.ensures.k in
     subst (λ (n : ℕ). 0 < n) (sym wanted)
-    (rank_some search (search_fits inside.search.question inside.search.index 1 inside.queues kept.searched (omega arith) kept.some_queue))
+    (rank_some search (working_fits kept))
 
 pub note_scan-requires-clause-limits : goal.note_scan-requires-clause-limits
 note_scan-requires-clause-limits g c =
@@ -46,7 +45,7 @@ invariant_of-self g c =
     let pairs = c.scan_boxed.ensures.pairs inside.search.index 1 inside.queues in
     let leaf = leaf_of_same _ c.args.self.now c.args.leaf c.self.view_is c.requires.leaf in
     let new = subst (λ w. is_marked w.marks c.args.leaf ≡ false) back c.requires.new in
-    let fits = search_fits inside.search.question inside.search.index 1 inside.queues kept.searched (omega arith) kept.some_queue in
+    let fits = working_fits kept in
     let told = c.note_scan.ensures.scanned search
     (scan_offers inside.start inside.walk inside.list inside.stage _ c.args.leaf c.args.limit c.scan_boxed.new.list.pairs kept leaf new
     pairs c.portion_of-portion.result c.div_ceil-rank.result inside.limits c.self.invariant.1 of wanted) in (
@@ -78,7 +77,7 @@ returns-clause-shares g c =
     let inside = c.self.inside in
     let kept = c.self.invariant.0 in
     let search = search_over inside.search.question inside.search.index 1 inside.queues in
-    let fits = search_fits inside.search.question inside.search.index 1 inside.queues kept.searched (omega arith) kept.some_queue in
+    let fits = working_fits kept in
     let of = portion_of_same _ c.args.self.now c.args.leaf c.portion_of-portion.result c.self.view_is c.portion_of-portion.ensures in
     let wanted = c.div_ceil-rank.ensures ∙ ap (λ (n : ℕ). div_ceil n inside.queues) c.k.ensures.k in
     let leaf = leaf_of_same _ c.args.self.now c.args.leaf c.self.view_is c.requires.leaf in

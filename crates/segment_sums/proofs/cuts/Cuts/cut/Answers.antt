@@ -22,19 +22,10 @@ returns-clause-to c =
 
 pub returns-clause-not_empty : goal.returns-clause-not_empty
 returns-clause-not_empty c =
-    let is : IsDivision c.args.self.now = subst IsDivision c.self.view_is c.self.invariant.0 in
-    omega (
-      arith,
-      returns-clause-from c,
-      returns-clause-to c,
-      cut_place_rises c.args.self.now c.args.j is,
-    )
+    let rises = cut_place_rises c.args.self.now c.args.j (subst IsDivision c.self.view_is c.self.invariant.0) in
+    omega (arith, returns-clause-from c, returns-clause-to c, rises)
 
 pub returns-clause-inside : goal.returns-clause-inside
 returns-clause-inside c =
     let is : IsDivision c.args.self.now = subst IsDivision c.self.view_is c.self.invariant.0 in
-    omega (
-      arith,
-      returns-clause-to c,
-      cut_place_inside c.args.self.now (c.args.j + 1) is (omega (arith, c.requires)),
-    )
+    omega (arith, returns-clause-to c, cut_place_inside c.args.self.now (c.args.j + 1) is (omega (arith, c.requires)))

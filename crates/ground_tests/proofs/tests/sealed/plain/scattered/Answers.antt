@@ -2,7 +2,7 @@ use Rattle.std.proofs.Common.{refl, ap, ◌∙◌, arith}
 use Rattle.series_core.specs.declared.queue_words.Entry.{Entry}
 use Rattle.list_totals.specs.Totals.{total, one_if_same}
 use Rattle.list_totals.proofs.Totals.{total_push, once_below_more, once_below_most}
-use Rattle.ground_tests.proofs.sealed.plain.scattered.Goals as goal
+use Rattle.ground_tests.proofs.tests.sealed.plain.scattered.Goals as goal
 
 pub loop-leaf-preserved : goal.loop-leaf-preserved
 loop-leaf-preserved c x =

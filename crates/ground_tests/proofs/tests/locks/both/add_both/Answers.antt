@@ -6,7 +6,7 @@ use Rattle.turn_lock.specs.declared.object.Entry.{Entry}
 use Rattle.turn_lock.specs.Passes.{AgreesWith}
 use Rattle.turn_lock.specs.History.{entry, calls_by, state_after}
 use Rattle.ground_tests.proofs.TwoCallers.{OfTwo, of_two, two_orders, two_back, both_numbered}
-use Rattle.ground_tests.proofs.locks.both.add_both.Goals as goal
+use Rattle.ground_tests.proofs.tests.locks.both.add_both.Goals as goal
 
 -- the meaning of a call on notes
 abbrev added : List ℕ → ℕ → ℕ → List ℕ × Option ℕ

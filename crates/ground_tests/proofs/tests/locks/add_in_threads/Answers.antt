@@ -2,7 +2,7 @@ use Rattle.std.proofs.Common.{rules, ◌≡◌, ◌<◌, ◌++◌, ◌∙◌, le
 use Rattle.std.proofs.Math.Seq.{take-append_seam}
 use Rattle.turn_lock.specs.Passes.{AreAll}
 use Rattle.turn_lock.proofs.Passes.{all_in_order}
-use Rattle.ground_tests.proofs.locks.add_in_threads.Goals as goal
+use Rattle.ground_tests.proofs.tests.locks.add_in_threads.Goals as goal
 
 pub close-requires-clause-all : goal.close-requires-clause-all
 close-requires-clause-all g c =

@@ -1,6 +1,6 @@
 use Rattle.std.proofs.Common.{◌≡◌, List, [], ◌∷◌, ◌++◌, length, slice_index_or, inl, refl, sym, ap, ◌∙◌, subst, arith, length-append}
 use Rattle.turn_lock.specs.Passes.{AreAll}
-use Rattle.ground_tests.proofs.queues.answers_the_same_through_a_lock.Goals as goal
+use Rattle.ground_tests.proofs.tests.queues.answers_the_same_through_a_lock.Goals as goal
 
 -- a list without length has nothing
 nothing : {A : Type 0} (xs : List A) → length xs ≡ 0 → xs ≡ []

@@ -1,6 +1,6 @@
 use Rattle.std.proofs.Common.{◌≡◌, All, vec_len}
 use Rattle.sealed_runs.specs.Visits.{IsPass}
-use Rattle.ground_tests.proofs.sealed.calls.replies_agree.Given as goal
+use Rattle.ground_tests.proofs.tests.sealed.calls.replies_agree.Given as goal
 
 abbrev pub invariant-loop-turn : goal.invariant-loop-turn
 invariant-loop-turn l =

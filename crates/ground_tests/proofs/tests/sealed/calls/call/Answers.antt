@@ -1,6 +1,6 @@
 use Rattle.std.proofs.lemmas.List.Elements.{All-set}
 use Rattle.sealed_runs.specs.Visits.{IsPass}
-use Rattle.ground_tests.proofs.sealed.calls.call.Goals as goal
+use Rattle.ground_tests.proofs.tests.sealed.calls.call.Goals as goal
 
 pub returns-clause-own : goal.returns-clause-own
 returns-clause-own c =
