@@ -1,12 +1,13 @@
 -- How a query stands behind some blocks of a row: before the first (`stands_first`), behind one more (`stands_more`, `stands_next`), and in the end, or
--- where it is too far already (`stands_last`, `stands_far`).
-use Rattle.std.proofs.Common.{◌≡◌, ℕ, suc, ◌+◌, ◌-◌, ◌*◌, ◌<◌, ◌≤◌, arith, sym, ap, ◌∙◌, refl, subst, Bool, true, false, not, leb, ℤ, List, ◌∷◌, length, drop, get_or, slice_index}
+-- where it is too far already (`stands_last`, `stands_far`); and what is known of the next block (`stands_inside`, `stands_squares`).
+use Rattle.std.proofs.Common.{◌≡◌, ℕ, suc, ◌+◌, ◌-◌, ◌*◌, ◌<◌, ◌≤◌, arith, sym, ap, ◌∙◌, refl, subst, Bool, true, false, not, leb, ℤ, List, ◌∷◌, length, drop, take, get_or, slice_index}
 use Rattle.std.specs.Prelude.{◌&&◌}
 use Rattle.std.proofs.lemmas.Bool.{leb-true, leb-false, le-leb, lt-leb}
 use Rattle.std.proofs.lemmas.Grind.{get_or_default_zero}
 use Rattle.std.proofs.lemmas.List.{drop_all}
 use Rattle.std.proofs.Math.Seq.{drop-cons}
 use Rattle.row_codes.specs.Rows.{Block}
+use Rattle.row_codes.specs.Codes.{code_total, codes_of, places_squared}
 use Rattle.row_codes.specs.Bound.{AreCodesFor, HaveSquares, block_distance, bound_at, bound_from, code_bound}
 use Rattle.row_codes.proofs.Views.{squares_left, within_more}
 
@@ -27,6 +28,21 @@ stands_first query codes limit fit = record {
   where
     from_none : (n : ℕ) → n ≡ n - 256 * 0
     from_none n = omega arith
+
+-- a block that is there begins within the query
+pub stands_inside : (n : ℕ) (codes : List Block) (k : ℕ) → AreCodesFor n codes → k < length codes → 256 * k < n
+stands_inside n codes k fit inside = omega (arith, fit.count, inside)
+
+-- and has the squares and the total of its codes
+pub stands_squares : (query : List ℤ) (codes : List Block) (limit k squared : ℕ) (within : Bool) (b : Block) → k < length codes
+    → b ≡ get_or codes k b → Stands query codes limit k squared within
+    → (b.squares ≡ places_squared (take (length query - 256 * k) (codes_of b.words)))
+    × (b.total ≡ code_total (take (length query - 256 * k) (codes_of b.words)))
+stands_squares query codes limit k squared within b inside is_b stands =
+    let left : drop k codes ≡ b ∷ drop (suc k) codes
+    = drop-cons codes k b inside ∙ ap (λ x. x ∷ drop (suc k) codes) (sym is_b) in
+    let all = subst (HaveSquares (length query - 256 * k)) left stands.squares in
+    (all.0, all.1)
 
 -- a block that is too far decides
 far_more : (query : List ℤ) (codes : List Block) (limit before k : ℕ) (b : Block) → k < length codes → b ≡ get_or codes k b

@@ -99,3 +99,35 @@ less_passed q t total m a b passed is small is_a is_b few low_t low =
           ap (λ y. to_z w64 (of_z w64 y)) both ∙ to_z-of_z w64 (pos q -ℤ z) fit,
           size,
         )
+
+-- a number less a product of a small one that is handed on
+pub moved_passed : (x : ℤ) (n : ℕ) (m a b passed : ℤ) → passed ≡ a *ℤ b → unsigned_abs passed ≤ 32768 * unsigned_abs a
+    → a ≡ pos n → b ≡ m → n ≤ 3840 → unsigned_abs x ≤ 125829120
+    → FitsSigned w32 (to_z w64 (of_z w64 passed))
+    × FitsSigned w32 (to_z w32 (of_z w32 x) -ℤ to_z w32 (of_z w32 (to_z w64 (of_z w64 passed))))
+    × (to_z w32 (of_z w32 (to_z w32 (of_z w32 x) -ℤ to_z w32 (of_z w32 (to_z w64 (of_z w64 passed))))) ≡ x -ℤ (pos n *ℤ m))
+    × (unsigned_abs (x -ℤ (pos n *ℤ m)) ≤ unsigned_abs x + 32768 * n)
+moved_passed x n m a b passed is small is_a is_b few low =
+    let product : passed ≡ pos n *ℤ m = is ∙ (λ i. is_a i *ℤ is_b i) in
+    let less : unsigned_abs passed ≤ 32768 * n = omega (arith, ints, small, is_a) in
+    of_sizes passed (pos n *ℤ m) product less
+  where
+    of_sizes : (p z : ℤ) → p ≡ z → unsigned_abs p ≤ 32768 * n
+        → FitsSigned w32 (to_z w64 (of_z w64 p))
+        × FitsSigned w32 (to_z w32 (of_z w32 x) -ℤ to_z w32 (of_z w32 (to_z w64 (of_z w64 p))))
+        × (to_z w32 (of_z w32 (to_z w32 (of_z w32 x) -ℤ to_z w32 (of_z w32 (to_z w64 (of_z w64 p))))) ≡ x -ℤ z)
+        × (unsigned_abs (x -ℤ z) ≤ unsigned_abs x + 32768 * n)
+    of_sizes p z same less =
+        let wide : FitsSigned w64 p = fits_signed_from_abs w64 p (omega (arith, less, few)) in
+        let narrow : FitsSigned w32 p = fits_signed_from_abs w32 p (omega (arith, less, few)) in
+        let own : to_z w64 (of_z w64 p) ≡ p = to_z-of_z w64 p wide in
+        let own_x = to_z-of_z w32 x (fits_signed_from_abs w32 x (omega (arith, low))) in
+        let own_p = ap (λ y. to_z w32 (of_z w32 y)) own ∙ (to_z-of_z w32 p narrow ∙ same) in
+        let both : to_z w32 (of_z w32 x) -ℤ to_z w32 (of_z w32 (to_z w64 (of_z w64 p))) ≡ x -ℤ z = λ i. own_x i -ℤ own_p i in
+        let size : unsigned_abs (x -ℤ z) ≤ unsigned_abs x + 32768 * n = omega (arith, ints, same, less) in
+        let fit : FitsSigned w32 (x -ℤ z) = fits_signed_from_abs w32 (x -ℤ z) (omega (arith, size, low, few)) in (
+          subst (FitsSigned w32) (sym own) narrow,
+          subst (FitsSigned w32) (sym both) fit,
+          ap (λ y. to_z w32 (of_z w32 y)) both ∙ to_z-of_z w32 (x -ℤ z) fit,
+          size,
+        )

@@ -1,6 +1,6 @@
 -- Each query stands behind one block more; in the end, or where each is too far, that decides.
 use Rattle.std.proofs.Common.{◌+◌, ◌≤◌, ◌∷◌, [], arith, length, slice_index}
-use Rattle.row_codes.proofs.Standings.{not_within, stands_far, stands_first, stands_last, stands_next}
+use Rattle.row_codes.proofs.Standings.{not_within, stands_far, stands_first, stands_inside, stands_last, stands_next, stands_squares}
 use Rattle.row_codes.proofs.four.four_within_all.Goals as goal
 
 pub loop-k-init : goal.loop-k-init
@@ -71,3 +71,79 @@ returns-then-not-to_d c =
     c.index-limits-3.result (omega arith) c.loop-k-test.true c.index-codes-k.is c.loop-k.invariant.d
     c.behind-to_d.ensures.squared c.behind-to_d.ensures.small c.behind-to_d.ensures.within) in
     λ i. a i ∷ b i ∷ c_is i ∷ d i ∷ []
+
+pub values-requires : goal.values-requires
+values-requires c = stands_inside (length c.args.a.now) c.args.codes.now c.loop-k.k c.requires.a c.loop-k-test.true
+
+pub values-requires-in-loop-k : goal.values-requires-in-loop-k
+values-requires-in-loop-k c = stands_inside (length c.args.b.now) c.args.codes.now c.loop-k.k c.requires.b c.loop-k-test.true
+
+pub values-requires-in-loop-k-2 : goal.values-requires-in-loop-k-2
+values-requires-in-loop-k-2 c = stands_inside (length c.args.c.now) c.args.codes.now c.loop-k.k c.requires.c c.loop-k-test.true
+
+pub values-requires-in-loop-k-3 : goal.values-requires-in-loop-k-3
+values-requires-in-loop-k-3 c = stands_inside (length c.args.d.now) c.args.codes.now c.loop-k.k c.requires.d c.loop-k-test.true
+
+pub behind-to_a-requires-clause-inside : goal.behind-to_a-requires-clause-inside
+behind-to_a-requires-clause-inside c = stands_inside (length c.args.a.now) c.args.codes.now c.loop-k.k c.requires.a c.loop-k-test.true
+
+pub behind-to_a-requires-clause-squares : goal.behind-to_a-requires-clause-squares
+behind-to_a-requires-clause-squares c =
+    (stands_squares c.args.a.now c.args.codes.now (slice_index c.args.limits.now 0) c.loop-k.k c.loop-k.to_a.squared
+    c.loop-k.to_a.within c.index-codes-k.result c.loop-k-test.true c.index-codes-k.is c.loop-k.invariant.a).0
+
+pub behind-to_a-requires-clause-total : goal.behind-to_a-requires-clause-total
+behind-to_a-requires-clause-total c =
+    (stands_squares c.args.a.now c.args.codes.now (slice_index c.args.limits.now 0) c.loop-k.k c.loop-k.to_a.squared
+    c.loop-k.to_a.within c.index-codes-k.result c.loop-k-test.true c.index-codes-k.is c.loop-k.invariant.a).1
+
+pub behind-to_a-requires-clause-small : goal.behind-to_a-requires-clause-small
+behind-to_a-requires-clause-small c = c.loop-k.invariant.a.small
+
+pub behind-to_b-requires-clause-inside : goal.behind-to_b-requires-clause-inside
+behind-to_b-requires-clause-inside c = stands_inside (length c.args.b.now) c.args.codes.now c.loop-k.k c.requires.b c.loop-k-test.true
+
+pub behind-to_b-requires-clause-squares : goal.behind-to_b-requires-clause-squares
+behind-to_b-requires-clause-squares c =
+    (stands_squares c.args.b.now c.args.codes.now (slice_index c.args.limits.now 1) c.loop-k.k c.loop-k.to_b.squared
+    c.loop-k.to_b.within c.index-codes-k.result c.loop-k-test.true c.index-codes-k.is c.loop-k.invariant.b).0
+
+pub behind-to_b-requires-clause-total : goal.behind-to_b-requires-clause-total
+behind-to_b-requires-clause-total c =
+    (stands_squares c.args.b.now c.args.codes.now (slice_index c.args.limits.now 1) c.loop-k.k c.loop-k.to_b.squared
+    c.loop-k.to_b.within c.index-codes-k.result c.loop-k-test.true c.index-codes-k.is c.loop-k.invariant.b).1
+
+pub behind-to_b-requires-clause-small : goal.behind-to_b-requires-clause-small
+behind-to_b-requires-clause-small c = c.loop-k.invariant.b.small
+
+pub behind-to_c-requires-clause-inside : goal.behind-to_c-requires-clause-inside
+behind-to_c-requires-clause-inside c = stands_inside (length c.args.c.now) c.args.codes.now c.loop-k.k c.requires.c c.loop-k-test.true
+
+pub behind-to_c-requires-clause-squares : goal.behind-to_c-requires-clause-squares
+behind-to_c-requires-clause-squares c =
+    (stands_squares c.args.c.now c.args.codes.now (slice_index c.args.limits.now 2) c.loop-k.k c.loop-k.to_c.squared
+    c.loop-k.to_c.within c.index-codes-k.result c.loop-k-test.true c.index-codes-k.is c.loop-k.invariant.c).0
+
+pub behind-to_c-requires-clause-total : goal.behind-to_c-requires-clause-total
+behind-to_c-requires-clause-total c =
+    (stands_squares c.args.c.now c.args.codes.now (slice_index c.args.limits.now 2) c.loop-k.k c.loop-k.to_c.squared
+    c.loop-k.to_c.within c.index-codes-k.result c.loop-k-test.true c.index-codes-k.is c.loop-k.invariant.c).1
+
+pub behind-to_c-requires-clause-small : goal.behind-to_c-requires-clause-small
+behind-to_c-requires-clause-small c = c.loop-k.invariant.c.small
+
+pub behind-to_d-requires-clause-inside : goal.behind-to_d-requires-clause-inside
+behind-to_d-requires-clause-inside c = stands_inside (length c.args.d.now) c.args.codes.now c.loop-k.k c.requires.d c.loop-k-test.true
+
+pub behind-to_d-requires-clause-squares : goal.behind-to_d-requires-clause-squares
+behind-to_d-requires-clause-squares c =
+    (stands_squares c.args.d.now c.args.codes.now (slice_index c.args.limits.now 3) c.loop-k.k c.loop-k.to_d.squared
+    c.loop-k.to_d.within c.index-codes-k.result c.loop-k-test.true c.index-codes-k.is c.loop-k.invariant.d).0
+
+pub behind-to_d-requires-clause-total : goal.behind-to_d-requires-clause-total
+behind-to_d-requires-clause-total c =
+    (stands_squares c.args.d.now c.args.codes.now (slice_index c.args.limits.now 3) c.loop-k.k c.loop-k.to_d.squared
+    c.loop-k.to_d.within c.index-codes-k.result c.loop-k-test.true c.index-codes-k.is c.loop-k.invariant.d).1
+
+pub behind-to_d-requires-clause-small : goal.behind-to_d-requires-clause-small
+behind-to_d-requires-clause-small c = c.loop-k.invariant.d.small
