@@ -1,7 +1,7 @@
 -- One worker more is hired: its number and its turns stand behind those before (`numbers_more`, `turns_more`).
 use Rattle.std.proofs.Common.{◌≡◌, All, refl, subst, length-append, ℕ, zero, suc, ◌+◌, ◌<◌, List, [], ◌∷◌, ◌++◌, length, get_or, map, take, sym, ap, ◌∙◌, zero-add, arith}
 use Rattle.std.specs.List.{range_with_len}
-use Rattle.std.proofs.lemmas.List.{map-append, take_more}
+use Rattle.std.proofs.lemmas.List.{append-nil, map-append, nil_from_length, take_more}
 use Rattle.std.proofs.lemmas.List.Elements.{All-get_or}
 use Rattle.worker_team.specs.declared.worker.TeamWorker.{TeamWorker}
 
@@ -16,6 +16,17 @@ All-middle P xs ys y all =
     subst P (at_middle xs ys y y)
     (All-get_or P (xs ++ y ∷ ys) (length xs) y
     (let long = length-append xs (y ∷ ys) in omega arith) all)
+
+-- where one more comes, fewer were there than in all
+pub still_fewer : {X : Type 0} (done : List X) (x : X) (rest left all : List X) → left ≡ x ∷ rest → done ++ left ≡ all
+    → length done < length all
+still_fewer done x rest left all next whole =
+    omega (arith, ap length whole, length-append done left, ap length next)
+
+-- where none is left all were yielded
+pub all_yielded : {X : Type 0} (done left all : List X) → length left ≡ 0 → done ++ left ≡ all → done ≡ all
+all_yielded done left all none whole =
+    sym (append-nil done) ∙ (ap (λ xs. done ++ xs) (sym (nil_from_length left none)) ∙ whole)
 
 -- the numbers below one more
 range_more : (a n : ℕ) → range_with_len a (n + 1) ≡ range_with_len a n ++ (a + n) ∷ []

@@ -1,12 +1,13 @@
 -- The walk stands at an item, where there is one (`standing`): it is the first of what is left.
-use Rattle.std.proofs.Common.{◌≡◌, ◌+◌, ◌<◌, Option, Some, List, subst, sym, arith}
+use Rattle.std.proofs.Common.{◌≡◌, ◌+◌, ◌<◌, ◌∙◌, Option, Some, List, subst, sym, ap, arith}
+use Rattle.std.proofs.lemmas.Option.{none-some}
 use Rattle.block_list.specs.declared.block.Block.{Block}
 use Rattle.block_list.specs.Blocks.{flat, has_some, Tells, IsWithin}
 use Rattle.block_list.specs.declared.iter.Iter.TheInside.{Inside}
 use Rattle.block_list.proofs.Rows.{Entered, Entered-inside, Entered-next, Entered-item}
 use Rattle.block_list.proofs.iter.IterIterator.next.Given as given
 use Rattle.block_list.proofs.iter.IterIterator.next.Goals as goal
-use Rattle.block_list.proofs.iter.IterIterator.next.Goals.{then-self+else-not-self, else-self, In-Some}
+use Rattle.block_list.proofs.iter.IterIterator.next.Goals.{then-self+else-not-self, else-self, In-Some, In_default}
 
 -- a walk that stands at an item, and knows whether blocks follow
 abbrev Stands : {T : Type 0} → List T → Inside T → Type 0
@@ -67,3 +68,22 @@ returns-clause-steps g c =
     let now = c.if-self.self-inside in
     Entered-item _ now.items now.at now.used (flat now.walk.items) c.in-Some.items _
     (standing g (goal.at.returns-clause-steps g c).In-Some).0 c.in-Some.is
+
+-- behind a test that did not say so, some block is there
+never : (g : given.Over) (c : In_default g) → ⊥
+never g c =
+    let was = c.self.inside in
+    elim c.if-self.branch [
+      | then-self+else-not-self w ↦ none-some _ (sym c.in_default.is ∙ ap (λ (s : Inside g.row.T.Denot). s.items) w.self-inside-is)
+      | else-self w ↦ w.if-self.false (subst (λ (o : Option (List g.row.T.Denot)). IsWithin o was.at was.used)
+          (ap (λ (s : Inside g.row.T.Denot). s.items) (sym w.self-inside-is) ∙ c.in_default.is) c.self.invariant.0)
+    ]
+
+pub invariant_of-self : goal.invariant_of-self
+invariant_of-self g c = absurd (never g c)
+
+pub returns-in_default-clause-steps : goal.returns-in_default-clause-steps
+returns-in_default-clause-steps g c = absurd (never g c)
+
+pub returns-in_default-clause-goes : goal.returns-in_default-clause-goes
+returns-in_default-clause-goes g c = absurd (never g c)
