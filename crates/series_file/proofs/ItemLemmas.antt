@@ -1,9 +1,26 @@
 -- Items cut out of bytes: by their places, and in two parts.
-use Rattle.std.proofs.Common.{div-mul-le_self, ◌/◌, take, ◌≡◌, ℕ, zero, suc, ◌+◌, ◌*◌, ◌<◌, ◌≤◌, List, [], ◌∷◌, ◌++◌, length, drop, get_or, zero-add, add-zero, append-nil, length-drop, refl, ap, ◌∙◌, sym, arith}
+use Rattle.std.proofs.Common.{div-mul-le_self, ◌/◌, take, ◌≡◌, ℕ, zero, suc, ◌+◌, ◌*◌, ◌<◌, ◌≤◌, List, [], ◌∷◌, ◌++◌, length, drop, All, Fits, w8, get_or, zero-add, add-zero, append-nil, length-append, length-drop, length-take, refl, ap, ◌∙◌, subst, sym, arith}
+use Rattle.std.proofs.lemmas.Grind.{get_or_default_zero}
 use Rattle.std.specs.Prelude.{slice_index}
 use Rattle.std.proofs.lemmas.List.{drop-drop, nil_from_length, take-append-drop, length-take-le, drop-append-le, take_at}
 use Rattle.std.proofs.Math.Nat.{mul-suc, suc-mul}
 use Rattle.series_file.specs.Items.{items_from}
+
+-- values of eight bits are below 256
+pub are_bytes : (bytes : List ℕ) → ((i : ℕ) → Fits w8 (get_or bytes i 0)) → All (λ b. b < 256) bytes
+are_bytes bytes fit k d inside = subst (λ n. n < 256) (sym (get_or_default_zero bytes k d inside)) (omega (arith, fit k))
+
+-- the bytes of whole items
+pub whole_front : (size : ℕ) (xs : List ℕ) → length xs / size * size ≡ length (take (length xs / size * size) xs)
+whole_front size xs = omega (arith, length-take (length xs / size * size) xs, div-mul-le_self (length xs) size)
+
+-- cells in front, and as many in their place
+module _ {X : Type 0} (n : ℕ) (xs : List X) where
+  pub cells_front : n ≤ length xs → n ≡ length (take n xs)
+  cells_front room = omega (arith, length-take n xs, room)
+
+  pub cells_kept : (ys : List X) → n ≤ length xs → length ys ≡ length (take n xs) → length (ys ++ drop n xs) ≡ length xs
+  cells_kept ys room same = omega (arith, length-append ys (drop n xs), length-drop n xs, length-take n xs, same, room)
 
 -- what holds at each place the item that stands there in the bytes is the items of the bytes
 pub items_by_place : {X : Type 0} (at : List ℕ → X) (n : ℕ) (items : List X) (bytes : List ℕ)
