@@ -5,7 +5,7 @@ ghost use Rattle.std.specs.Prelude.{◌≡◌};
 ghost use Rattle.series_file.specs.declared.error.FileError.TheVariants.{NoMemory};
 
 use series_core::{Flat, LabelList};
-use std::alloc::AllocError;
+use std::alloc::{AllocError, AllocFailed};
 use thiserror::Error;
 
 /// How a series file is spelled.
@@ -76,6 +76,14 @@ impl From<AllocError> for FileError {
     ghost from_gives = { λ _ e. e ≡ NoMemory };
 
     fn from(_: AllocError) -> FileError {
+        FileError::NoMemory
+    }
+}
+
+impl<T: Drop> From<AllocFailed<T>> for FileError {
+    ghost from_gives = { λ _ e. e ≡ NoMemory };
+
+    fn from(_: AllocFailed<T>) -> FileError {
         FileError::NoMemory
     }
 }
