@@ -6,7 +6,7 @@ use Rattle.std.specs.List.{All, range_with_len}
 use Rattle.std.proofs.lemmas.Int.{ints}
 use Rattle.std.proofs.lemmas.Bool.{cases_lt}
 use Rattle.std.proofs.lemmas.Nat.{mul-le, le-div}
-use Rattle.std.proofs.Math.Nat.{div-mul-le_self, lt-div-mul-add}
+use Rattle.std.proofs.Math.Nat.{div-mul-le_self, le_of_mul-le-mul_left, lt-div-mul-add, mul-sub}
 use Rattle.series_core.specs.Distance.{squared_distance}
 use Rattle.segment_sums.specs.Division.{Division, IsDivision, cut_place, segment_length}
 use Rattle.segment_sums.specs.Sum.{segment_values, segment_sum}
@@ -19,37 +19,21 @@ use Rattle.mean_bound.specs.MeanBound.{low_mean, high_mean, least_length, square
 
 -- a length times how far a mean lies below the least is at most how far the sum does
 below_gap : (l x q : ℕ) → 1 ≤ l → l * ((q + 1) / l - 1 - x / l) ≤ q - x
-below_gap l x q some = by_cases (cases_lt (x / l) ((q + 1) / l - 1))
+below_gap l x q some =
+    by_parts (x / l) ((q + 1) / l) (mul-sub l ((q + 1) / l - 1) (x / l)) (mul-sub l ((q + 1) / l) 1) (lt-div-mul-add some)
+    (div-mul-le_self (q + 1) l)
   where
-    -- the gap is the number of lengths from the mean on
-    by_parts : (m k : ℕ) → x < m * l + l → (m + k + 1) * l ≤ q + 1 → l * k ≤ q - x
-    by_parts m k low high = omega (arith, low, high)
-
-    by_cases : (x / l < (q + 1) / l - 1) ⊎ ((q + 1) / l - 1 ≤ x / l) → l * ((q + 1) / l - 1 - x / l) ≤ q - x
-    by_cases (inl low) =
-        let is : x / l + ((q + 1) / l - 1 - x / l) + 1 ≡ (q + 1) / l = omega (arith, low) in
-        by_parts (x / l) ((q + 1) / l - 1 - x / l) (lt-div-mul-add some)
-        (subst (λ n. n * l ≤ q + 1) (sym is) (div-mul-le_self (q + 1) l))
-    by_cases (inr high) =
-        let is : 0 ≡ (q + 1) / l - 1 - x / l = omega (arith, high) in
-        subst (λ n. l * n ≤ q - x) is (omega arith)
+    by_parts : (m n : ℕ) → l * (n - 1 - m) ≡ l * (n - 1) - l * m → l * (n - 1) ≡ l * n - l * 1 → x < m * l + l → n * l ≤ q + 1
+        → l * (n - 1 - m) ≤ q - x
+    by_parts m n gap last low high = omega (arith, gap, last, low, high)
 
 -- and so for one that lies above the greatest
 above_gap : (l x q : ℕ) → 1 ≤ l → l * (x / l - (q + (l - 1)) / l) ≤ x - q
-above_gap l x q some = by_cases (cases_lt ((q + (l - 1)) / l) (x / l))
+above_gap l x q some =
+    by_parts (x / l) ((q + (l - 1)) / l) (mul-sub l (x / l) ((q + (l - 1)) / l)) (lt-div-mul-add some) (div-mul-le_self x l)
   where
-    -- the gap is the number of lengths up to the mean
-    by_parts : (h k : ℕ) → q + (l - 1) < h * l + l → (h + k) * l ≤ x → l * k ≤ x - q
-    by_parts h k low high = omega (arith, low, high, some)
-
-    by_cases : ((q + (l - 1)) / l < x / l) ⊎ (x / l ≤ (q + (l - 1)) / l) → l * (x / l - (q + (l - 1)) / l) ≤ x - q
-    by_cases (inl low) =
-        let is : (q + (l - 1)) / l + (x / l - (q + (l - 1)) / l) ≡ x / l = omega (arith, low) in
-        by_parts ((q + (l - 1)) / l) (x / l - (q + (l - 1)) / l) (lt-div-mul-add some)
-        (subst (λ n. n * l ≤ x) (sym is) (div-mul-le_self x l))
-    by_cases (inr high) =
-        let is : 0 ≡ x / l - (q + (l - 1)) / l = omega (arith, high) in
-        subst (λ n. l * n ≤ x - q) is (omega arith)
+    by_parts : (m h : ℕ) → l * (m - h) ≡ l * m - l * h → q + (l - 1) < h * l + l → m * l ≤ x → l * (m - h) ≤ x - q
+    by_parts m h gap low high = omega (arith, gap, low, high, some)
 
 -- raised sums are as far from each other as the sums
 pub as_far : (x q : ℤ) (s a b : ℕ) → neg_ℤ (pos s) ≤ℤ x → neg_ℤ (pos s) ≤ℤ q
@@ -58,40 +42,12 @@ pub as_far : (x q : ℤ) (s a b : ℕ) → neg_ℤ (pos s) ≤ℤ x → neg_ℤ 
     → max a b ≤ unsigned_abs (x -ℤ q)
 as_far x q s a b low_x low_q far_a far_b = omega (arith, ints, low_x, low_q, far_a, far_b)
 
--- a factor on both sides falls away
-pub cancel : (l a d : ℕ) → 1 ≤ l → l * a ≤ l * d → a ≤ d
-cancel l a d some below = by_cases (cases_lt d a)
-  where
-    more : (k : ℕ) → l * (d + 1 + k) ≤ l * d → 1 ≤ 0
-    more k low = omega (arith, some, low)
-
-    by_cases : (d < a) ⊎ (a ≤ d) → a ≤ d
-    by_cases (inl less) =
-        let is : d + 1 + (a - (d + 1)) ≡ a = omega (arith, less) in
-        absurd (omega (arith, more (a - (d + 1)) (subst (λ n. l * n ≤ l * d) (sym is) below)))
-    by_cases (inr most) = most
-
 -- what is at most a length times a distance, where it is that length squared times a square, bounds the square by the
 -- distance
 cancelled : (l g d : ℕ) → 1 ≤ l → (l * g) * (l * g) ≤ l * d → l * (g * g) ≤ d
 cancelled l g d some below =
     let same : l * (l * (g * g)) ≤ l * d = omega (arith, below) in
-    cancel l (l * (g * g)) d some same
-
--- the greater of two numbers times a length, or what is less
-pub greater_times : (l a b d k : ℕ) → l * a ≤ d → l * b ≤ d → k ≤ max a b → l * k ≤ d
-greater_times l a b d k one two low = by_cases (cases_lt a b)
-  where
-    under : l * max a b ≤ d → l * k ≤ d
-    under most = omega (arith, mul-le l k l (max a b) (omega arith) low, most)
-
-    by_cases : (a < b) ⊎ (b ≤ a) → l * k ≤ d
-    by_cases (inl less) =
-        let is : b ≡ max a b = omega (arith, less) in
-        under (subst (λ n. l * n ≤ d) is two)
-    by_cases (inr most) =
-        let is : a ≡ max a b = omega (arith, most) in
-        under (subst (λ n. l * n ≤ d) is one)
+    le_of_mul-le-mul_left same some
 
 -- the least length is at most that of each segment
 pub least_is_least : (d : Division) (j : ℕ) → IsDivision d → least_length d ≤ segment_length d j
@@ -137,13 +93,14 @@ segment_below d x q j is whole_x whole_q fit_x fit_q used =
     let low_x = (segment_sum_within d x j is whole_x fit_x used).0 in
     let low_q = (segment_sum_within d q j is whole_q fit_q used).0 in
     let far = unsigned_abs (segment_sum d x j -ℤ segment_sum d q j) in
-    let both : max (l * (low_mean d q j - segment_mean d x j)) (l * (segment_mean d x j - high_mean d q j)) ≤ far
+    let both
     = as_far (segment_sum d x j) (segment_sum d q j) (32768 * l) _ _ low_x low_q
     (below_gap l (raised_sum d x j) (raised_sum d q j) some) (above_gap l (raised_sum d x j) (raised_sum d q j) some) in
-    let gap : l * gap_at d x q j ≤ far
-    = greater_times l (low_mean d q j - segment_mean d x j) (segment_mean d x j - high_mean d q j) far (gap_at d x q j)
-    (omega (arith, both)) (omega (arith, both)) (omega arith) in
-    square_below d x q j (gap_at d x q j) is whole_x whole_q used gap
+    square_below d x q j (gap_at d x q j) is whole_x whole_q used (under l _ _ far (cases_lt _ _) both)
+  where
+    under : (l a b far : ℕ) → (a < b) ⊎ (b ≤ a) → max (l * a) (l * b) ≤ far → l * min (max a b) 16383 ≤ far
+    under l a b far (inl less) both = omega (arith, mul-le l (min (max a b) 16383) l b (omega arith) (omega (arith, less)), both)
+    under l a b far (inr most) both = omega (arith, mul-le l (min (max a b) 16383) l a (omega arith) (omega (arith, most)), both)
 
 -- where there is no segment there is no gap
 none_behind : (n : ℕ) → squared_gaps (replicate n 0) (replicate n 0) (replicate n 0) ≡ 0

@@ -1,7 +1,6 @@
 -- The lemmas of this crate.
 pub mod Squares
 pub mod Lanes
-pub mod Cuts
 pub mod OfSegments
 pub mod BelowDistances
 pub mod Boxes

@@ -1,6 +1,6 @@
 -- Numbers of segments with zeros behind them hold at each segment its number (`at_segment`), and what follows for the sum of a segment
--- that is raised (`sum_between`, `raised_is`, `sum_fits`), and for its means (`mean_is`, `mean_told`, `low_is`, `high_is`).
-use Rattle.std.proofs.Common.{◌≡◌, ℕ, ◌+◌, ◌-◌, ◌*◌, ◌/◌, ◌<◌, ◌≤◌, ℤ, pos, List, ap, sym, ◌∙◌, arith, get_or, map, replicate, length}
+-- that is raised (`sum_between`, `raised_is`, `sum_fits`), and for its means (`at_length`, `mean_told`).
+use Rattle.std.proofs.Common.{◌≡◌, ℕ, ◌+◌, ◌-◌, ◌*◌, ◌/◌, ◌<◌, ◌≤◌, ℤ, pos, List, ap, refl, sym, ◌∙◌, arith, get_or, map, replicate, length}
 use Rattle.std.specs.Prelude.{neg_ℤ, ◌+ℤ◌, ◌≤ℤ◌, unsigned_abs}
 use Rattle.std.specs.List.{range_with_len}
 use Rattle.std.proofs.lemmas.Int.{ints}
@@ -9,7 +9,6 @@ use Rattle.std.proofs.lemmas.List.FromFn.{length-map-range_with_len, get_or-map-
 use Rattle.segment_sums.specs.Division.{Division, cut_place, segment_length}
 use Rattle.segment_sums.specs.Sum.{segment_sum, NoSumBelow, NoSumAbove}
 use Rattle.mean_bound.specs.Means.{of_segments, raised_sum, segment_mean, AreMeans, NoRaisedSumAbove}
-use Rattle.mean_bound.specs.MeanBound.{low_mean, high_mean}
 
 -- the number of a segment
 pub at_segment : (d : Division) (f : ℕ → ℕ) (xs : List ℕ) (j : ℕ) → xs ≡ of_segments d f → j < d.segments
@@ -52,30 +51,15 @@ sum_fits d row sums j l are limit used long =
     let here = limit j used in
     omega (arith, at_segment d (raised_sum d row) sums j are used, here, long)
 
--- divided by the length, it is the mean
-pub mean_is : (d : Division) (row : List ℤ) (sums : List ℕ) (j l got : ℕ) → sums ≡ of_segments d (raised_sum d row) → j < d.segments
-    → segment_length d j ≡ l → got ≡ get_or sums j 0 / l → got ≡ segment_mean d row j
-mean_is d row sums j l got are used long value =
-    value ∙ ap (λ s. s / l) (at_segment d (raised_sum d row) sums j are used) ∙ ap (λ n. raised_sum d row j / n) (sym long)
+-- what is made of the raised sum that stands at a segment and of the length is that of the segment
+pub at_length : (h : ℕ → ℕ → ℕ) (d : Division) (row : List ℤ) (sums : List ℕ) (j l got : ℕ) → sums ≡ of_segments d (raised_sum d row)
+    → j < d.segments → segment_length d j ≡ l → got ≡ h (get_or sums j 0) l → got ≡ h (raised_sum d row j) (segment_length d j)
+at_length h d row sums j l got are used long value =
+    value ∙ (λ i. h (at_segment d (raised_sum d row) sums j are used i) (sym long i))
 
 -- the mean that stands at a segment is the sum there, divided by the length
 pub mean_told : (d : Division) (row : List ℤ) (sums means : List ℕ) (j l : ℕ) → AreMeans d row sums means → j < d.segments
     → segment_length d j ≡ l → get_or means j 0 ≡ get_or sums j 0 / l
 mean_told d row sums means j l are used long =
     at_segment d (segment_mean d row) means j are.divided used
-    ∙ ap (λ n. raised_sum d row j / n) long
-    ∙ ap (λ s. s / l) (sym (at_segment d (raised_sum d row) sums j are.summed used))
-
--- the least mean without a gap
-pub low_is : (d : Division) (row : List ℤ) (sums : List ℕ) (j l got : ℕ) → sums ≡ of_segments d (raised_sum d row) → j < d.segments
-    → segment_length d j ≡ l → got ≡ (get_or sums j 0 + 1) / l - 1 → got ≡ low_mean d row j
-low_is d row sums j l got are used long value =
-    value ∙ ap (λ s. (s + 1) / l - 1) (at_segment d (raised_sum d row) sums j are used)
-    ∙ ap (λ n. (raised_sum d row j + 1) / n - 1) (sym long)
-
--- and the greatest
-pub high_is : (d : Division) (row : List ℤ) (sums : List ℕ) (j l got : ℕ) → sums ≡ of_segments d (raised_sum d row) → j < d.segments
-    → segment_length d j ≡ l → got ≡ (get_or sums j 0 + (l - 1)) / l → got ≡ high_mean d row j
-high_is d row sums j l got are used long value =
-    value ∙ ap (λ s. (s + (l - 1)) / l) (at_segment d (raised_sum d row) sums j are used)
-    ∙ ap (λ n. (raised_sum d row j + (n - 1)) / n) (sym long)
+    ∙ sym (at_length (λ s n. s / n) d row sums j l _ are.summed used long refl)

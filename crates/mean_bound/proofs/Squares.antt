@@ -1,9 +1,15 @@
--- Squares of numbers of at most 16383 do not wrap in 32 bits (`squares_are`), and they add up to at most as many greatest squares
+-- Numbers that are cut are at most 16383 (`cut_small`): their squares do not wrap in 32 bits (`squares_are`), and they add up to at most as many greatest squares
 -- (`squares_small`).
 use Rattle.std.proofs.Common.{◌≡◌, ℕ, ◌*◌, ◌%◌, ◌≤◌, refl, arith, List, [], ◌∷◌, map, length}
+use Rattle.std.specs.Prelude.{min}
 use Rattle.std.proofs.Math.Nat.{suc-mul, mul-le-mul}
 use Rattle.std.specs.Simd.Lanes.{zip2, sum_l, Each1}
 use Rattle.mean_bound.specs.MeanBound.{square}
+
+-- cut numbers are small
+pub cut_small : (ns : List ℕ) → Each1 (λ n. n ≤ 16383) (map (λ n. min n 16383) ns)
+cut_small [] = tt
+cut_small (n ∷ ns) = (omega arith, cut_small ns)
 
 -- squares of small numbers do not wrap
 pub squares_are : (ns : List ℕ) → Each1 (λ n. n ≤ 16383) ns

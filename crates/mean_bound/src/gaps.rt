@@ -69,6 +69,7 @@ fn cut(numbers: u16x16) -> u16x16
 }
 
 /// The squares of sixteen numbers of at most 16383.
+#[tactic(auto, using(crate::proofs::Squares::squares_are))]
 fn squares(numbers: u16x16) -> u32x16
     requires { Each1 (λ n. n ≤ 16383) numbers }
     ensures { result ≡ map square numbers }

@@ -12,6 +12,7 @@ use segment_sums::Cuts;
 use series_core::values_fit;
 
 /// The law that the bound of a series by its means is at most its distance.
+#[tactic(auto, using(crate::proofs::BelowDistances::mean_bound_below))]
 pub fn mean_bound_is_below_distance(cuts: &Cuts, query: &[i16], series: &[i16])
     requires query_length { length query.now ≡ cuts.now.row_length }
     requires series_length { length series.now ≡ cuts.now.row_length }

@@ -1,8 +1,6 @@
 -- The bound of a row by its codes is at most its distance (`bound_below`), and its codes have their squares (`have_squares`).
-use Rattle.std.proofs.Common.{◌≡◌, ℕ, zero, suc, ◌+◌, ◌-◌, ◌*◌, ◌<◌, ◌≤◌, arith, sym, ap, subst, ◌∙◌, refl, ◌⊎◌, inl, inr, ℤ, pos, ◌-ℤ◌, ◌*ℤ◌, List, [], ◌∷◌, ◌++◌, length, map, take, drop}
-use Rattle.std.specs.Prelude.{max, min, unsigned_abs}
-use Rattle.std.proofs.lemmas.Int.{ints}
-use Rattle.std.proofs.lemmas.Bool.{cases_lt}
+use Rattle.std.proofs.Common.{◌≡◌, ℕ, zero, suc, ◌+◌, ◌-◌, ◌*◌, ◌≤◌, arith, sym, ap, subst, ◌∙◌, refl, ℤ, List, [], ◌++◌, length, take, drop}
+use Rattle.std.specs.Prelude.{max}
 use Rattle.std.proofs.lemmas.List.{length-append, length-map, length-take, length-drop, append_assoc, take-append-drop}
 use Rattle.series_core.specs.Distance.{squared_distance}
 use Rattle.lower_bound.proofs.Distances.{squared_distance-append}
@@ -15,35 +13,12 @@ use Rattle.row_codes.proofs.Triangle.{distance_turned, side_left}
 use Rattle.row_codes.proofs.Lists.{pictured_front}
 use Rattle.row_codes.proofs.OfBlocks.{front_codes, held_codes, length-block_codes}
 
--- twice some values
-abbrev doubled : List ℤ → List ℤ
-doubled xs = map (λ x. pos 2 *ℤ x) xs
-
--- doubled values lie four times as far apart
-doubled_distance : (xs ys : List ℤ) → squared_distance (doubled xs) (doubled ys) ≡ 4 * squared_distance xs ys
-doubled_distance [] ys = refl
-doubled_distance (x ∷ xs) [] = refl
-doubled_distance (x ∷ xs) (y ∷ ys) =
-    let here : unsigned_abs ((pos 2 *ℤ x) -ℤ (pos 2 *ℤ y)) ≡ 2 * unsigned_abs (x -ℤ y) = omega (arith, ints) in
-    by_parts _ (unsigned_abs (x -ℤ y)) _ _ here (doubled_distance xs ys)
-  where
-    by_parts : (f g m n : ℕ) → f ≡ 2 * g → m ≡ 4 * n → f * f + m ≡ 4 * (g * g + n)
-    by_parts f g m n here rest =
-        let twice : f * f ≡ (2 * g) * (2 * g) = ap (λ k. k * k) here in
-        omega (arith, twice, rest)
-
 -- a side is as long at least as another is longer than the third: so of twice their lengths, rounded
 doubled_left : (us ps vs : List ℤ) → length us ≡ length ps
     → square (root (4 * squared_distance ps vs) - root_up (4 * squared_distance us ps)) ≤ 4 * squared_distance us vs
 doubled_left us ps vs long =
-    let same : length (doubled ps) ≡ length (doubled us) = length-map ps _ ∙ sym long ∙ sym (length-map us _) in
-    let own : squared_distance (doubled ps) (doubled us) ≡ 4 * squared_distance us ps
-    = doubled_distance ps us ∙ ap (λ n. 4 * n) (distance_turned ps us) in
-    let kept : squared_distance (doubled ps) (doubled us) ≤ square (root_up (4 * squared_distance us ps))
-    = subst (λ n. n ≤ square (root_up (4 * squared_distance us ps))) (sym own) (root_up_high (4 * squared_distance us ps)) in
-    let left = side_left (root_up (4 * squared_distance us ps)) (doubled ps) (doubled us) (doubled vs) same kept in
-    subst (λ n. square (root (4 * squared_distance ps vs) - root_up (4 * squared_distance us ps)) ≤ n) (doubled_distance us vs)
-    (subst (λ n. square (root n - root_up (4 * squared_distance us ps)) ≤ squared_distance (doubled us) (doubled vs)) (doubled_distance ps vs) left)
+    side_left (root_up (4 * squared_distance us ps)) ps us vs (sym long)
+    (omega (arith, root_up_high (4 * squared_distance us ps), distance_turned ps us))
 
 -- no block has more than 256 values
 few_values : (xs : List ℤ) → length (take 256 xs) ≤ 256
@@ -58,7 +33,7 @@ distance_of_block before xs qs same =
     let as_long : m ≡ length own = omega (arith, length-take 256 xs, length-take 256 qs, same) in
     ap (λ cs. squared_distance (pictured (least own) (step_of own) cs) qs) (held_codes own (few_values xs))
     ∙ pictured_front 256 (least own) (step_of own) (block_codes own) qs (omega (arith, length-block_codes own (few_values xs)))
-    ∙ ap (λ cs. squared_distance (pictured (least own) (step_of own) cs) (take 256 qs)) (front_codes own m (few_values xs) (inl as_long))
+    ∙ ap (λ cs. squared_distance (pictured (least own) (step_of own) cs) (take 256 qs)) (front_codes own m (few_values xs) (omega (arith, as_long, few_values xs)))
 
 -- 256 values stand in front of the others
 parted : (us xs : List ℤ) → us ++ xs ≡ (us ++ take 256 xs) ++ drop 256 xs
@@ -120,15 +95,9 @@ squares_of_blocks : (k n before : ℕ) (xs : List ℤ) → n ≡ length xs → H
 squares_of_blocks zero n before xs long = tt
 squares_of_blocks (suc k) n before xs long =
     let own = take 256 xs in
-    let as_long = length-take 256 xs in
     let left : n - 256 ≡ length (drop 256 xs) = omega (arith, length-drop 256 xs, long) in
-    let front = ap (take n) (held_codes own (few_values xs)) ∙ front_codes own n (few_values xs) (parts (cases_lt n 256) as_long) in
+    let front = ap (take n) (held_codes own (few_values xs)) ∙ front_codes own n (few_values xs) (omega (arith, length-take 256 xs, long)) in
     (ap (λ cs. value_squares (pictured (least own) (step_of own) cs)) (sym front), squares_of_blocks k (n - 256) (before + forgotten own) (drop 256 xs) left)
-  where
-    parts : (n < 256) ⊎ (256 ≤ n) → length (take 256 xs) ≡ min 256 (length xs)
-        → (n ≡ length (take 256 xs)) ⊎ ((length (take 256 xs) ≡ 256) × (256 ≤ n))
-    parts (inl less) is = inl (omega (arith, less, long, is))
-    parts (inr most) is = inr (omega (arith, most, long, is), most)
 
 -- the codes of a row are codes for each query of its length
 pub have_squares : (xs : List ℤ) → AreCodesFor (length xs) (row_codes xs)

@@ -4,8 +4,9 @@ use Rattle.std.proofs.Common.{◌≡◌, ℕ, zero, suc, ◌+◌, ◌-◌, ◌*�
 use Rattle.std.specs.Prelude.{max, min}
 use Rattle.std.proofs.lemmas.Bool.{cases_lt}
 use Rattle.std.proofs.lemmas.Nat.{mul-le}
-use Rattle.std.proofs.lemmas.List.{length-map, length-take-le, map-append, take_more}
-use Rattle.std.proofs.Math.Nat.{div-mul-le_self, lt-div-mul-add}
+use Rattle.std.proofs.lemmas.List.{append_assoc, length-map, length-take-le, map_more, take_more}
+use Rattle.std.proofs.Math.Nat.{div-lt_iff_lt-mul, div-mul-le_self, lt-div-mul-add}
+use Rattle.std.proofs.Math.Seq.{set-append_seam}
 use Rattle.row_codes.specs.Codes.{greatest, least, raised}
 
 -- a product with a number that is slightly more than 2^28 parts of s divides by s
@@ -42,22 +43,15 @@ by_reciprocal n s m step near is =
     let high : n < n / s * s + s = lt-div-mul-add {a = n} {b = s} some in
     let low_k : 268435456 / s * s ≤ 268435456 = div-mul-le_self 268435456 s in
     let high_k : 268435456 < 268435456 / s * s + s = lt-div-mul-add {a = 268435456} {b = s} some in
-    of_parts (n / s) (n - n / s * s) (268435456 / s) low high low_k high_k is
+    of_parts (n / s) (n - n / s * s) (268435456 / s) low high low_k high_k is ((div-lt_iff_lt-mul {k = s} {x = n} {y = 16} some).1 near)
   where
-    of_parts : (q r h : ℕ) → q * s ≤ n → n < q * s + s → h * s ≤ 268435456 → 268435456 < h * s + s → m ≡ h + 1
+    of_parts : (q r h : ℕ) → q * s ≤ n → n < q * s + s → h * s ≤ 268435456 → 268435456 < h * s + s → m ≡ h + 1 → q < 16
         → (n * m / 268435456 ≡ q) × (n * m < 4294967296) × (q < 16)
-    of_parts q r h low high low_k high_k is =
+    of_parts q r h low high low_k high_k is few =
         let times : m * s ≡ (h + 1) * s = ap (λ k. k * s) is in
         let both = divided n s m q (n - q * s) (h * s + s - 268435456) (omega (arith, low)) (omega (arith, low, high))
         (omega (arith, times, high_k)) (omega (arith, high_k)) (omega (arith, low_k)) step near in
-        let few : q < 16 = few_steps q (cases_lt q 16) low in
         (omega (arith, both.0, both.1), omega (arith, both.1, few), few)
-      where
-        few_steps : (q : ℕ) → (q < 16) ⊎ (16 ≤ q) → q * s ≤ n → q < 16
-        few_steps q (inl few) low = few
-        few_steps q (inr many) low =
-            let more : 16 * s ≤ q * s = mul-le 16 s q s many (omega arith) in
-            absurd (omega (arith, more, low, near))
 
 -- the least of one value more
 pub least_more : (xs : List ℤ) (i : ℕ) (d : ℤ) → i < length xs
@@ -86,26 +80,15 @@ between (x ∷ xs) (suc i) d inside =
     let rest = between xs i d (omega (arith, inside)) in
     (omega (arith, rest.0), omega (arith, rest.1))
 
--- what stands behind others is changed
-set_behind : {X : Type 0} (front : List X) (n : ℕ) (y z : X) → 0 < n
-    → set (front ++ replicate n z) (length front) y ≡ (front ++ y ∷ []) ++ replicate (n - 1) z
-set_behind [] zero y z some = absurd (omega (arith, some))
-set_behind [] (suc n) y z some = ap (λ k. y ∷ replicate k z) (omega arith)
-set_behind (x ∷ front) n y z some = ap (λ l. x ∷ l) (set_behind front n y z some)
-
 -- one code more in place of one that was not yet found
 pub code_more : {X Y : Type 0} (f : X → Y) (xs : List X) (cs : List Y) (i : ℕ) (y z : Y) (d : X) → i < length xs → i < 256
     → cs ≡ map f (take i xs) ++ replicate (256 - i) z → y ≡ f (get_or xs i d)
     → set cs i y ≡ map f (take (i + 1) xs) ++ replicate (256 - (i + 1)) z
 code_more f xs cs i y z d inside few is value =
     let long : length (map f (take i xs)) ≡ i = length-map (take i xs) f ∙ length-take-le i xs (omega (arith, inside)) in
-    let some : 0 < 256 - i = omega (arith, few) in
-    let left : 256 - i - 1 ≡ 256 - (i + 1) = omega arith in
-    let front : map f (take i xs) ++ y ∷ [] ≡ map f (take (i + 1) xs)
-    = ap (λ v. map f (take i xs) ++ v ∷ []) value ∙ sym (map-append f (take i xs) (get_or xs i d ∷ []))
-    ∙ ap (map f) (sym (take_more xs i d inside)) in
-    ap (λ l. set l i y) is
-    ∙ ap (λ k. set (map f (take i xs) ++ replicate (256 - i) z) k y) (sym long)
-    ∙ set_behind (map f (take i xs)) (256 - i) y z some
-    ∙ ap (λ l. l ++ replicate (256 - i - 1) z) front
-    ∙ ap (λ k. map f (take (i + 1) xs) ++ replicate k z) left
+    let left : 256 - i ≡ suc (256 - (i + 1)) = omega (arith, few) in
+    let zeros = replicate (256 - (i + 1)) z in
+    ap (λ l. set l i y) (is ∙ ap (λ k. map f (take i xs) ++ replicate k z) left)
+    ∙ ap (λ k. set (map f (take i xs) ++ z ∷ zeros) k y) (sym long) ∙ set-append_seam (map f (take i xs)) z zeros y
+    ∙ ap (λ v. map f (take i xs) ++ v ∷ zeros) value ∙ sym (append_assoc (map f (take i xs)) (f (get_or xs i d) ∷ []) zeros)
+    ∙ ap (λ l. l ++ zeros) (sym (map_more f xs i d inside))

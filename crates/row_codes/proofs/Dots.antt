@@ -9,8 +9,7 @@ use Rattle.std.proofs.lemmas.Nat.{mul-le}
 use Rattle.std.proofs.lemmas.List.{length-map, length-append, take-map, drop-map, drop-drop}
 use Rattle.std.proofs.Math.IntN.{*ℤ-zero}
 use Rattle.std.proofs.Math.ListN.{drop_of_length-le}
-use Rattle.std.proofs.lemmas.List.Elements.{All-head, All-tail}
-use lib.Lanes.{Each1}
+use Rattle.std.proofs.lemmas.List.Elements.{All-append, All-head, All-map, All-tail}
 use mir.Syntax.{w16, w32}
 use Rattle.row_codes.specs.Codes.{codes_of}
 use Rattle.row_codes.specs.Lanes.{code_dot, sixteens_dot, wrapped}
@@ -44,54 +43,32 @@ abs_sum : (a b : ℤ) → unsigned_abs (a +ℤ b) ≤ unsigned_abs a + unsigned_
 abs_sum a b = omega (arith, ints)
 
 -- so many codes add so much at most
-small_sum : (cs : List ℕ) (qs : List ℤ) → Each1 (λ c. c < 16) cs → All (FitsSigned w16) qs
+small_sum : (cs : List ℕ) (qs : List ℤ) → All (λ c. c < 16) cs → All (FitsSigned w16) qs
     → unsigned_abs (code_dot cs qs) ≤ length cs * 491520
 small_sum [] qs small fits = omega arith
 small_sum (c ∷ cs) [] small fits = omega arith
 small_sum (c ∷ cs) (q ∷ qs) small fits =
     let value : FitsSigned w16 q = All-head (FitsSigned w16) q qs fits in
     let size : unsigned_abs q ≤ 32768 = omega (arith, ints, value) in
-    let code : c ≤ 15 = omega (arith, small.0) in
-    let product = mul-le c (unsigned_abs q) 15 32768 code size in
-    let rest = small_sum cs qs small.1 (All-tail (FitsSigned w16) q qs fits) in
+    let code : c < 16 = All-head (λ c. c < 16) c cs small in
+    let product = mul-le c (unsigned_abs q) 15 32768 (omega (arith, code)) size in
+    let rest = small_sum cs qs (All-tail (λ c. c < 16) c cs small) (All-tail (FitsSigned w16) q qs fits) in
     omega (arith, unsigned_abs-mul (pos c) q, product, rest, abs_sum (pos c *ℤ q) (code_dot cs qs))
 
 -- what words hold is below 16
-held_small : (f : ℕ → ℕ) → ((w : ℕ) → f w < 16) → (ws : List ℕ) → Each1 (λ c. c < 16) (map f ws)
-held_small f small [] = tt
-held_small f small (w ∷ ws) = (small w, held_small f small ws)
-
--- and below 16 behind what is
-behind_small : (xs bs : List ℕ) → Each1 (λ c. c < 16) xs → Each1 (λ c. c < 16) bs → Each1 (λ c. c < 16) (xs ++ bs)
-behind_small [] bs one two = two
-behind_small (a ∷ xs) bs one two = (one.0, behind_small xs bs one.1 two)
-
--- all codes of words are
-pub codes_small : (ws : List ℕ) → Each1 (λ c. c < 16) (codes_of ws)
+codes_small : (ws : List ℕ) → All (λ c. c < 16) (codes_of ws)
 codes_small ws =
-    behind_small _ _
-    (behind_small _ _
-    (behind_small _ _ (held_small (λ w. w % 16) (λ w. omega arith) ws) (held_small (λ w. w / 16 % 16) (λ w. omega arith) ws))
-    (held_small (λ w. w / 256 % 16) (λ w. omega arith) ws))
-    (held_small (λ w. w / 4096 % 16) (λ w. omega arith) ws)
+    All-append (λ c. c < 16) _ _
+    (All-append (λ c. c < 16) _ _ (All-append (λ c. c < 16) _ _ (held (λ w. w % 16) (λ w. omega arith)) (held (λ w. w / 16 % 16) (λ w. omega arith)))
+    (held (λ w. w / 256 % 16) (λ w. omega arith)))
+    (held (λ w. w / 4096 % 16) (λ w. omega arith))
+  where
+    held : (f : ℕ → ℕ) → ((w : ℕ) → f w < 16) → All (λ c. c < 16) (map f ws)
+    held f small = All-map (λ c. c < 16) f ws (λ k d inside. small _)
 
 -- four codes a word
 pub codes_long : (ws : List ℕ) → length (codes_of ws) ≡ 4 * length ws
-codes_long ws =
-    let low = map (λ w. w % 16) ws in
-    let next = map (λ w. w / 16 % 16) ws in
-    let third = map (λ w. w / 256 % 16) ws in
-    let high = map (λ w. w / 4096 % 16) ws in
-    omega (
-      arith,
-      length-append ((low ++ next) ++ third) high,
-      length-append (low ++ next) third,
-      length-append low next,
-      length-map ws (λ w. w % 16),
-      length-map ws (λ w. w / 16 % 16),
-      length-map ws (λ w. w / 256 % 16),
-      length-map ws (λ w. w / 4096 % 16),
-    )
+codes_long ws = simp (length-append, length-map) (omega arith)
 
 -- what the first sixteens of codes and values add
 abbrev parts : ℕ → List ℕ → List ℤ → ℤ

@@ -5,6 +5,7 @@ use Rattle.std.specs.Int.{int_wrapping_add}
 use Rattle.std.specs.List.{All}
 use Rattle.std.proofs.lemmas.Int.{ints, to_z-of_z, wrapping_add_is, wrapping_mul_is, wrapping_add_onto, wrapping_add-bits, int_wrap-add_left, int_wrap-add_right, fits_signed_from_abs}
 use Rattle.std.proofs.lemmas.List.{length-map}
+use Rattle.std.proofs.lemmas.Simd.{length-zip2}
 use Rattle.std.proofs.lemmas.List.Elements.{All-head, All-tail, All-nil, All-cons, All-same}
 use Rattle.std.proofs.lemmas.List.FromFn.{fill_by_all}
 use Rattle.std.proofs.Math.Facts.{sfits_to_z}
@@ -152,19 +153,5 @@ handed_both xs ys m n fx fy one two =
     ∙ both (lane_total xs) (lane_total ys) m n one two
 
 -- as many lanes as before
-pub lanes_long : (h : ℕ → ℕ → ℕ) (xs ys : List ℤ) → length xs ≡ length ys
-    → length (map (to_z w32) (zip2 h (map (of_z w32) xs) (map (of_z w32) ys))) ≡ length xs
-lanes_long h [] ys same = refl
-lanes_long h (x ∷ xs) [] same = absurd (omega (arith, same))
-lanes_long h (x ∷ xs) (y ∷ ys) same =
-    let rest = lanes_long h xs ys (omega (arith, same)) in
-    omega (arith, rest)
-
--- as many products as codes
-pub products_long : (f g : ℕ → ℕ) (cs : List ℕ) (vs : List ℤ) → length cs ≡ length vs
-    → length (map (to_z w32) (zip2 (λ a b. (a * b) % 4294967296) (map f cs) (map g (map (of_z w16) vs)))) ≡ length cs
-products_long f g [] vs same = refl
-products_long f g (c ∷ cs) [] same = absurd (omega (arith, same))
-products_long f g (c ∷ cs) (v ∷ vs) same =
-    let rest = products_long f g cs vs (omega (arith, same)) in
-    omega (arith, rest)
+pub lanes_long : (n : ℕ) (h : ℕ → ℕ → ℕ) (us vs : List ℕ) → length us ≡ n → length vs ≡ n → length (map (to_z w32) (zip2 h us vs)) ≡ n
+lanes_long n h us vs one two = length-map (zip2 h us vs) (to_z w32) ∙ length-zip2 h us vs (one ∙ sym two) ∙ one

@@ -1,29 +1,19 @@
 -- The root of a number, rounded down: its square is at most that number (`root_low`), and that of the next is above it (`root_high`), so
 -- no other number is it (`root_is`). The root rounded up has a square that is as great (`root_up_high`).
-use Rattle.std.proofs.Common.{◌≡◌, ℕ, zero, suc, ◌+◌, ◌<◌, ◌≤◌, Bool, true, false, arith, refl, subst, sym, ◌⊎◌, inl, inr, cond, leb}
-use Rattle.std.proofs.lemmas.Bool.{cases_lt, leb-false, leb-true}
+use Rattle.std.proofs.Common.{◌≡◌, ℕ, zero, suc, ◌+◌, ◌<◌, ◌≤◌, ap, arith, refl, subst, sym, ◌⊎◌, ⊎_elim, inl, inr, cond}
+use Rattle.std.proofs.lemmas.Bool.{cases_lt, le-leb, lt-leb}
 use Rattle.std.proofs.lemmas.Nat.{mul-le}
 use Rattle.row_codes.specs.Roots.{root, root_up, roots, square}
-
--- a number whose square is small enough counts
-one_more : (a n : ℕ) (b : Bool) → leb a n ≡ b → a ≤ n → ◌≡◌ {A = ℕ} (cond b 1 0) 1
-one_more a n true is low = refl
-one_more a n false is low = absurd (omega (arith, leb-false a n is, low))
-
--- and another does not
-none_more : (a n : ℕ) (b : Bool) → leb a n ≡ b → n < a → ◌≡◌ {A = ℕ} (cond b 1 0) 0
-none_more a n true is high = absurd (omega (arith, leb-true a n is, high))
-none_more a n false is high = refl
 
 -- all numbers up to one whose square is small enough are counted
 roots_full : (n k : ℕ) → square k ≤ n → roots n k ≡ k
 roots_full n zero small = refl
 roots_full n (suc k) small =
-    omega (arith, roots_full n k (omega (arith, small)), one_more (square (suc k)) n _ refl small)
+    omega (arith, roots_full n k (omega (arith, small)), ap {B = ℕ} (λ b. cond b 1 0) (le-leb (square (suc k)) n small))
 
 -- and one whose square is too great is not
 roots_same : (n k : ℕ) → n < square (suc k) → roots n (suc k) ≡ roots n k
-roots_same n k far = omega (arith, none_more (square (suc k)) n _ refl far)
+roots_same n k far = omega (arith, ap {B = ℕ} (λ b. cond b 1 0) (lt-leb (square (suc k)) n far))
 
 -- the square of the count is at most the number
 roots_low : (n k : ℕ) → square (roots n k) ≤ n
@@ -55,25 +45,14 @@ root_high n = next n (roots n n) (roots_high n n (omega arith))
     next : (n r : ℕ) → n < square (suc r) → n < square (r + 1)
     next n r high = omega (arith, high)
 
--- a number whose square is at most that of another is at most the other
-pub root_below : (p n : ℕ) → square p ≤ square n → p ≤ n
-root_below p n small = by_cases (cases_lt n p)
-  where
-    by_cases : (n < p) ⊎ (p ≤ n) → p ≤ n
-    by_cases (inl more) =
-        let squares = mul-le (n + 1) (n + 1) p p (omega (arith, more)) (omega (arith, more)) in
-        absurd (omega (arith, small, squares))
-    by_cases (inr least) = least
-
 -- a number whose square is less than that of another is less
 pub root_less : (p n : ℕ) → square p < square n → p < n
-root_less p n small = by_cases (cases_lt p n)
-  where
-    by_cases : (p < n) ⊎ (n ≤ p) → p < n
-    by_cases (inl less) = less
-    by_cases (inr most) =
-        let squares = mul-le n n p p most most in
-        absurd (omega (arith, small, squares))
+root_less p n small =
+    ⊎_elim (λ less. less) (λ most. absurd (omega (arith, small, mul-le n n p p most most))) (cases_lt p n)
+
+-- and one whose square is at most that of another is at most the other
+pub root_below : (p n : ℕ) → square p ≤ square n → p ≤ n
+root_below p n small = omega (arith, root_less p (n + 1) (omega (arith, small)))
 
 -- what lies between the squares of two next numbers has the first as its root
 pub root_is : (n r : ℕ) → square r ≤ n → n < square (r + 1) → root n ≡ r

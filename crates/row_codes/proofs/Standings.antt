@@ -17,9 +17,9 @@ pub record Stands (query : List ℤ) (codes : List Block) (limit k squared : ℕ
   pub squares : HaveSquares (length query - 256 * k) (drop k codes)
 
 -- before the first
-pub stands_first : (query : List ℤ) (codes : List Block) (limit : ℕ) → AreCodesFor (length query) codes
+pub stands_first : {query : List ℤ} {codes : List Block} {limit : ℕ} → AreCodesFor (length query) codes
     → Stands query codes limit 0 0 true
-stands_first query codes limit fit = record {
+stands_first {query} {codes} fit = record {
   small = omega arith;
   left = refl;
   squares = subst (λ n. HaveSquares n codes) (from_none (length query)) fit.squares;
@@ -64,20 +64,18 @@ stands_more query codes limit k squared after within next b inside is_b stands i
         (subst (λ n. limit < bound_at n b.rest) is_after (leb-false (bound_at after b.rest) limit is))
 
 -- and so where the limit is one of a list
-pub stands_next : (query : List ℤ) (codes : List Block) (limits : List ℕ) (at k squared after : ℕ) (within next : Bool) (b : Block)
-    (d : ℕ) → at < length limits → k < length codes → b ≡ get_or codes k b
-    → Stands query codes (slice_index limits at) k squared within
+pub stands_next : {query : List ℤ} {codes : List Block} {k squared after : ℕ} {within next : Bool} {b : Block} (limits : List ℕ) (at d : ℕ)
+    → at < length limits → k < length codes → b ≡ get_or codes k b → Stands query codes (slice_index limits at) k squared within
     → after ≡ squared + block_distance (drop (256 * k) query) b → after ≤ 8000000000000 * (k + 1)
-    → next ≡ (within && leb (bound_at after b.rest) (get_or limits at d))
-    → Stands query codes (slice_index limits at) (k + 1) after next
-stands_next query codes limits at k squared after within next b d there inside is_b stands is_after small is_next =
+    → next ≡ (within && leb (bound_at after b.rest) (get_or limits at d)) → Stands query codes (slice_index limits at) (k + 1) after next
+stands_next {query} {codes} {k} {squared} {after} {within} {next} {b} limits at d there inside is_b stands is_after small is_next =
     stands_more query codes (slice_index limits at) k squared after within next b inside is_b stands is_after small
     (is_next ∙ ap (λ l. within && leb (bound_at after b.rest) l) (get_or_default_zero limits at d there))
 
 -- in the end
-pub stands_last : (query : List ℤ) (codes : List Block) (limit k squared : ℕ) (within : Bool) → length codes ≤ k
+pub stands_last : {query : List ℤ} {codes : List Block} {limit k squared : ℕ} {within : Bool} → length codes ≤ k
     → Stands query codes limit k squared within → within ≡ leb (code_bound query codes) limit
-stands_last query codes limit k squared within all stands =
+stands_last {query} {codes} {limit} {k} {squared} {within} all stands =
     sym (stands.left ∙ ap (λ l. within && leb (bound_from squared (drop (256 * k) query) l) limit) (drop_all k codes all) ∙ none within)
   where
     none : (w : Bool) → (w && leb 0 limit) ≡ w
@@ -85,12 +83,7 @@ stands_last query codes limit k squared within all stands =
     none false = refl
 
 -- or where it is too far
-pub stands_far : (query : List ℤ) (codes : List Block) (limit k squared : ℕ) (within : Bool) → within ≡ false
+pub stands_far : {query : List ℤ} {codes : List Block} {limit k squared : ℕ} {within : Bool} → not within ≡ true
     → Stands query codes limit k squared within → within ≡ leb (code_bound query codes) limit
-stands_far query codes limit k squared within is stands =
-    is ∙ sym (stands.left ∙ ap (λ w. w && leb (bound_from squared (drop (256 * k) query) (drop k codes)) limit) is)
-
--- what is not so
-pub not_within : (w : Bool) → not w ≡ true → w ≡ false
-not_within true is = sym is
-not_within false is = refl
+stands_far {within = true} is stands = cc
+stands_far {within = false} is stands = sym stands.left

@@ -1,10 +1,10 @@
 -- The triangle inequality in squares, by that of Cauchy: a side is as long at least as another is longer than the third (`side_left`).
-use Rattle.std.proofs.Common.{◌≡◌, ℕ, zero, suc, ◌+◌, ◌-◌, ◌*◌, ◌<◌, ◌≤◌, arith, refl, ap, subst, ◌⊎◌, inl, inr, ℤ, ◌-ℤ◌, List, [], ◌∷◌, length}
+use Rattle.std.proofs.Common.{◌≡◌, ℕ, zero, suc, ◌+◌, ◌-◌, ◌*◌, ◌<◌, ◌≤◌, arith, refl, subst, ◌⊎◌, inl, inr, ℤ, ◌-ℤ◌, List, [], ◌∷◌, length}
 use Rattle.std.specs.Prelude.{unsigned_abs}
 use Rattle.std.proofs.lemmas.Int.{ints}
 use Rattle.std.proofs.lemmas.Bool.{cases_lt}
 use Rattle.std.proofs.lemmas.Nat.{mul-le}
-use Rattle.series_core.specs.Distance.{squared_difference, squared_distance}
+use Rattle.series_core.specs.Distance.{squared_distance}
 use Rattle.lower_bound.proofs.Distances.{twice_product}
 use Rattle.row_codes.specs.Roots.{root, square}
 use Rattle.row_codes.proofs.RootLemmas.{root_below, root_low}
@@ -61,45 +61,38 @@ by_way (a ∷ us) (v ∷ vs) (b ∷ bs) same =
         → f * f + d ≤ (g * g + m) + (h * h + n) + 2 * (g * h + p)
     by_parts f g h d m n p here rest = omega (arith, here, rest)
 
--- the triangle inequality: where one side is at most e and the next less than r, the third is less than r + e
-triangle : (e r : ℕ) (us vs bs : List ℤ) → length us ≡ length vs → squared_distance us vs ≤ square e
-    → squared_distance vs bs < square r → squared_distance us bs < square (r + e)
+-- the triangle inequality, of twice the lengths: where one side is at most e and the next less than r, the third is less than r + e
+triangle : (e r : ℕ) (us vs bs : List ℤ) → length us ≡ length vs → 4 * squared_distance us vs ≤ square e
+    → 4 * squared_distance vs bs < square r → 4 * squared_distance us bs < square (r + e)
 triangle e r us vs bs same one two =
-    let both = mul-le _ _ _ _ one (<-weaken (squared_distance vs bs) (square r) two) in
-    let small = root_below (crossed us vs bs) (e * r) (omega (arith, cauchy us vs bs, both)) in
+    let both = mul-le (4 * squared_distance us vs) (4 * squared_distance vs bs) (square e) (square r) one (omega (arith, two)) in
+    let small = root_below (4 * crossed us vs bs) (e * r) (omega (arith, cauchy us vs bs, both)) in
     omega (arith, by_way us vs bs same, small, one, two)
-  where
-    <-weaken : (m n : ℕ) → m < n → m ≤ n
-    <-weaken m n less = omega (arith, less)
 
--- so the second side is as long at least as the third is longer than the first
-pub side_left : (e : ℕ) (us vs bs : List ℤ) → length us ≡ length vs → squared_distance us vs ≤ square e
-    → square (root (squared_distance us bs) - e) ≤ squared_distance vs bs
-side_left e us vs bs same one = of_excess (root (squared_distance us bs) - e) refl
+-- so twice the second side is as long at least as twice the third is longer than twice the first, rounded
+pub side_left : (e : ℕ) (us vs bs : List ℤ) → length us ≡ length vs → 4 * squared_distance us vs ≤ square e
+    → square (root (4 * squared_distance us bs) - e) ≤ 4 * squared_distance vs bs
+side_left e us vs bs same one = of_excess (root (4 * squared_distance us bs) - e) refl
   where
-    of_excess : (g : ℕ) → root (squared_distance us bs) - e ≡ g → square g ≤ squared_distance vs bs
+    of_excess : (g : ℕ) → root (4 * squared_distance us bs) - e ≡ g → square g ≤ 4 * squared_distance vs bs
     of_excess zero is = omega arith
-    of_excess (suc g) is = by_cases (cases_lt (squared_distance vs bs) (square (suc g)))
+    of_excess (suc g) is = by_cases (cases_lt (4 * squared_distance vs bs) (square (suc g)))
       where
-        by_cases : (squared_distance vs bs < square (suc g)) ⊎ (square (suc g) ≤ squared_distance vs bs)
-            → square (suc g) ≤ squared_distance vs bs
+        by_cases : (4 * squared_distance vs bs < square (suc g)) ⊎ (square (suc g) ≤ 4 * squared_distance vs bs)
+            → square (suc g) ≤ 4 * squared_distance vs bs
         by_cases (inr least) = least
         by_cases (inl less) =
-            let whole : suc g + e ≡ root (squared_distance us bs) = omega (arith, is) in
+            let whole : suc g + e ≡ root (4 * squared_distance us bs) = omega (arith, is) in
             let near = triangle e (suc g) us vs bs same one less in
-            let low = root_low (squared_distance us bs) in
-            absurd (omega (arith, subst (λ n. squared_distance us bs < square n) whole near, low))
+            let low = root_low (4 * squared_distance us bs) in
+            absurd (omega (arith, subst (λ n. 4 * squared_distance us bs < square n) whole near, low))
 
--- numbers lie as far from each other whichever comes first
-abs_turned : (x q : ℤ) → unsigned_abs (x -ℤ q) ≡ unsigned_abs (q -ℤ x)
-abs_turned x q = omega (arith, ints)
-
--- so do lists
+-- lists lie as far from each other whichever comes first
 pub distance_turned : (xs qs : List ℤ) → squared_distance xs qs ≡ squared_distance qs xs
 distance_turned [] [] = refl
 distance_turned [] (q ∷ qs) = refl
 distance_turned (x ∷ xs) [] = refl
 distance_turned (x ∷ xs) (q ∷ qs) =
-    let here : squared_difference x q ≡ squared_difference q x = ap (λ n. n * n) (abs_turned x q) in
+    let here : gap x q ≡ gap q x = omega (arith, ints) in
     let rest = distance_turned xs qs in
-    λ i. here i + rest i
+    λ i. here i * here i + rest i

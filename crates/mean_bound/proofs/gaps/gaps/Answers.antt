@@ -1,7 +1,7 @@
 -- Cut numbers are small.
 use Rattle.std.proofs.Common.{◌≤◌, List, ℕ, sym, subst}
 use Rattle.std.specs.Simd.Lanes.{Each1}
-use Rattle.mean_bound.proofs.Cuts.{cut_small}
+use Rattle.mean_bound.proofs.Squares.{cut_small}
 use Rattle.mean_bound.proofs.gaps.gaps.Goals as goal
 
 pub returns-clause-small : goal.returns-clause-small

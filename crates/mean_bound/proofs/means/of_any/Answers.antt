@@ -1,8 +1,8 @@
 -- One more mean stands behind those so far, in place of a zero.
-use Rattle.std.proofs.Common.{◌<◌, arith}
+use Rattle.std.proofs.Common.{◌/◌, ◌<◌, arith}
 use Rattle.segment_sums.proofs.Filled.{fill_next}
 use Rattle.mean_bound.specs.Means.{segment_mean}
-use Rattle.mean_bound.proofs.OfSegments.{length_between, mean_is, sum_fits}
+use Rattle.mean_bound.proofs.OfSegments.{at_length, length_between, sum_fits}
 use Rattle.mean_bound.proofs.means.of_any.Goals as goal
 
 pub mean_of-requires-clause-limit : goal.mean_of-requires-clause-limit
@@ -19,4 +19,4 @@ loop-j-preserved c =
     let long = length_between cuts j _ _ c.cut-from.ensures.from c.cut-from.ensures.to in
     fill_next (segment_mean cuts c.args.row.now) 0 16 j c.loop-j.means _
     (omega (arith, used, c.segments-j-end.ensures.divides.few_segments)) c.loop-j.invariant
-    (mean_is cuts c.args.row.now _ j _ _ c.raised_sums-sums.ensures.sums used long c.mean_of.ensures)
+    (at_length (λ s n. s / n) cuts c.args.row.now _ j _ _ c.raised_sums-sums.ensures.sums used long c.mean_of.ensures)

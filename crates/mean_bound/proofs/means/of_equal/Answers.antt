@@ -1,9 +1,9 @@
 -- One more mean stands behind those so far, in place of a zero.
-use Rattle.std.proofs.Common.{◌≡◌, ◌∙◌, ◌<◌, arith, ap}
+use Rattle.std.proofs.Common.{◌≡◌, ◌∙◌, ◌/◌, ◌<◌, arith, ap}
 use Rattle.segment_sums.proofs.Filled.{fill_next, filled}
 use Rattle.segment_sums.proofs.Places.{equal_lengths}
 use Rattle.mean_bound.specs.Means.{segment_mean}
-use Rattle.mean_bound.proofs.OfSegments.{mean_is, sum_fits}
+use Rattle.mean_bound.proofs.OfSegments.{at_length, sum_fits}
 use Rattle.mean_bound.proofs.means.of_equal.Goals as goal
 
 pub mean_of-requires-clause-limit : goal.mean_of-requires-clause-limit
@@ -22,7 +22,7 @@ loop-j-preserved g c =
     let long = equal_lengths cuts g.row.W g.row.L j (omega (arith, c.requires.segments, is.some_segments)) c.requires.segments
     c.requires.equal in
     fill_next (segment_mean cuts c.args.row.now) 0 16 j c.loop-j.means _ (omega (arith, used, is.few_segments)) c.loop-j.invariant
-    (mean_is cuts c.args.row.now _ j g.row.L _ c.equal_raised_sums-sums.ensures.sums used long c.mean_of.ensures)
+    (at_length (λ s n. s / n) cuts c.args.row.now _ j g.row.L _ c.equal_raised_sums-sums.ensures.sums used long c.mean_of.ensures)
 
 pub returns : goal.returns
 returns g c =

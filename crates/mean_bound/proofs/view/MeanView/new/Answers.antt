@@ -1,9 +1,9 @@
 -- One more least and one more greatest mean stand behind those so far, in place of zeros.
-use Rattle.std.proofs.Common.{◌≡◌, ◌-◌, ◌<◌, arith}
+use Rattle.std.proofs.Common.{◌≡◌, ◌+◌, ◌-◌, ◌/◌, ◌<◌, arith}
 use Rattle.segment_sums.specs.Division.{segment_length}
 use Rattle.segment_sums.proofs.Filled.{fill_next}
 use Rattle.mean_bound.specs.MeanBound.{low_mean, high_mean}
-use Rattle.mean_bound.proofs.OfSegments.{high_is, length_between, low_is, mean_told, sum_fits}
+use Rattle.mean_bound.proofs.OfSegments.{at_length, length_between, mean_told, sum_fits}
 use Rattle.mean_bound.proofs.view.MeanView.new.Goals as goal
 use Rattle.mean_bound.proofs.view.MeanView.new.Goals.{After-cut-from}
 
@@ -36,7 +36,7 @@ loop-j-preserved c =
     let inside : c.loop-j.j < 16 = omega (arith, used, c.segments-j-end.ensures.divides.few_segments) in
     record {
       lows = fill_next (low_mean d query) 0 16 c.loop-j.j c.loop-j.lows _ inside c.loop-j.invariant.lows
-          (low_is d query _ c.loop-j.j _ _ sums used long c.low_mean.ensures);
+          (at_length (λ s n. (s + 1) / n - 1) d query _ c.loop-j.j _ _ sums used long c.low_mean.ensures);
       highs = fill_next (high_mean d query) 0 16 c.loop-j.j c.loop-j.highs _ inside c.loop-j.invariant.highs
-          (high_is d query _ c.loop-j.j _ _ sums used long c.high_mean.ensures);
+          (at_length (λ s n. (s + (n - 1)) / n) d query _ c.loop-j.j _ _ sums used long c.high_mean.ensures);
     }
