@@ -3,7 +3,7 @@
 use Rattle.std.proofs.Props.{props}
 use Rattle.std.proofs.Common.{ℕ}
 use mathlib.Core.Logic.{∥∥₁_elim}
-use Rattle.core.specs.Option.{MatchOption-prop}
+use Rattle.std.specs.Option.{MatchOption-prop}
 use Rattle.series_core.specs.Collection.{Collection}
 use Rattle.row_codes.specs.Rows.{Block}
 use Rattle.isax_word.specs.declared.layout.Layout.{Layout}

@@ -1,7 +1,7 @@
 -- That an index fits its series can be shown in one way alone, so a batch's fact is had in full (`Fits-had`).
 use Rattle.std.proofs.Props.{props}
 use mathlib.Core.Logic.{∥∥₁_elim}
-use Rattle.core.specs.Option.{MatchOption-prop}
+use Rattle.std.specs.Option.{MatchOption-prop}
 use Rattle.series_core.specs.Collection.{Collection}
 use Rattle.row_codes.specs.Rows.{Block}
 use Rattle.isax_word.specs.declared.layout.Layout.{Layout}
