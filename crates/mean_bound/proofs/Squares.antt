@@ -1,5 +1,5 @@
--- Numbers that are cut are at most 16383 (`cut_small`): their squares do not wrap in 32 bits (`squares_are`), and they add up to at most as many greatest squares
--- (`squares_small`).
+-- Numbers that are cut are at most 16383 (`cut_small`): their squares do not wrap in 32 bits (`squares_are`), and they add
+-- up to at most as many greatest squares (`squares_small`).
 use Rattle.std.proofs.Common.{◌≡◌, ℕ, ◌*◌, ◌%◌, ◌≤◌, refl, arith, List, [], ◌∷◌, map, length}
 use Rattle.std.specs.Prelude.{min}
 use Rattle.std.proofs.Math.Nat.{suc-mul, mul-le-mul}

@@ -33,7 +33,8 @@ distance_of_block before xs qs same =
     let as_long : m ≡ length own = omega (arith, length-take 256 xs, length-take 256 qs, same) in
     ap (λ cs. squared_distance (pictured (least own) (step_of own) cs) qs) (held_codes own (few_values xs))
     ∙ pictured_front 256 (least own) (step_of own) (block_codes own) qs (omega (arith, length-block_codes own (few_values xs)))
-    ∙ ap (λ cs. squared_distance (pictured (least own) (step_of own) cs) (take 256 qs)) (front_codes own m (few_values xs) (omega (arith, as_long, few_values xs)))
+    ∙ ap (λ cs. squared_distance (pictured (least own) (step_of own) cs) (take 256 qs))
+    (front_codes own m (few_values xs) (omega (arith, as_long, few_values xs)))
 
 -- 256 values stand in front of the others
 parted : (us xs : List ℤ) → us ++ xs ≡ (us ++ take 256 xs) ++ drop 256 xs
@@ -96,7 +97,8 @@ squares_of_blocks zero n before xs long = tt
 squares_of_blocks (suc k) n before xs long =
     let own = take 256 xs in
     let left : n - 256 ≡ length (drop 256 xs) = omega (arith, length-drop 256 xs, long) in
-    let front = ap (take n) (held_codes own (few_values xs)) ∙ front_codes own n (few_values xs) (omega (arith, length-take 256 xs, long)) in
+    let front = ap (take n) (held_codes own (few_values xs))
+    ∙ front_codes own n (few_values xs) (omega (arith, length-take 256 xs, long)) in
     (ap (λ cs. value_squares (pictured (least own) (step_of own) cs)) (sym front), squares_of_blocks k (n - 256) (before + forgotten own) (drop 256 xs) left)
 
 -- the codes of a row are codes for each query of its length

@@ -59,7 +59,8 @@ small_sum (c ∷ cs) (q ∷ qs) small fits =
 codes_small : (ws : List ℕ) → All (λ c. c < 16) (codes_of ws)
 codes_small ws =
     All-append (λ c. c < 16) _ _
-    (All-append (λ c. c < 16) _ _ (All-append (λ c. c < 16) _ _ (held (λ w. w % 16) (λ w. omega arith)) (held (λ w. w / 16 % 16) (λ w. omega arith)))
+    (All-append (λ c. c < 16) _ _
+    (All-append (λ c. c < 16) _ _ (held (λ w. w % 16) (λ w. omega arith)) (held (λ w. w / 16 % 16) (λ w. omega arith)))
     (held (λ w. w / 256 % 16) (λ w. omega arith)))
     (held (λ w. w / 4096 % 16) (λ w. omega arith))
   where

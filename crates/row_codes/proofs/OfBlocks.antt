@@ -15,7 +15,8 @@ use Rattle.row_codes.proofs.Packed.{codes_packed}
 codes_small : (low s : ℕ) (xs : List ℤ) → 0 < s → greatest xs < low + 16 * s → All (λ c. c < 16) (map (code_of low s) xs)
 codes_small low s [] some near = All-nil (λ c. c < 16)
 codes_small low s (x ∷ xs) some near =
-    All-cons (λ c. c < 16) (code_of low s x) (map (code_of low s) xs) ((div-lt_iff_lt-mul {k = s} {x = raised x - low} {y = 16} some).1 (omega (arith, near)))
+    All-cons (λ c. c < 16) (code_of low s x) (map (code_of low s) xs)
+    ((div-lt_iff_lt-mul {k = s} {x = raised x - low} {y = 16} some).1 (omega (arith, near)))
     (codes_small low s xs some (omega (arith, near)))
 
 -- 16 steps of a block reach beyond its greatest value
@@ -46,7 +47,8 @@ front_codes xs n few long = by_cases (cases_lt n 256)
   where
     by_cases : (n < 256) ⊎ (256 ≤ n) → take n (block_codes xs) ≡ value_codes xs
     by_cases (inl less) =
-        take_at (value_codes xs) (replicate (256 - length xs) 0) n (omega (arith, length-map xs (code_of (least xs) (step_of xs)), long, less))
+        take_at (value_codes xs) (replicate (256 - length xs) 0) n
+        (omega (arith, length-map xs (code_of (least xs) (step_of xs)), long, less))
     by_cases (inr most) =
         let none : 256 - length xs ≡ 0 = omega (arith, long, most) in
         take_all n (block_codes xs) (omega (arith, length-block_codes xs few, most))
