@@ -3,9 +3,7 @@ use super::forms::{Form, searched};
 use crate::claims::assert_same;
 use crate::workers::drawn::is_right;
 use outside::{NoGate, NoMemory};
-use plain_search::{
-    Shape, drawn_collection, drawn_series, drawn_shape, plain_nearest, tree_with,
-};
+use plain_search::{Shape, drawn_collection, drawn_series, drawn_shape, plain_nearest, tree_with};
 use query_core::Task;
 use rand_xoshiro::SplitMix64;
 use rand_xoshiro::rand_core::{Rng, SeedableRng};
