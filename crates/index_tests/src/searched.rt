@@ -28,6 +28,9 @@ fn agree<T: Threads + Sync>(
     let index = tree_with(rows, &settings, index, tables);
     let layout = &settings.layout;
     let query = rows.row(number);
+    if query.len() != rows.length() as usize {
+        return Err(NoMemory);
+    }
     let task = Task::new(rows, query, 2, layout);
     let alone = one_worker_answer(alloc, &task, &index)?;
     let team = answer_by_team(rt, alloc, &task, &index, 3, &NoGate)?;

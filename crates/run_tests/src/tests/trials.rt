@@ -1,9 +1,12 @@
-//! Trials as tables: words, and the four lines that they end with. The totals come from a plain program in C.
+//! Trials as tables: words, and the four lines that they end with; and the walks of the great one, searched over sealed runs. The totals
+//! come from a plain program in C.
 
 use crate::claims::assert_same;
-use crate::tests::fixture::{Outside, run_line, tells};
-use outside::NoGate;
-use search_run::Status;
+use crate::tests::fixture::{Outside, run_line, tells, words_of};
+use outside::{MemFiles, MemSink, NoGate, NoMemory};
+use random_walks::{generator, walks};
+use search_run::{Status, run};
+use series_file::write_numbered;
 use std::alloc::Global;
 use std::process::Abort;
 use std::sync::Wait;
@@ -51,11 +54,54 @@ fn a_great_trial_by_eight_workers(rt: HostRuntime) -> Result<(), Fail> {
 }
 
 #[test]
-fn a_great_trial_over_sealed_runs(rt: HostRuntime) -> Result<(), Fail> {
-    great(&rt, rt.alloc(), "--workers 8 --queues 4 --sealed")
-}
-
-#[test]
 fn a_great_trial_by_one_worker(rt: HostRuntime) -> Result<(), Fail> {
     great(&rt, rt.alloc(), "--workers 1 --queues 1")
+}
+
+// The walks of the great trial as files: its series `data`, and its queries `asked`.
+fn hold_great(alloc: Global, files: &mut MemFiles) -> Result<(), NoMemory> {
+    let mut rng = generator(7);
+    let series = walks(alloc, &mut rng, 100000, 256)?;
+    let queries = walks(alloc, &mut rng, 20, 256)?;
+    files.hold("data", &write_numbered(alloc, &series)?)?;
+    files.hold("asked", &write_numbered(alloc, &queries)?)
+}
+
+// The number and the distance of an answer line, behind which a label stands. No other line of a certificate begins with a number.
+fn answer_in(line: &[u8]) -> Option<(u64, u64)> {
+    let text = str::from_utf8(line).ok()?;
+    let (rank, rest) = text.split_once(' ')?;
+    let (number, rest) = rest.split_once(' ')?;
+    let (distance, _label) = rest.split_once(' ')?;
+    let _rank = rank.parse::<u64>().ok()?;
+    Some((number.parse::<u64>().ok()?, distance.parse::<u64>().ok()?))
+}
+
+// How many answer lines there are, the total of their distances, and that of their numbers.
+fn totals(text: &[u8]) -> [u64; 3] {
+    let mut totals = [0u64; 3];
+    for line in text.split(|byte| *byte == b'\n') {
+        if let Some((number, distance)) = answer_in(line) {
+            totals[0] = totals[0].wrapping_add(1);
+            totals[1] = totals[1].wrapping_add(distance);
+            totals[2] = totals[2].wrapping_add(number);
+        }
+    }
+    totals
+}
+
+// A trial prints no certificate, so no run is sealed in it: its walks are searched by `nearest` here.
+#[test]
+fn the_great_walks_over_sealed_runs(rt: HostRuntime) -> Result<(), Fail> {
+    let alloc = rt.alloc();
+    let mut files = MemFiles::new(alloc, 1048576, Vec::new(alloc), Vec::new(alloc));
+    hold_great(alloc, &mut files)?;
+    let line = "nearest data asked --k 10 --workers 8 --queues 4 --sealed --certificate";
+    let words = words_of(alloc, line)?;
+    let mut out = MemSink::new(alloc, 100_000_000, 1_000_000, Vec::new(alloc))?;
+    let mut err = MemSink::new(alloc, 1000, 1000, Vec::new(alloc))?;
+    let status = run(&rt, alloc, &words, &mut files, &mut out, &mut err, &NoGate);
+    assert_same!(rt; status, Status::Done, "{line}");
+    assert_same!(rt; totals(out.written()), [200, 1592776822, 10230297], "{line}");
+    Ok(())
 }
