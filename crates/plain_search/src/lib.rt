@@ -11,7 +11,7 @@ mod watched;
 
 pub use bare::tree_with;
 pub use drawn::{Shape, drawn_collection, drawn_series, drawn_shape};
-pub use known::{three_points, two_points};
+pub use known::{Grown, three_points, two_points};
 pub use plain::{are_same, by_distance, plain_distance, plain_nearest};
 pub use source::Source;
 pub use turns::Turns;

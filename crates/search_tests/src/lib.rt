@@ -5,11 +5,15 @@
 #[cfg(test)]
 mod answers;
 #[cfg(test)]
+mod cases;
+#[cfg(test)]
 mod certificates;
 #[cfg(test)]
 mod claims;
 #[cfg(test)]
 mod discords;
+#[cfg(test)]
+mod outcomes;
 #[cfg(test)]
 mod radius;
 #[cfg(test)]

@@ -8,6 +8,7 @@ use rand_xoshiro::SplitMix64;
 use rand_xoshiro::rand_core::{Rng, SeedableRng};
 use series_core::{Flat, Rows};
 use std::alloc::Global;
+use std::process::Abort;
 use std::test::*;
 use std::thread::Threads;
 use subtree_build::{Settings, build};
@@ -140,39 +141,39 @@ const LENGTHS: [(u32, u32); 14] = [
     (513, 10),
 ];
 
-#[test]
-fn every_kind_of_data(rt: HostRuntime) -> Result<(), Fail> {
-    let alloc = rt.alloc();
-    let mut rng = SplitMix64::seed_from_u64(5);
-    for kind in KINDS {
-        for (length, k) in LENGTHS {
-            let values = values_of(alloc, &mut rng, kind, 60, length)?;
-            assert_same!(rt; agree(&rt, alloc, values, length, k)?, true, "{k} of 60 series of {length} values, {kind:?}");
+/// Claims that the answers agree over `count` series of each of these kinds and lengths.
+fn all_agree<T: Threads + Sync + Abort>(
+    rt: &T,
+    alloc: Global,
+    seed: u64,
+    kinds: &[Kind],
+    count: u32,
+    lengths: &[(u32, u32)],
+) -> Result<(), Fail> {
+    let mut rng = SplitMix64::seed_from_u64(seed);
+    for kind in kinds {
+        for (length, k) in lengths {
+            let values = values_of(alloc, &mut rng, *kind, count, *length)?;
+            let same = agree(rt, alloc, values, *length, *k)?;
+            assert_same!(rt; same, true, "{k} of {count} series of {length} values, {kind:?}");
         }
     }
     Ok(())
+}
+
+#[test]
+fn every_kind_of_data(rt: HostRuntime) -> Result<(), Fail> {
+    all_agree(&rt, rt.alloc(), 5, &KINDS, 60, &LENGTHS)
 }
 
 #[test]
 fn many_of_every_kind(rt: HostRuntime) -> Result<(), Fail> {
-    let alloc = rt.alloc();
-    let mut rng = SplitMix64::seed_from_u64(7);
-    for kind in KINDS {
-        for (length, k) in [(16, 65), (64, 300), (130, 1000), (256, 1), (257, 10)] {
-            let values = values_of(alloc, &mut rng, kind, 2000, length)?;
-            assert_same!(rt; agree(&rt, alloc, values, length, k)?, true, "{k} of 2000 series of {length} values, {kind:?}");
-        }
-    }
-    Ok(())
+    let lengths = [(16, 65), (64, 300), (130, 1000), (256, 1), (257, 10)];
+    all_agree(&rt, rt.alloc(), 7, &KINDS, 2000, &lengths)
 }
 
 #[test]
 fn data_that_codes_alone_tell(rt: HostRuntime) -> Result<(), Fail> {
-    let alloc = rt.alloc();
-    let mut rng = SplitMix64::seed_from_u64(6);
-    for (length, k) in [(256, 1), (256, 3), (230, 2), (300, 3), (480, 100)] {
-        let values = values_of(alloc, &mut rng, Kind::Flutter, 3000, length)?;
-        assert_same!(rt; agree(&rt, alloc, values, length, k)?, true, "{k} of 3000 series of {length} values that flutter");
-    }
-    Ok(())
+    let lengths = [(256, 1), (256, 3), (230, 2), (300, 3), (480, 100)];
+    all_agree(&rt, rt.alloc(), 6, &[Kind::Flutter], 3000, &lengths)
 }

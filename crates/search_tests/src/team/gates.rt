@@ -20,16 +20,7 @@ fn two_workers_draw_side_by_side(rt: HostRuntime) -> Result<(), Fail> {
         let gate = Meeting::of_two();
         let found = answer_by_stretches(&rt, alloc, &task, &index, by, 2, &gate)?;
         assert_same!(rt; found.items.len(), 5, "{by:?}");
-        assert_same!(rt;
-            gate.in_vain(),
-            0,
-            "each worker waited for the other, {by:?}"
-        );
-        assert_same!(rt;
-            gate.miscounted(),
-            0,
-            "no turn was left out or counted twice, {by:?}"
-        );
+        assert_same!(rt; gate.faults(), [0, 0], "each waited for the other and counted its turns, {by:?}");
     }
     Ok(())
 }

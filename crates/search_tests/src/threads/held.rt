@@ -1,9 +1,10 @@
 //! Workers that are held at a gate before one of their turns, until the other worker has come to one of its own: a worker that
 //! stands before its pop, while the other takes from the queue and shuts it, changes no answer.
 use super::forms::{Form, searched};
-use super::points::{BY_BOUND, BY_DISTANCE, index_of, three_points, two_segments};
+use super::points::{BY_BOUND, BY_DISTANCE};
 use crate::claims::assert_same;
 use outside::{Gate, NoMemory};
+use plain_search::three_points;
 use query_core::{Outcome, Task};
 use series_core::Entry;
 use std::alloc::Global;
@@ -139,10 +140,8 @@ fn given(alloc: Global, outcome: &Outcome) -> Result<Vec<Entry>, NoMemory> {
 #[test]
 fn a_worker_that_stands_at_a_queue_changes_no_answer(rt: HostRuntime) -> Result<(), Fail> {
     let alloc = rt.alloc();
-    let flat = three_points(alloc)?;
-    let layout = two_segments();
-    let index = index_of(&rt, alloc, &flat, &layout)?;
-    let task = Task::new(&flat, &[0, 0], 3, &layout);
+    let (rows, settings, index) = three_points(&rt, alloc)?;
+    let task = Task::new(&rows, &[0, 0], 3, &settings.layout);
     for case in cases() {
         for locked in [false, true] {
             if case.queues < 1 || case.queues > 64 {
@@ -155,23 +154,12 @@ fn a_worker_that_stands_at_a_queue_changes_no_answer(rt: HostRuntime) -> Result<
             };
             let gate = Holding::at(case.holds);
             let outcome = searched(&rt, alloc, &task, &index, &gate, form)?;
-            assert_same!(rt;
-                gate.in_vain(),
-                0,
-                "a held worker waited for the other, {form:?}, {case:?}"
-            );
-            assert_same!(rt;
-                [gate.come(0), gate.come(1)],
-                case.turns,
-                "{form:?}, {case:?}"
-            );
-            assert_same!(rt;
-                outcome.pairs.items.as_slice(),
-                BY_DISTANCE.as_slice(),
-                "{form:?}, {case:?}"
-            );
+            let turns = [gate.come(0), gate.come(1)];
+            assert_same!(rt; (gate.in_vain(), turns), (0, case.turns), "{form:?}, {case:?}");
             let given = given(alloc, &outcome)?;
-            assert_same!(rt; given.as_slice(), BY_BOUND.as_slice(), "{form:?}, {case:?}");
+            let found = (outcome.pairs.items.as_slice(), given.as_slice());
+            let wanted = (BY_DISTANCE.as_slice(), BY_BOUND.as_slice());
+            assert_same!(rt; found, wanted, "{form:?}, {case:?}");
         }
     }
     Ok(())

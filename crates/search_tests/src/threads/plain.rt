@@ -1,39 +1,27 @@
 //! Random small collections with many equal distances: the pairs are those of a plain sort, by any number of workers over any number of queues.
 use super::forms::{Form, searched};
+use crate::cases::{Case, all_agree};
 use crate::claims::assert_same;
 use crate::workers::drawn::is_right;
 use outside::{NoGate, NoMemory};
-use plain_search::{Shape, drawn_collection, drawn_series, drawn_shape, plain_nearest, tree_with};
+use plain_search::{Shape, drawn_collection, drawn_series, drawn_shape, plain_nearest};
 use query_core::Task;
 use rand_xoshiro::SplitMix64;
-use rand_xoshiro::rand_core::{Rng, SeedableRng};
-use series_core::{Flat, Rows};
+use rand_xoshiro::rand_core::SeedableRng;
 use std::alloc::Global;
 use std::sync::Wait;
 use std::test::*;
 use std::thread::Threads;
-use subtree_build::build;
 
 /// How many workers search.
 const WORKERS: [u32; 4] = [1, 2, 3, 8];
 
-/// Whether a search without locks and one over locked queues find what a plain sort finds, by a tree with its tables or with nothing beside it.
-fn agrees<T: Threads + Wait + Sync>(
-    rt: &T,
-    alloc: Global,
-    rows: &Flat,
-    query: &[i16; 4],
-    shape: Shape,
-    tables: bool,
-) -> Result<bool, NoMemory> {
-    if !shape.is_sound() || rows.length() != 4 {
-        return Err(NoMemory);
-    }
-    let settings = shape.settings();
-    let index = build(rt, alloc, rows, &settings, 1, &NoGate)?;
-    let index = tree_with(rows, &settings, index, tables);
-    let task = Task::new(rows, query, shape.k, &settings.layout);
-    let wanted = plain_nearest(alloc, rows, query, shape.k)?;
+/// Whether a search without locks and one over locked queues find what a plain sort finds.
+fn agrees<T: Threads + Wait + Sync>(rt: &T, alloc: Global, case: &Case) -> Result<bool, NoMemory> {
+    let (settings, index) = case.tree(rt, alloc)?;
+    let shape = case.shape;
+    let task = Task::new(&case.rows, &case.query, shape.k, &settings.layout);
+    let wanted = plain_nearest(alloc, &case.rows, &case.query, shape.k)?;
     for locked in [false, true] {
         let form = Form {
             workers: shape.workers,
@@ -51,22 +39,7 @@ fn agrees<T: Threads + Wait + Sync>(
 #[test]
 fn finds_what_a_plain_sort_finds(rt: HostRuntime) -> Result<(), Fail> {
     let alloc = rt.alloc();
-    let mut rng = SplitMix64::seed_from_u64(13);
-    for round in 0..100u32 {
-        let count = if round == 0 {
-            0
-        } else {
-            1 + rng.next_u32() % 24
-        };
-        let rows = drawn_collection(alloc, &mut rng, count)?;
-        let shape = drawn_shape(&mut rng, WORKERS);
-        let query = drawn_series(&mut rng);
-        for tables in [true, false] {
-            let same = agrees(&rt, alloc, &rows, &query, shape, tables)?;
-            assert_same!(rt; same, true, "round {round}: {count} series, {shape:?}, tables: {tables}");
-        }
-    }
-    Ok(())
+    all_agree(&rt, alloc, 13, WORKERS, |case| agrees(&rt, alloc, case))
 }
 
 // Of sixteen root children one worker draws groups of two, and 64 workers draw each by itself.
@@ -84,7 +57,14 @@ fn one_worker_and_64_find_what_a_plain_sort_finds(rt: HostRuntime) -> Result<(),
                 ..drawn_shape(&mut rng, WORKERS)
             };
             let query = drawn_series(&mut rng);
-            assert_same!(rt; agrees(&rt, alloc, &rows, &query, shape, true)?, true, "{count} series, {shape:?}");
+            let case = Case {
+                round: 0,
+                rows,
+                shape,
+                query,
+                tables: true,
+            };
+            assert_same!(rt; agrees(&rt, alloc, &case)?, true, "{count} series, {shape:?}");
         }
     }
     Ok(())

@@ -4,14 +4,15 @@ ghost use Rattle.std.specs.Prelude.{◌≡◌, IfOk};
 
 use super::forms::{Form, searched};
 use super::held::{Holding, waits};
-use super::points::{index_of, two_segments};
 use crate::claims::assert_same;
-use outside::NoMemory;
+use breakpoints::Table;
+use outside::{NoGate, NoMemory};
 use plain_search::Watched;
 use query_core::Task;
 use series_core::{Flat, Pair};
 use std::alloc::Global;
 use std::test::*;
+use subtree_build::{Settings, build};
 
 /// Five points in leaves of one: (300,100) in leaf 3, (-100,20000) in leaf 1, the query (200,20000) in leaf 4, which is the start leaf, and
 /// (-20000,-20000) and (20000,-20000) in leaves 0 and 2, which are farther than all others.
@@ -42,12 +43,12 @@ const NEAREST: [Pair; 2] = [
 #[test]
 fn a_leaf_is_cut_by_what_both_workers_found(rt: HostRuntime) -> Result<(), Fail> {
     let alloc = rt.alloc();
+    let settings = Settings::new(2, 2, Table::Flat, 1);
     for locked in [false, true] {
         let flat = five_points(alloc)?;
-        let layout = two_segments();
-        let index = index_of(&rt, alloc, &flat, &layout)?;
+        let index = build(&rt, alloc, &flat, &settings, 1, &NoGate)?;
         let rows = Watched::over(flat, None);
-        let task = Task::new(&rows, &[200, 20000], 2, &layout);
+        let task = Task::new(&rows, &[200, 20000], 2, &settings.layout);
         let gate = Holding::at([waits(1, 0, 16), waits(1, 1, 22), waits(0, 24, 5)]);
         let form = Form {
             workers: 2,
@@ -55,8 +56,8 @@ fn a_leaf_is_cut_by_what_both_workers_found(rt: HostRuntime) -> Result<(), Fail>
             locked,
         };
         let outcome = searched(&rt, alloc, &task, &index, &gate, form)?;
-        assert_same!(rt; gate.in_vain(), 0, "each waited for the other, {form:?}");
-        assert_same!(rt; [gate.come(0), gate.come(1)], [26, 7], "{form:?}");
+        let turns = [gate.come(0), gate.come(1)];
+        assert_same!(rt; (gate.in_vain(), turns), (0, [26, 7]), "{form:?}");
         assert_same!(rt;
             outcome.pairs.items.as_slice(),
             NEAREST.as_slice(),

@@ -1,9 +1,9 @@
 //! Rows that are watched: cut series are never asked for, and two workers really search side by side.
 use super::forms::{Form, searched};
-use super::points::{BY_DISTANCE, index_of, three_points, two_segments};
+use super::points::BY_DISTANCE;
 use crate::claims::assert_same;
 use outside::NoGate;
-use plain_search::Watched;
+use plain_search::{Watched, three_points};
 use query_core::{Outcome, Task};
 use std::alloc::Global;
 use std::sync::Wait;
@@ -22,11 +22,9 @@ fn watched_search<T: Threads + Wait + Sync>(
     if k < 1 || k > 3 {
         return Err(Fail::new("no such search"));
     }
-    let flat = three_points(alloc)?;
-    let layout = two_segments();
-    let index = index_of(rt, alloc, &flat, &layout)?;
+    let (flat, settings, index) = three_points(rt, alloc)?;
     let rows = Watched::over(flat, held.then_some((1, 2)));
-    let task = Task::new(&rows, &[0, 0], k, &layout);
+    let task = Task::new(&rows, &[0, 0], k, &settings.layout);
     let form = Form {
         workers: 2,
         queues: 2,
@@ -36,36 +34,21 @@ fn watched_search<T: Threads + Wait + Sync>(
     Ok((outcome, rows))
 }
 
-#[test]
-fn cut_leaves_are_not_asked_for(rt: HostRuntime) -> Result<(), Fail> {
-    for locked in [false, true] {
-        let (outcome, rows) = watched_search(&rt, rt.alloc(), 1, false, locked)?;
-        assert_same!(rt;
-            outcome.pairs.items.as_slice(),
-            &BY_DISTANCE[..1],
-            "locked {locked}"
-        );
-        assert_same!(rt; rows.times(0), 1, "series 0 is asked for, locked {locked}");
-        assert_same!(rt; rows.times(1), 0, "series 1 is cut, locked {locked}");
-        assert_same!(rt; rows.times(2), 0, "series 2 is cut, locked {locked}");
-    }
-    Ok(())
-}
+// How many are asked for, whether the rows of the two leaves beside that of the query wait for one another, and how often each row is
+// asked for: those of leaves that are cut never are.
+const WATCHED: [(u32, bool, [u64; 3]); 2] = [(1, false, [1, 0, 0]), (3, true, [1, 1, 1])];
 
 #[test]
-fn two_workers_search_side_by_side(rt: HostRuntime) -> Result<(), Fail> {
-    for locked in [false, true] {
-        let (outcome, rows) = watched_search(&rt, rt.alloc(), 3, true, locked)?;
-        assert_same!(rt;
-            outcome.pairs.items.as_slice(),
-            BY_DISTANCE.as_slice(),
-            "locked {locked}"
-        );
-        assert_same!(rt;
-            rows.ran_out(),
-            0,
-            "each row waited for the other, locked {locked}"
-        );
+fn two_workers_ask_side_by_side_for_what_is_not_cut(rt: HostRuntime) -> Result<(), Fail> {
+    for (k, held, asked) in WATCHED {
+        for locked in [false, true] {
+            let (outcome, rows) = watched_search(&rt, rt.alloc(), k, held, locked)?;
+            let times = [rows.times(0), rows.times(1), rows.times(2)];
+            let pairs = Some(outcome.pairs.items.as_slice());
+            assert_same!(rt; pairs, BY_DISTANCE.get(..k as usize), "{k}, locked {locked}");
+            // Where rows wait, none does so in vain.
+            assert_same!(rt; (times, rows.ran_out()), (asked, 0), "{k}, locked {locked}");
+        }
     }
     Ok(())
 }

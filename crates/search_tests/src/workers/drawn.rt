@@ -1,15 +1,13 @@
 //! Random small collections with many equal distances: the pairs are those of a plain sort, whatever the schedule.
-use crate::claims::assert_same;
-use outside::{NoGate, NoMemory};
-use plain_search::{Shape, are_same, drawn_collection, drawn_series, drawn_shape, plain_nearest};
+use crate::cases::{Case, all_agree};
+use outside::NoMemory;
+use plain_search::{Shape, are_same, plain_nearest};
 use query_core::{Fate, Outcome, Task, one_worker, replay};
 use rand_xoshiro::SplitMix64;
 use rand_xoshiro::rand_core::{Rng, SeedableRng};
-use series_core::{Flat, Rows};
 use std::alloc::Global;
 use std::test::*;
 use std::thread::Threads;
-use subtree_build::build;
 
 /// Whether the pairs are these, and each of the leaves has one fate, one of them the start leaf's.
 pub(crate) fn is_right(outcome: &Outcome, pairs: &[(u64, u32)], leaves: u32) -> bool {
@@ -53,23 +51,14 @@ fn drawn_schedule(
 }
 
 /// Whether a search by one worker and one by a drawn schedule find what a plain sort finds.
-fn agree<T: Threads + Sync>(
-    rt: &T,
-    alloc: Global,
-    rows: &Flat,
-    query: &[i16; 4],
-    shape: Shape,
-    rng: &mut SplitMix64,
-) -> Result<bool, NoMemory> {
-    if !shape.is_sound() || rows.length() != 4 {
-        return Err(NoMemory);
-    }
-    let settings = shape.settings();
-    let index = build(rt, alloc, rows, &settings, 1, &NoGate)?;
-    let task = Task::new(rows, query, shape.k, &settings.layout);
-    let nearest = plain_nearest(alloc, rows, query, shape.k)?;
+fn agree<T: Threads + Sync>(rt: &T, alloc: Global, case: &Case) -> Result<bool, NoMemory> {
+    let (settings, index) = case.tree(rt, alloc)?;
+    let shape = case.shape;
+    let task = Task::new(&case.rows, &case.query, shape.k, &settings.layout);
+    let nearest = plain_nearest(alloc, &case.rows, &case.query, shape.k)?;
     let alone = one_worker(alloc, &task, &index, shape.queues)?;
-    let schedule = drawn_schedule(alloc, rng, shape, index.leaf_count())?;
+    let mut rng = SplitMix64::seed_from_u64(u64::from(case.round));
+    let schedule = drawn_schedule(alloc, &mut rng, shape, index.leaf_count())?;
     let Ok(played) = replay(alloc, &task, &index, shape.workers, shape.queues, &schedule) else {
         return Err(NoMemory);
     };
@@ -80,17 +69,5 @@ fn agree<T: Threads + Sync>(
 #[test]
 fn find_what_a_plain_sort_finds(rt: HostRuntime) -> Result<(), Fail> {
     let alloc = rt.alloc();
-    let mut rng = SplitMix64::seed_from_u64(11);
-    for round in 0..120u32 {
-        let count = if round == 0 {
-            0
-        } else {
-            1 + rng.next_u32() % 24
-        };
-        let rows = drawn_collection(alloc, &mut rng, count)?;
-        let shape = drawn_shape(&mut rng, [1, 2, 3, 4]);
-        let query = drawn_series(&mut rng);
-        assert_same!(rt; agree(&rt, alloc, &rows, &query, shape, &mut rng)?, true, "round {round}: {count} series, {shape:?}");
-    }
-    Ok(())
+    all_agree(&rt, alloc, 11, [1, 2, 3, 4], |case| agree(&rt, alloc, case))
 }

@@ -1,22 +1,16 @@
 //! Small searches as worked by hand, turn by turn on paper: their outcomes, and schedules that give none.
 use crate::claims::assert_same;
+use crate::outcomes::{Worked, is_as_worked};
 use plain_search::{three_points, two_points};
 use query_core::{Fate, Outcome, ReplayError, Start, Task, replay};
 use series_core::{Entry, NONE, Pair};
 use std::alloc::Global;
+use std::process::Abort;
 use std::test::*;
 use std::thread::Threads;
 
 const fn pair(distance: u64, number: u32) -> Pair {
     Pair { distance, number }
-}
-
-/// Whether there is a line of this number with these taken entries and this kept limit.
-fn is_line(outcome: &Outcome, number: usize, taken: &[Entry], kept: u64) -> bool {
-    match outcome.lines.items.get(number) {
-        Some(line) => line.taken.items.as_slice() == taken && line.kept == kept,
-        None => false,
-    }
 }
 
 /// The search for the series nearest to 0 of -1 and 1, over one queue, by a schedule.
@@ -29,40 +23,47 @@ fn nearest_of_two<T: Threads + Sync>(
     if workers < 1 || workers > 64 {
         return Err(Fail::new("no such number of workers"));
     }
-    let (rows, settings, index) = two_points(rt, alloc, 1)?;
+    let (rows, settings, index) = two_points(rt, alloc)?;
     let query = [0];
     let task = Task::new(&rows, &query, 1, &settings.layout);
     Ok(replay(alloc, &task, &index, workers, 1, schedule))
 }
 
-#[test]
-fn eleven_turns_of_one_worker(rt: HostRuntime) -> Result<(), Fail> {
-    let Ok(outcome) = nearest_of_two(&rt, rt.alloc(), 1, &[0; 11])? else {
+/// Claims that this schedule takes these entries from the queue, and that the leaf of -1 has this fate.
+fn claim_nearest_of_two<T: Threads + Abort + Sync>(
+    rt: &T,
+    alloc: Global,
+    workers: u32,
+    schedule: &[u32],
+    taken: &[Entry],
+    fate: Fate,
+) -> Result<(), Fail> {
+    let Ok(outcome) = nearest_of_two(rt, alloc, workers, schedule)? else {
         return Err(Fail::new("no outcome"));
     };
-    let taken = [Entry { bound: 1, leaf: 0 }];
-    let fates = [Fate::Queue(0), Fate::Start];
-    assert_same!(rt; outcome.pairs.items.as_slice(), [pair(1, 0)].as_slice());
-    assert_same!(rt; outcome.start, Some(Start { leaf: 1, limit: 1 }));
-    assert_same!(rt; outcome.lines.items.len(), 1);
-    assert_same!(rt; is_line(&outcome, 0, &taken, 1), true, "{outcome:?}");
-    assert_same!(rt; outcome.fates.items.as_slice(), fates.as_slice());
+    let pairs = [pair(1, 0)];
+    let lines = [(taken, Some(1))];
+    let fates = [fate, Fate::Start];
+    let worked = Worked {
+        pairs: &pairs,
+        start: Start { leaf: 1, limit: 1 },
+        lines: &lines,
+        fates: &fates,
+    };
+    assert_same!(rt; is_as_worked(&outcome, &worked), true, "{outcome:?}");
     Ok(())
+}
+
+#[test]
+fn eleven_turns_of_one_worker(rt: HostRuntime) -> Result<(), Fail> {
+    let taken = [Entry { bound: 1, leaf: 0 }];
+    claim_nearest_of_two(&rt, rt.alloc(), 1, &[0; 11], &taken, Fate::Queue(0))
 }
 
 #[test]
 fn a_leaf_that_comes_late(rt: HostRuntime) -> Result<(), Fail> {
     let schedule = [0, 0, 1, 1, 1, 1, 1, 0, 0, 0, 0, 0, 0, 0];
-    let Ok(outcome) = nearest_of_two(&rt, rt.alloc(), 2, &schedule)? else {
-        return Err(Fail::new("no outcome"));
-    };
-    let fates = [Fate::Late(0), Fate::Start];
-    assert_same!(rt; outcome.pairs.items.as_slice(), [pair(1, 0)].as_slice());
-    assert_same!(rt; outcome.start, Some(Start { leaf: 1, limit: 1 }));
-    assert_same!(rt; outcome.lines.items.len(), 1);
-    assert_same!(rt; is_line(&outcome, 0, &[], 1), true, "{outcome:?}");
-    assert_same!(rt; outcome.fates.items.as_slice(), fates.as_slice());
-    Ok(())
+    claim_nearest_of_two(&rt, rt.alloc(), 2, &schedule, &[], Fate::Late(0))
 }
 
 #[test]
@@ -103,7 +104,7 @@ fn shut_schedule(alloc: Global) -> Result<Vec<u32>, Fail> {
 #[test]
 fn queues_that_are_shut_before_the_first_put(rt: HostRuntime) -> Result<(), Fail> {
     let alloc = rt.alloc();
-    let (rows, settings, index) = three_points(&rt, alloc, 1)?;
+    let (rows, settings, index) = three_points(&rt, alloc)?;
     let query = [0, 0];
     let task = Task::new(&rows, &query, 3, &settings.layout);
     let schedule = shut_schedule(alloc)?;
@@ -115,11 +116,12 @@ fn queues_that_are_shut_before_the_first_put(rt: HostRuntime) -> Result<(), Fail
         leaf: 0,
         limit: NONE,
     };
-    let fates = [Fate::Start, Fate::Late(0), Fate::Late(0)];
-    assert_same!(rt; outcome.pairs.items.as_slice(), pairs.as_slice());
-    assert_same!(rt; outcome.start, Some(start));
-    assert_same!(rt; outcome.lines.items.len(), 2);
-    assert_same!(rt; is_line(&outcome, 0, &[], NONE) && is_line(&outcome, 1, &[], NONE), true, "{outcome:?}");
-    assert_same!(rt; outcome.fates.items.as_slice(), fates.as_slice());
+    let worked = Worked {
+        pairs: &pairs,
+        start,
+        lines: &[(&[], Some(NONE)), (&[], Some(NONE))],
+        fates: &[Fate::Start, Fate::Late(0), Fate::Late(0)],
+    };
+    assert_same!(rt; is_as_worked(&outcome, &worked), true, "{outcome:?}");
     Ok(())
 }
