@@ -3,10 +3,6 @@
 #![tactic(auto)]
 
 #[cfg(test)]
-mod batches;
-#[cfg(test)]
-mod choices;
-#[cfg(test)]
 mod claims;
 #[cfg(test)]
-mod kinds;
+mod tests;

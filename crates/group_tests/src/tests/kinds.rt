@@ -1,5 +1,5 @@
 //! Series of several kinds, as a generator draws them: such as means tell apart, and such as only codes of all values do.
-ghost use Rattle.std.specs.Prelude.{◌≡◌, ◌≤◌, IfOk};
+ghost use Rattle.std.specs.Prelude.{◌≡◌, IfOk};
 
 use outside::NoMemory;
 use rand_xoshiro::SplitMix64;
@@ -28,7 +28,7 @@ fn next_value(kind: Kind, drawn: i32, last: i32) -> i32 {
     value.clamp(-32768, 32767)
 }
 
-/// So many series of so many values, of these kinds in turn.
+/// So many series of so many values, from 1 to 65536 of them, of these kinds in turn.
 pub fn drawn_series(
     alloc: Global,
     rng: &mut SplitMix64,
@@ -36,10 +36,11 @@ pub fn drawn_series(
     count: u32,
     length: u32,
 ) -> Result<Flat, NoMemory>
-    requires some { 1 ≤ length }
-    requires few { length ≤ 65536 }
     ensures { IfOk result (λ rows. rows.points ≡ length) }
 {
+    if length < 1 || length > 65536 {
+        return Err(NoMemory);
+    }
     let mut values = Vec::new(alloc);
     for i in 0..count {
         let Some(kind) = kinds.get(i as usize % kinds.len().max(1)) else {
