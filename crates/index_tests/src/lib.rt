@@ -5,14 +5,4 @@
 #[cfg(test)]
 mod claims;
 #[cfg(test)]
-mod loading;
-#[cfg(test)]
-mod plain_fault;
-#[cfg(test)]
-mod plain_reader;
-#[cfg(test)]
-mod readers;
-#[cfg(test)]
-mod searched;
-#[cfg(test)]
-mod texts;
+mod tests;

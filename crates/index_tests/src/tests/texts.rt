@@ -2,7 +2,7 @@
 ghost use Rattle.std.specs.Prelude.{◌≡◌, IfOk};
 
 use crate::claims::assert_same;
-use crate::readers::difference;
+use crate::tests::readers::difference;
 use breakpoints::Table;
 use isax_word::Layout;
 use outside::NoGate;
@@ -78,8 +78,6 @@ fn the_worked_text(rt: HostRuntime) -> Result<(), Fail> {
     let rows = worked(alloc)?;
     let bytes = text_of(&rt, alloc, &rows, 4, 1000)?;
     assert_same!(rt; bytes.as_slice(), TEXT.as_slice(), "the worked text");
-    let found = difference(&rt, alloc, &rows, &WORKED, bytes.as_slice())?;
-    assert_same!(rt; found, None, "the worked text");
     Ok(())
 }
 

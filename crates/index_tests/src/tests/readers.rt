@@ -1,7 +1,7 @@
 //! The reader of `saved_index` beside the plain one: where it loads a text, the plain reader tells the same tree; where it refuses
 //! one, the plain test has the same fault.
-use crate::plain_fault::plain_fault;
-use crate::plain_reader::plain_read;
+use crate::tests::plain_fault::plain_fault;
+use crate::tests::plain_reader::plain_read;
 use breakpoints::Table;
 use outside::{Files, MemFiles};
 use saved_index::{IndexFault, LoadedIndex, load};

@@ -3,8 +3,8 @@
 ghost use Rattle.std.specs.Prelude.{◌≡◌, IfOk};
 
 use crate::claims::assert_same;
-use crate::readers::{difference, loaded};
-use crate::texts::{TEXT, WORKED, text_by, text_of, worked};
+use crate::tests::readers::{difference, loaded};
+use crate::tests::texts::{TEXT, WORKED, text_by, text_of, worked};
 use saved_index::{IndexFault, LoadedIndex, can_save, save};
 use segment_sums::Cuts;
 use series_core::Flat;
@@ -12,9 +12,10 @@ use std::alloc::Global;
 use std::test::Fail;
 use std::thread::Threads;
 
-/// The first `size` bytes of the worked text, with other values at some places.
+/// The first `size` bytes of the worked text with a zero behind it, with other values at some places.
 fn changed(alloc: Global, size: usize, changes: &[(usize, u8)]) -> Result<Vec<u8>, Fail> {
     let mut bytes = TEXT.to_vec(alloc)?;
+    bytes.push(0)?;
     for (place, value) in changes {
         if let Some(byte) = bytes.get_mut(*place) {
             *byte = *value;
@@ -30,114 +31,66 @@ fn the_first_refusal(rt: HostRuntime) -> Result<(), Fail> {
     let four = worked(alloc)?;
     let three = Flat::from_values(4, [0i16; 12].to_vec(alloc)?);
     let longer = Flat::from_values(5, [0i16; 15].to_vec(alloc)?);
-    let cases: [(&str, &Flat, usize, &[(usize, u8)], Option<IndexFault>); 8] = [
-        ("the worked text", &four, 58, &[], None),
-        (
-            "its last byte is cut",
-            &four,
-            57,
-            &[],
-            Some(IndexFault::NotIndex),
-        ),
-        (
-            "three series",
-            &three,
-            58,
-            &[],
-            Some(IndexFault::Count(4, 3)),
-        ),
-        (
-            "three longer series",
-            &longer,
-            58,
-            &[],
-            Some(IndexFault::Length(4, 5)),
-        ),
-        (
-            "root 0 has 3",
-            &four,
-            58,
-            &[(33, 3)],
-            Some(IndexFault::Unfit(2)),
-        ),
-        (
-            "root 0 has 1, root 3 has 2",
-            &four,
-            58,
-            &[(33, 1), (50, 2)],
-            Some(IndexFault::Unfit(1)),
-        ),
-        (
-            "root 0 has 0",
-            &four,
-            58,
-            &[(33, 0)],
-            Some(IndexFault::Unfit(0)),
-        ),
-        (
-            "root 3 is root 2",
-            &four,
-            58,
-            &[(37, 2)],
-            Some(IndexFault::Unfit(0)),
-        ),
+    let cases: [(&str, &Flat, &[(usize, u8)], IndexFault); 6] = [
+        ("three series", &three, &[], IndexFault::Count(4, 3)),
+        ("three of five", &longer, &[], IndexFault::Length(4, 5)),
+        ("root 0 has 3", &four, &[(33, 3)], IndexFault::Unfit(2)),
+        ("1 and 2", &four, &[(33, 1), (50, 2)], IndexFault::Unfit(1)),
+        ("root 0 has 0", &four, &[(33, 0)], IndexFault::Unfit(0)),
+        ("root 3 is 2", &four, &[(37, 2)], IndexFault::Unfit(0)),
     ];
-    for (name, rows, size, changes, want) in cases {
-        let bytes = changed(alloc, size, changes)?;
+    for (name, rows, changes, want) in cases {
+        let bytes = changed(alloc, 58, changes)?;
         let found = loaded(&rt, alloc, rows, bytes.as_slice(), &[])?;
-        assert_same!(rt; found.err(), want, "{name}");
+        assert_same!(rt; found.err(), Some(want), "{name}");
     }
     Ok(())
 }
 
-#[test]
-fn a_listed_read_fails(rt: HostRuntime) -> Result<(), Fail> {
-    let alloc = rt.alloc();
-    let rows = worked(alloc)?;
-    // In pieces of sixteen bytes the text needs four reads, and its end a fifth.
-    for listed in 1..7u64 {
-        let found = loaded(&rt, alloc, &rows, TEXT.as_slice(), &[listed])?;
-        let want = if listed <= 5 {
-            Some(IndexFault::ReadFault)
-        } else {
-            None
-        };
-        assert_same!(rt; found.err(), want, "read {listed} fails");
-    }
-    Ok(())
+/// In what the two readers differ on the beginning of the worked text, with other values at some places.
+fn worked_difference<H: Threads + Sync>(
+    rt: &H,
+    alloc: Global,
+    size: usize,
+    changes: &[(usize, u8)],
+) -> Result<Option<&'static str>, Fail> {
+    let bytes = changed(alloc, size, changes)?;
+    difference(rt, alloc, &worked(alloc)?, &WORKED, bytes.as_slice())
 }
 
 #[test]
 fn each_byte_changed(rt: HostRuntime) -> Result<(), Fail> {
-    let alloc = rt.alloc();
-    let rows = worked(alloc)?;
     for place in 0..58usize {
         for value in 0..=255u8 {
-            let bytes = changed(alloc, 58, &[(place, value)])?;
-            let found = difference(&rt, alloc, &rows, &WORKED, bytes.as_slice())?;
+            let found = worked_difference(&rt, rt.alloc(), 58, &[(place, value)])?;
             assert_same!(rt; found, None, "{value} at {place}");
         }
     }
     Ok(())
 }
 
+// Of the whole text each read fails in turn, too.
 #[test]
 fn each_beginning_and_more(rt: HostRuntime) -> Result<(), Fail> {
     let alloc = rt.alloc();
     let rows = worked(alloc)?;
     for size in 0..60usize {
-        let mut bytes = TEXT.to_vec(alloc)?;
-        bytes.push(0)?;
-        bytes.truncate(size);
-        let fault = loaded(&rt, alloc, &rows, bytes.as_slice(), &[])?.err();
-        let want = if size == 58 {
-            None
-        } else {
-            Some(IndexFault::NotIndex)
-        };
-        assert_same!(rt; fault, want, "the first {size} bytes");
-        let found = difference(&rt, alloc, &rows, &WORKED, bytes.as_slice())?;
+        let found = worked_difference(&rt, alloc, size, &[])?;
         assert_same!(rt; found, None, "the first {size} bytes");
+        let bytes = changed(alloc, size, &[])?;
+        let reads = if size == 58 { 7 } else { 1 };
+        for listed in 0..reads {
+            // In pieces of sixteen bytes the text needs four reads, and its end a fifth.
+            let want = if size != 58 {
+                Some(IndexFault::NotIndex)
+            } else if listed >= 1 && listed <= 5 {
+                Some(IndexFault::ReadFault)
+            } else {
+                None
+            };
+            let found = loaded(&rt, alloc, &rows, bytes.as_slice(), &[listed])?;
+            assert_same!(rt; found.err(), want, "the first {size} bytes, read {listed} fails");
+        }
     }
     Ok(())
 }

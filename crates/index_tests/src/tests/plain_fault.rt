@@ -1,5 +1,5 @@
 //! A plain slow test of the text of an index against a collection, for tests to compare with.
-use crate::plain_reader::plain_read;
+use crate::tests::plain_reader::plain_read;
 use saved_index::IndexFault;
 use std::alloc::Global;
 use std::test::Fail;

@@ -1,6 +1,6 @@
 //! Searches by an index that was put together from the parts of a text, with its tables and with nothing beside its tree: as a plain sort.
 use crate::claims::assert_same;
-use crate::texts::{TEXT, worked};
+use crate::tests::texts::{TEXT, worked};
 use nearest_answer::{Task, answer_by_team, one_worker_answer};
 use outside::{NoGate, NoMemory};
 use plain_search::{are_same, by_distance, plain_nearest, tree_with};
