@@ -57,34 +57,36 @@ fn compare<H: Threads + Wait + Abort + Sync>(
     Ok(())
 }
 
-#[test]
-fn batches_of_each_size(rt: HostRuntime) -> Result<(), Fail> {
-    let alloc = rt.alloc();
-    let rows = mixed(alloc, 1, 300)?;
+/// Compares a batch of each of these sizes over so many rows, by each of these numbers of workers.
+fn compare_sizes<H: Threads + Wait + Abort + Sync>(
+    rt: &H,
+    alloc: Global,
+    count: u32,
+    sizes: &[u32],
+    teams: &[u32],
+) -> Result<(), Fail> {
+    let rows = mixed(alloc, 1, count)?;
     let held = raw(alloc, &rows)?;
-    for count in [0, 1, 2, 3, 4, 5, 8, 9, 100] {
-        let queries = mixed(alloc, 2, count)?;
+    for size in sizes {
+        let queries = mixed(alloc, 2, *size)?;
         let text = plain_text(alloc, &rows, &queries, 3)?;
         let asked = raw(alloc, &queries)?;
-        for workers in [1, 2, 3, 8] {
-            compare(&rt, alloc, (&held, &asked), workers, &text)?;
+        for workers in teams {
+            compare(rt, alloc, (&held, &asked), *workers, &text)?;
         }
     }
     Ok(())
 }
 
 #[test]
+fn batches_of_each_size(rt: HostRuntime) -> Result<(), Fail> {
+    let sizes = [0, 1, 2, 3, 4, 5, 8, 9, 100];
+    compare_sizes(&rt, rt.alloc(), 300, &sizes, &[1, 2, 3, 8])
+}
+
+#[test]
 fn three_thousand_queries(rt: HostRuntime) -> Result<(), Fail> {
-    let alloc = rt.alloc();
-    let rows = mixed(alloc, 3, 60)?;
-    let held = raw(alloc, &rows)?;
-    let queries = mixed(alloc, 4, 3000)?;
-    let text = plain_text(alloc, &rows, &queries, 3)?;
-    let asked = raw(alloc, &queries)?;
-    for workers in [1, 3] {
-        compare(&rt, alloc, (&held, &asked), workers, &text)?;
-    }
-    Ok(())
+    compare_sizes(&rt, rt.alloc(), 60, &[3000], &[1, 3])
 }
 
 /// A gate that counts how often a worker came.
@@ -123,16 +125,15 @@ fn passes<T: Threads + Wait + Sync>(
     Ok((status, gate.passes.load(Ordering::SeqCst)))
 }
 
-// Which write fails, and how often two workers have drawn queries by then, of 3000: before the first text they draw 32, four at a time, and each
-// once in vain; and once as many as are written are drawn where all of these are written, eight at a time from the 65th on and 16 from the 129th,
-// until no more are left.
-const AHEAD: [(u64, u64); 6] = [
-    (1, 10),
-    (32, 10),
-    (33, 20),
-    (65, 30),
-    (129, 40),
-    (2049, 220),
+// Which writes fail, and how often two workers have drawn queries by then, of 3000: before the first text they draw 32, four at a time,
+// and each once in vain; and once as many as are written are drawn where all of these are written, eight at a time from the 65th on and
+// 16 from the 129th, until no more are left.
+const AHEAD: [(&[u64], u64); 5] = [
+    (&[1, 32], 10),
+    (&[33], 20),
+    (&[65], 30),
+    (&[129], 40),
+    (&[2049], 220),
 ];
 
 #[test]
@@ -141,11 +142,13 @@ fn few_queries_are_ahead_of_the_text(rt: HostRuntime) -> Result<(), Fail> {
     let held = raw(alloc, &mixed(alloc, 3, 8)?)?;
     let asked = raw(alloc, &mixed(alloc, 4, 3000)?)?;
     let (_, to_build) = passes(&rt, alloc, (&held, &[]), 0)?;
-    for (write, drawn) in AHEAD {
-        let (status, came) = passes(&rt, alloc, (&held, &asked), write)?;
-        assert_same!(rt; status, Status::WriteFault, "write {write}");
-        let to_draw = came.wrapping_sub(to_build);
-        assert_same!(rt; to_draw, drawn, "before write {write}");
+    for (writes, drawn) in AHEAD {
+        for write in writes {
+            let (status, came) = passes(&rt, alloc, (&held, &asked), *write)?;
+            assert_same!(rt; status, Status::WriteFault, "write {write}");
+            let to_draw = came.wrapping_sub(to_build);
+            assert_same!(rt; to_draw, drawn, "before write {write}");
+        }
     }
     Ok(())
 }

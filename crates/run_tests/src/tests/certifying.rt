@@ -64,6 +64,18 @@ fn ended<T: Threads + Wait + Sync>(
     Ok((status, out))
 }
 
+// What the words of a line write over these files, where they do their work.
+fn written<T: Threads + Wait + Abort + Sync>(
+    rt: &T,
+    alloc: Global,
+    files: &mut MemFiles,
+    line: &str,
+) -> Result<MemSink, Fail> {
+    let (status, out) = ended(rt, alloc, files, line)?;
+    assert_same!(rt; status, Status::Done, "{line}");
+    Ok(out)
+}
+
 // A change of a text.
 #[derive(Clone, Copy, Debug)]
 enum Change {
@@ -176,12 +188,10 @@ fn drawn_certificates(rt: HostRuntime) -> Result<(), Fail> {
         let line = format!(in alloc;
             "nearest data asked --certificate {checked} --leaf {leaf} --queues {queues} --workers {workers}"
         )?;
-        let (status, out) = ended(&rt, alloc, &mut files, &line)?;
-        assert_same!(rt; status, Status::Done, "{line}");
+        let out = written(&rt, alloc, &mut files, &line)?;
         files.hold("C", out.written())?;
         let check = format!(in alloc; "verify data asked C {checked}")?;
-        let (status, said) = ended(&rt, alloc, &mut files, &check)?;
-        assert_same!(rt; status, Status::Done, "{line}");
+        let said = written(&rt, alloc, &mut files, &check)?;
         assert_same!(rt; said.written(), b"valid\n".as_slice(), "{line}");
         for change in [Change::Bound, Change::Answer, Change::Leaves] {
             if let Some(text) = changed(alloc, change, out.written())? {
@@ -206,15 +216,13 @@ fn answers_are_the_same_for_all_workers_and_queues(rt: HostRuntime) -> Result<()
         let mut files = drawn(alloc, count, true, queries)?;
         let words = "nearest data asked --k 5 --leaf 2 --breaks bent";
         let alone = format!(in alloc; "{words} --workers 1 --queues 1")?;
-        let (status, wanted) = ended(&rt, alloc, &mut files, &alone)?;
-        assert_same!(rt; status, Status::Done, "{alone}");
+        let wanted = written(&rt, alloc, &mut files, &alone)?;
         for workers in [1, 2, 3, 8, 64] {
             for (queues, form) in [(1, ""), (2, " --sealed"), (5, ""), (64, " --sealed")] {
                 let line = format!(in alloc;
                     "{words} --workers {workers} --queues {queues}{form}"
                 )?;
-                let (status, out) = ended(&rt, alloc, &mut files, &line)?;
-                assert_same!(rt; status, Status::Done, "{line}: {queries} queries");
+                let out = written(&rt, alloc, &mut files, &line)?;
                 assert_same!(rt;
                     out.written(),
                     wanted.written(),

@@ -178,23 +178,6 @@ impl<H: Threads + Wait + Abort + Sync> Turns<'_, H> {
 }
 
 #[test]
-fn each_read_of_a_small_piece_may_fail(rt: HostRuntime) -> Result<(), Fail> {
-    for (line, _, text) in COMMANDS {
-        for piece in [1, 2, 7] {
-            Turns {
-                rt: &rt,
-                alloc: rt.alloc(),
-                line,
-                text,
-                piece,
-            }
-            .reads_fail()?;
-        }
-    }
-    Ok(())
-}
-
-#[test]
 fn each_open_may_fail(rt: HostRuntime) -> Result<(), Fail> {
     for (line, reads, text) in COMMANDS {
         for open in 1..=4u64 {
@@ -217,17 +200,18 @@ fn each_open_may_fail(rt: HostRuntime) -> Result<(), Fail> {
 }
 
 #[test]
-fn each_write_may_fail(rt: HostRuntime) -> Result<(), Fail> {
+fn each_read_and_each_write_of_a_piece_may_fail(rt: HostRuntime) -> Result<(), Fail> {
     for (line, _, text) in COMMANDS {
         for piece in [1, 2, 4, 7, 16] {
-            Turns {
+            let turns = Turns {
                 rt: &rt,
                 alloc: rt.alloc(),
                 line,
                 text,
                 piece,
-            }
-            .writes_fail()?;
+            };
+            turns.reads_fail()?;
+            turns.writes_fail()?;
         }
     }
     Ok(())

@@ -1,5 +1,8 @@
 //! What all tables share: the files that they name, and runs over them.
 
+ghost use Rattle.std.specs.Prelude.{◌*◌, ◌<◌, ◌≤◌};
+ghost use Rattle.series_core.specs.declared.rows.TheConstants.{MAX_COUNT, MAX_LENGTH, MAX_VALUES};
+
 use crate::claims::assert_same;
 use outside::{Gate, MemFiles, NoGate, NoMemory};
 use random_walks::{generator, walks};
@@ -78,12 +81,21 @@ fn hold_long(alloc: Global, files: &mut MemFiles) -> Result<(), NoMemory> {
     Ok(())
 }
 
-/// Holds sixty series of eight values each, `drawn`, and three queries for them, `asked`: random walks, with their numbers as
-/// labels.
-fn hold_drawn(alloc: Global, files: &mut MemFiles) -> Result<(), NoMemory> {
+/// Holds random walks, `drawn`, and further ones as queries for them, `asked`, all with their numbers as labels.
+pub fn hold_drawn(
+    alloc: Global,
+    files: &mut MemFiles,
+    count: u32,
+    queries: u32,
+    length: u32,
+) -> Result<(), NoMemory>
+    requires length { (0 < length) × (length ≤ MAX_LENGTH) }
+    requires count { (count ≤ MAX_COUNT) × (count * length ≤ MAX_VALUES) }
+    requires queries { (queries ≤ MAX_COUNT) × (queries * length ≤ MAX_VALUES) }
+{
     let mut rng = generator(7);
-    let series = walks(alloc, &mut rng, 60, 8)?;
-    let queries = walks(alloc, &mut rng, 3, 8)?;
+    let series = walks(alloc, &mut rng, count, length)?;
+    let queries = walks(alloc, &mut rng, queries, length)?;
     files.hold("drawn", &write_numbered(alloc, &series)?)?;
     files.hold("asked", &write_numbered(alloc, &queries)?)
 }
@@ -146,7 +158,7 @@ pub fn files_of(
         hold_long(alloc, &mut files)?;
     }
     if line.contains("drawn") {
-        hold_drawn(alloc, &mut files)?;
+        hold_drawn(alloc, &mut files, 60, 3, 8)?;
     }
     Ok(files)
 }

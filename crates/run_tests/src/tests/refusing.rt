@@ -17,72 +17,91 @@ const UNEVEN_DATA: Status = Status::Format(Which::Series, FileError::Uneven(7));
 // The status where it is the file of the queries.
 const UNEVEN_QUERIES: Status = Status::Format(Which::Queries, FileError::Uneven(7));
 
-// Words of runs that are refused, and the status that they end with.
-const REFUSED: [(&str, Status); 26] = [
-    ("nearest A nothree", Status::Mismatch(4, 3)),
-    ("nearest A three", Status::Mismatch(4, 3)),
-    ("nearest A three --segments 5", Status::Mismatch(4, 3)),
-    ("range A three 5", Status::Mismatch(4, 3)),
-    ("verify A three nobody", Status::Mismatch(4, 3)),
-    ("nearest A nobody", Status::Missing(Which::Queries)),
-    ("range A nobody 5", Status::Missing(Which::Queries)),
-    ("verify A nobody nobody", Status::Missing(Which::Queries)),
-    ("windows long absent 1", Status::Missing(Which::Queries)),
-    ("nearest seven seven --raw 2", UNEVEN_DATA),
-    ("convert seven --raw 2", UNEVEN_DATA),
-    ("windows seven ones 1", UNEVEN_DATA),
-    ("nearest A seven --raw 4", UNEVEN_QUERIES),
-    ("nearest  Q", Status::Missing(Which::Series)),
-    ("nearest nobody Q", Status::Missing(Which::Series)),
-    ("convert nobody", Status::Missing(Which::Series)),
-    ("save nobody", Status::Missing(Which::Series)),
-    ("discord nobody", Status::Missing(Which::Series)),
-    ("nearest A Q --segments 5", Status::Settings(5, 4)),
-    ("range A Q 5 --segments 5", Status::Settings(5, 4)),
-    ("verify A Q nobody --segments 5", Status::Settings(5, 4)),
-    ("save A --segments 5", Status::Settings(5, 4)),
-    ("discord A --segments 5", Status::Settings(5, 4)),
-    ("verify A Q nobody", Status::Missing(Which::Certificate)),
-    ("save shorter --segments 5", SHORTER_DATA),
-    ("windows long ones 1 --segments 3", Status::Settings(3, 2)),
-];
-
-// What the error stream tells of each status behind the name of the program.
-const TOLD: [(Status, &str); 9] = [
-    (Status::Mismatch(4, 3), "lengths differ: 4 and 3"),
-    (Status::Missing(Which::Queries), "queries: no such file"),
-    (UNEVEN_DATA, "data: 7 bytes are no whole number of series"),
+// Statuses of runs that are refused, what the error stream tells of each behind the name of the program, and words of runs that end so.
+const REFUSED: [(Status, &str, &[&str]); 9] = [
+    (
+        Status::Mismatch(4, 3),
+        "lengths differ: 4 and 3",
+        &[
+            "nearest A nothree",
+            "nearest A three",
+            "nearest A three --segments 5",
+            "range A three 5",
+            "verify A three nobody",
+        ],
+    ),
+    (
+        Status::Missing(Which::Queries),
+        "queries: no such file",
+        &[
+            "nearest A nobody",
+            "range A nobody 5",
+            "verify A nobody nobody",
+            "windows long absent 1",
+        ],
+    ),
+    (
+        UNEVEN_DATA,
+        "data: 7 bytes are no whole number of series",
+        &[
+            "nearest seven seven --raw 2",
+            "convert seven --raw 2",
+            "windows seven ones 1",
+        ],
+    ),
     (
         UNEVEN_QUERIES,
         "queries: 7 bytes are no whole number of series",
+        &["nearest A seven --raw 4"],
     ),
-    (Status::Missing(Which::Series), "data: no such file"),
-    (Status::Settings(5, 4), "5 segments are more than length 4"),
+    (
+        Status::Missing(Which::Series),
+        "data: no such file",
+        &[
+            "nearest  Q",
+            "nearest nobody Q",
+            "convert nobody",
+            "save nobody",
+            "discord nobody",
+        ],
+    ),
+    (
+        Status::Settings(5, 4),
+        "5 segments are more than length 4",
+        &[
+            "nearest A Q --segments 5",
+            "range A Q 5 --segments 5",
+            "verify A Q nobody --segments 5",
+            "save A --segments 5",
+            "discord A --segments 5",
+        ],
+    ),
     (
         Status::Missing(Which::Certificate),
         "certificate: no such file",
+        &["verify A Q nobody"],
     ),
-    (SHORTER_DATA, "data: ends at byte 47 of 48"),
-    (Status::Settings(3, 2), "3 segments are more than length 2"),
+    (
+        SHORTER_DATA,
+        "data: ends at byte 47 of 48",
+        &["save shorter --segments 5"],
+    ),
+    (
+        Status::Settings(3, 2),
+        "3 segments are more than length 2",
+        &["windows long ones 1 --segments 3"],
+    ),
 ];
-
-// What is told of a status that stands in the table; nothing of others.
-fn told_of(status: Status) -> &'static str {
-    for (known, told) in TOLD {
-        if known == status {
-            return told;
-        }
-    }
-    ""
-}
 
 #[test]
 fn refusals_end_as_they_should(rt: HostRuntime) -> Result<(), Fail> {
     let alloc = rt.alloc();
-    for piece in [1, 2, 7, 16, 4096] {
-        for (line, status) in REFUSED {
-            let told = format!(in alloc; "isearch: {}\n", told_of(status))?;
-            tells(&rt, alloc, line, b"", piece, (status, "", told.as_str()))?;
+    for (status, cause, lines) in REFUSED {
+        let told = format!(in alloc; "isearch: {cause}\n")?;
+        for line in lines {
+            for piece in [1, 2, 7, 16, 4096] {
+                tells(&rt, alloc, line, b"", piece, (status, "", told.as_str()))?;
+            }
         }
     }
     Ok(())

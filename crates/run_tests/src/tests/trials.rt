@@ -2,11 +2,9 @@
 //! come from a plain program in C.
 
 use crate::claims::assert_same;
-use crate::tests::fixture::{Outside, run_line, tells, words_of};
-use outside::{MemFiles, MemSink, NoGate, NoMemory};
-use random_walks::{generator, walks};
+use crate::tests::fixture::{Outside, hold_drawn, run_line, tells, words_of};
+use outside::{MemFiles, MemSink, NoGate};
 use search_run::{Status, run};
-use series_file::write_numbered;
 use std::alloc::Global;
 use std::process::Abort;
 use std::sync::Wait;
@@ -58,15 +56,6 @@ fn a_great_trial_by_one_worker(rt: HostRuntime) -> Result<(), Fail> {
     great(&rt, rt.alloc(), "--workers 1 --queues 1")
 }
 
-// The walks of the great trial as files: its series `data`, and its queries `asked`.
-fn hold_great(alloc: Global, files: &mut MemFiles) -> Result<(), NoMemory> {
-    let mut rng = generator(7);
-    let series = walks(alloc, &mut rng, 100000, 256)?;
-    let queries = walks(alloc, &mut rng, 20, 256)?;
-    files.hold("data", &write_numbered(alloc, &series)?)?;
-    files.hold("asked", &write_numbered(alloc, &queries)?)
-}
-
 // The number and the distance of an answer line, behind which a label stands. No other line of a certificate begins with a number.
 fn answer_in(line: &[u8]) -> Option<(u64, u64)> {
     let text = str::from_utf8(line).ok()?;
@@ -95,8 +84,8 @@ fn totals(text: &[u8]) -> [u64; 3] {
 fn the_great_walks_over_sealed_runs(rt: HostRuntime) -> Result<(), Fail> {
     let alloc = rt.alloc();
     let mut files = MemFiles::new(alloc, 1048576, Vec::new(alloc), Vec::new(alloc));
-    hold_great(alloc, &mut files)?;
-    let line = "nearest data asked --k 10 --workers 8 --queues 4 --sealed --certificate";
+    hold_drawn(alloc, &mut files, 100000, 20, 256)?;
+    let line = "nearest drawn asked --k 10 --workers 8 --queues 4 --sealed --certificate";
     let words = words_of(alloc, line)?;
     let mut out = MemSink::new(alloc, 100_000_000, 1_000_000, Vec::new(alloc))?;
     let mut err = MemSink::new(alloc, 1000, 1000, Vec::new(alloc))?;
