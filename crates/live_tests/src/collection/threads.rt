@@ -50,55 +50,6 @@ fn plain_nearest(alloc: Global, count: u32, value: i16) -> Result<Vec<(u64, u32)
     Ok(near)
 }
 
-// The writer's thread: all batches, each of which stands with those before it.
-fn append_all<R: Threads + Wait + Sync>(
-    rt: &R,
-    alloc: Global,
-    live: &LiveCollection,
-    writer: &mut Writer,
-) -> bool
-    requires writer { IsWriterOf live.now writer.old }
-    requires points { points_of live.now ≡ 4 }
-{
-    for batch in 0..BATCHES {
-        let Ok(values) = shades(alloc, batch * SERIES, SERIES) else {
-            return false;
-        };
-        match live.append(rt, alloc, writer, Flat::from_values(4, values)) {
-            Ok(count) if count == (batch + 1) * SERIES => {}
-            _ => return false,
-        }
-    }
-    true
-}
-
-// A reader's thread: many asks, whose counts do not fall, and whose answers are those of the first series.
-fn ask_often<R: Threads + Wait + Sync>(
-    rt: &R,
-    alloc: Global,
-    live: &LiveCollection,
-    reader: &mut Reader,
-) -> bool
-    requires reader { IsReaderOf live.now reader.old }
-    requires points { points_of live.now ≡ 4 }
-{
-    let mut last = 0;
-    for ask in 0..ASKS {
-        let value = shade(ask);
-        let Ok(reply) = live.ask(rt, alloc, reader, &[value, value, value, value], NEAREST) else {
-            return false;
-        };
-        let Ok(plain) = plain_nearest(alloc, reply.count, value) else {
-            return false;
-        };
-        if reply.count < last || !are_same(&reply.pairs.items, &plain) {
-            return false;
-        }
-        last = reply.count;
-    }
-    true
-}
-
 // One that acts in a thread of its own.
 #[derive(Drop)]
 struct Actor<'a> {
@@ -108,15 +59,60 @@ struct Actor<'a> {
     right: bool,
 }
 
+impl Actor<'_> {
+    // The writer's part: all batches, each of which stands with those before it.
+    fn append_all<R: Threads + Wait + Sync>(&self, rt: &R, alloc: Global, own: &mut Writer) -> bool
+        requires writer { IsWriterOf self.now.live.now own.old }
+        requires points { points_of self.now.live.now ≡ 4 }
+    {
+        for batch in 0..BATCHES {
+            let Ok(values) = shades(alloc, batch * SERIES, SERIES) else {
+                return false;
+            };
+            let rows = Flat::from_values(4, values);
+            match self.live.append(rt, alloc, own, rows) {
+                Ok(count) if count == (batch + 1) * SERIES => {}
+                _ => return false,
+            }
+        }
+        true
+    }
+
+    // A reader's part: many asks, whose counts do not fall, and whose answers are those of the first series.
+    fn ask_often<R: Threads + Wait + Sync>(&self, rt: &R, alloc: Global, own: &mut Reader) -> bool
+        requires reader { IsReaderOf self.now.live.now own.old }
+        requires points { points_of self.now.live.now ≡ 4 }
+    {
+        let mut last = 0;
+        for ask in 0..ASKS {
+            let value = shade(ask);
+            let Ok(reply) = self
+                .live
+                .ask(rt, alloc, own, &[value, value, value, value], NEAREST)
+            else {
+                return false;
+            };
+            let Ok(plain) = plain_nearest(alloc, reply.count, value) else {
+                return false;
+            };
+            if reply.count < last || !are_same(&reply.pairs.items, &plain) {
+                return false;
+            }
+            last = reply.count;
+        }
+        true
+    }
+}
+
 fn act<R: Threads + Wait + Sync>(rt: &R, alloc: Global, actor: &mut Actor<'_>)
     requires { (points_of actor.old.live.now ≡ 4) × IfSome actor.old.writer (IsWriterOf actor.old.live.now)
         × IfSome actor.old.reader (IsReaderOf actor.old.live.now) }
 {
     if let Some(mut writer) = actor.writer.take() {
-        actor.right = append_all(rt, alloc, actor.live, &mut writer);
+        actor.right = actor.append_all(rt, alloc, &mut writer);
     }
     if let Some(mut reader) = actor.reader.take() {
-        actor.right = ask_often(rt, alloc, actor.live, &mut reader);
+        actor.right = actor.ask_often(rt, alloc, &mut reader);
     }
 }
 

@@ -1,6 +1,6 @@
 -- The writer stays one of the collection.
 use Rattle.live_collection.specs.Sides.{IsWriterOf}
-use Rattle.live_tests.proofs.collection.threads.append_all.Given as goal
+use Rattle.live_tests.proofs.collection.threads.Actor.append_all.Given as goal
 
 abbrev pub invariant-loop-batch : goal.invariant-loop-batch
-invariant-loop-batch g l = IsWriterOf l.live l.writer
+invariant-loop-batch g l = IsWriterOf l.self.live.now l.own
