@@ -46,34 +46,6 @@ fn nearest(alloc: Global, matches: &ArgMatches<'_>, options: Options) -> Result<
     })
 }
 
-/// What the matches of `range DATA QUERIES RADIUS` with these options ask for.
-fn range(alloc: Global, matches: &ArgMatches<'_>, options: Options) -> Result<Command, WordsError>
-    requires { HasOptions (rows matches.now) options }
-    ensures ok { IfOk result (FitsAs CommandName.Range (rows matches.now)) }
-    ensures usage { result ≡ Err WordsError.Usage → FitsNone CommandName.Range (rows matches.now) }
-{
-    Ok(Command::Range {
-        series: text_at(alloc, matches, "DATA")?,
-        queries: text_at(alloc, matches, "QUERIES")?,
-        radius: long_number_at(matches, "RADIUS", 0, MOST_RADIUS).ok_or(WordsError::Usage)?,
-        options,
-    })
-}
-
-/// What the matches of `verify DATA QUERIES CERTIFICATE` with these options ask for.
-fn verify(alloc: Global, matches: &ArgMatches<'_>, options: Options) -> Result<Command, WordsError>
-    requires { HasOptions (rows matches.now) options }
-    ensures ok { IfOk result (FitsAs CommandName.Verify (rows matches.now)) }
-    ensures usage { result ≡ Err WordsError.Usage → FitsNone CommandName.Verify (rows matches.now) }
-{
-    Ok(Command::Verify {
-        series: text_at(alloc, matches, "DATA")?,
-        queries: text_at(alloc, matches, "QUERIES")?,
-        certificate: text_at(alloc, matches, "CERTIFICATE")?,
-        options,
-    })
-}
-
 /// What the matches of `trial SEED COUNT LENGTH QUERIES` with these options ask for.
 fn trial(matches: &ArgMatches<'_>, options: Options) -> Result<Command, WordsError>
     requires { HasOptions (rows matches.now) options }
@@ -126,8 +98,18 @@ fn command_given(
     let options = options_of(alloc, matches)?;
     match name {
         CommandName::Nearest => nearest(alloc, matches, options),
-        CommandName::Range => range(alloc, matches, options),
-        CommandName::Verify => verify(alloc, matches, options),
+        CommandName::Range => Ok(Command::Range {
+            series: text_at(alloc, matches, "DATA")?,
+            queries: text_at(alloc, matches, "QUERIES")?,
+            radius: long_number_at(matches, "RADIUS", 0, MOST_RADIUS).ok_or(WordsError::Usage)?,
+            options,
+        }),
+        CommandName::Verify => Ok(Command::Verify {
+            series: text_at(alloc, matches, "DATA")?,
+            queries: text_at(alloc, matches, "QUERIES")?,
+            certificate: text_at(alloc, matches, "CERTIFICATE")?,
+            options,
+        }),
         CommandName::Trial => trial(matches, options),
         CommandName::Convert => Ok(Command::Convert {
             series: text_at(alloc, matches, "DATA")?,
