@@ -1,6 +1,6 @@
 -- The words of two stretches of series, one behind the other, are those of both (`words_joined`); those from the first series to the last are
--- those of all (`all_words`).
-use Rattle.std.proofs.Common.{◌≡◌, ◌∙◌, ◌+◌, ◌-◌, ◌≤◌, ℕ, ◌++◌, arith, sym, ap, length, map, take, drop}
+-- those of all, under a layout of whatever name (`all_words`).
+use Rattle.std.proofs.Common.{◌≡◌, ◌∙◌, ◌+◌, ◌-◌, ◌≤◌, ℕ, ◌++◌, arith, sym, ap, List, length, map, take, drop}
 use Rattle.std.proofs.lemmas.List.{drop-drop, map-append, take_all}
 use Rattle.std.proofs.Math.Seq.{take-add}
 use Rattle.series_core.specs.Collection.{Collection}
@@ -21,8 +21,8 @@ words_joined c layout from mid to low high =
     ∙ ap (map word) (sym (take-add (mid - from) (to - mid) front))
     ∙ ap (λ k. map word (take k front)) both
 
-pub all_words : (c : Collection) (layout : Layout) (count : ℕ) → count ≡ length c.series
-    → words_between c layout 0 count ≡ words_of c layout
-all_words c layout count all =
+pub all_words : (c : Collection) (layout asked : Layout) (count : ℕ) (words : List (List ℕ)) → words ≡ words_between c layout 0 count
+    → count ≡ length c.series → layout ≡ asked → words ≡ words_of c asked
+all_words c layout asked count words are all same =
     let whole : length c.series ≤ count - 0 = omega (arith, all) in
-    ap (map (full_word layout)) (take_all (count - 0) c.series whole)
+    are ∙ ap (map (full_word layout)) (take_all (count - 0) c.series whole) ∙ ap (words_of c) same

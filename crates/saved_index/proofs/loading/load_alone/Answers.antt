@@ -1,6 +1,5 @@
 -- With the means of its members, what was tested is an index for the rows, whose text is the bytes.
-use Rattle.std.proofs.Common.{◌∙◌, ap, arith}
-use Rattle.saved_index.specs.Membership.{words_of}
+use Rattle.std.proofs.Common.{arith}
 use Rattle.saved_index.proofs.Stretches.{all_words}
 use Rattle.saved_index.proofs.Tested.{points_of, saves_for, series_of, index_for, text_for}
 use Rattle.saved_index.proofs.loading.load_alone.Goals as goal
@@ -22,7 +21,4 @@ returns-clause-saves g c = saves_for _ _ c.type_inv.bytes _ c.in-Ok-tested.ensur
 
 pub tested-requires-clause-words : goal.tested-requires-clause-words
 tested-requires-clause-words g c =
-    let all = g.R.Rows.collection c.args.rows.now in
-    c.in_ok-words.ensures
-    ∙ all_words all c.settings_of-settings.result.layout c.count.result c.count.ensures.count
-    ∙ ap (words_of all) c.settings_of-settings.ensures.layout
+    all_words (g.R.Rows.collection c.args.rows.now) _ _ _ _ c.in_ok-words.ensures c.count.ensures.count c.settings_of-settings.ensures.layout
