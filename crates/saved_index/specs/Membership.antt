@@ -1,5 +1,5 @@
 -- Members of leaves: how they are made of numbers, and what they count for the series of a number.
-use Rattle.std.specs.Prelude.{ℕ, ◌-◌, ◌*◌, ◌==◌, not, List, [], map, take, drop, slice_index_or, Bool, Option, find, if◌then◌else◌}
+use Rattle.std.specs.Prelude.{◌≡◌, ◌≤◌, ℕ, ◌-◌, ◌*◌, ◌==◌, not, List, [], length, map, take, drop, slice_index_or, Bool, Option, find, if◌then◌else◌}
 use Rattle.std.specs.List.{range_with_len}
 use Rattle.list_totals.specs.Totals.{total, one_if_same}
 use Rattle.series_core.specs.Collection.{Collection}
@@ -17,6 +17,12 @@ words_of c layout = map (full_word layout) c.series
 -- the full words of the series from one number up to, but not including, another
 abbrev pub words_between : Collection → Layout → ℕ → ℕ → List (List ℕ)
 words_between c layout from to = map (full_word layout) (take (to - from) (drop from c.series))
+
+-- the series of a collection from one number up to, but not including, another, and a layout for them
+pub record IsStretch (c : Collection) (layout : Layout) (from to : ℕ) : Type 0 where
+  pub points : layout.cuts.row_length ≡ c.points
+  pub order : from ≤ to
+  pub inside : to ≤ length c.series
 
 -- the member of a number, with the full word that has this number
 abbrev pub with_word : List (List ℕ) → ℕ → Member

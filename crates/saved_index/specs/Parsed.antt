@@ -1,5 +1,5 @@
 -- What the reader of bytes has made of them.
-use Rattle.std.specs.Prelude.{◌≡◌, ℕ, ◌+◌, ◌≤◌, List, length, map, drop, Some}
+use Rattle.std.specs.Prelude.{◌≡◌, ℕ, ◌+◌, ◌^◌, ◌<◌, ◌≤◌, List, length, map, drop, Some}
 use Rattle.subtree_build.specs.Outline.{outline}
 use Rattle.subtree_build.specs.Tree.{Tree, all_numbered, leaves_of, IsBuilt}
 use Rattle.std.specs.List.{flat_map}
@@ -8,6 +8,10 @@ use Rattle.saved_index.specs.declared.reading.Spelled.{Spelled}
 use Rattle.saved_index.specs.Fields.{header_of}
 use Rattle.saved_index.specs.Saved.{Saved}
 use Rattle.saved_index.specs.Reading.{Read, saved_in}
+
+-- a place in bytes, or behind the last of them, which are few enough for numbers of 32 bits
+abbrev pub IsPlaceIn : List ℕ → ℕ → Type 0
+IsPlaceIn bytes at = (at ≤ length bytes) × (length bytes < 2 ^ 32)
 
 -- A node was read from these bytes, which are read as a tree: it names the tree's leaves behind those that there were, of
 -- which no more came than bytes.

@@ -1,8 +1,8 @@
 //! The nodes of a saved index. A node lies no deeper than its word has bits to give, so no bytes make the reader go deeper.
-ghost use Rattle.std.specs.Prelude.{◌≡◌, ◌+◌, ◌^◌, ◌<◌, ◌≤◌, ◌⊎◌, length, drop, vec_len, None, IfOk, IfErr, IsErrOf};
+ghost use Rattle.std.specs.Prelude.{◌≡◌, ◌+◌, ◌<◌, ◌≤◌, ◌⊎◌, length, drop, vec_len, None, IfOk, IfErr, IsErrOf};
 ghost use Rattle.subtree_build.specs.Division.{bits_left};
 ghost use Rattle.subtree_build.specs.Outline.{outline, child_outline};
-ghost use Rattle.saved_index.specs.Parsed.{IsNodeRead};
+ghost use Rattle.saved_index.specs.Parsed.{IsNodeRead, IsPlaceIn};
 ghost use Rattle.saved_index.specs.Reading.{child_in, leaf_in, node_in};
 ghost use Rattle.saved_index.specs.declared.error.IndexFault.TheVariants.{NotIndex, NoMemory};
 
@@ -34,8 +34,7 @@ fn read_leaf(
     at: usize,
     lists: &mut Vec<NumberList>,
 ) -> Result<NodeAt, IndexFault>
-    requires place { (1 ≤ at) × (at ≤ length bytes.now) }
-    requires short { length bytes.now < 2 ^ 32 }
+    requires place { (1 ≤ at) × IsPlaceIn bytes.now at }
     requires room { vec_len lists.old < at }
     ensures read { IfOk result (λ r. IsNodeRead bytes.now at r.at (leaf_in count (drop at bytes.now)) lists.old.items
         (outline r.node) lists.new.items) }
@@ -67,8 +66,7 @@ pub(crate) fn read_node(
     at: usize,
     lists: &mut Vec<NumberList>,
 ) -> Result<NodeAt, IndexFault>
-    requires place { at ≤ length bytes.now }
-    requires short { length bytes.now < 2 ^ 32 }
+    requires place { IsPlaceIn bytes.now at }
     requires room { vec_len lists.old ≤ at }
     ensures read { IfOk result (λ r. IsNodeRead bytes.now at r.at (node_in (bits_left word.now) count word.now (drop at bytes.now))
         lists.old.items (outline r.node) lists.new.items) }
@@ -120,8 +118,7 @@ fn read_child(
     at: usize,
     lists: &mut Vec<NumberList>,
 ) -> Result<ChildAt, IndexFault>
-    requires place { at ≤ length bytes.now }
-    requires short { length bytes.now < 2 ^ 32 }
+    requires place { IsPlaceIn bytes.now at }
     requires room { vec_len lists.old ≤ at }
     ensures read { IfOk result (λ r. IsNodeRead bytes.now at r.at
         (child_in there (node_in (bits_left word.now) count word.now) (drop at bytes.now))

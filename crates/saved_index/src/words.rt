@@ -1,8 +1,8 @@
 //! The full words of all series, by number. They are made once a series, in the order of the rows, by workers side by side, each for a
 //! stretch of the series.
-ghost use Rattle.std.specs.Prelude.{◌≡◌, ◌≤◌, IfOk, length};
+ghost use Rattle.std.specs.Prelude.{◌≡◌, ◌≤◌, IfOk};
 ghost use Rattle.std.specs.Thread.{IsSync};
-ghost use Rattle.saved_index.specs.Membership.{words_between};
+ghost use Rattle.saved_index.specs.Membership.{IsStretch, words_between};
 
 use isax_word::{Full, Layout};
 use outside::NoMemory;
@@ -18,9 +18,7 @@ pub(crate) fn words_in_turn<R: Rows>(
     from: u32,
     to: u32,
 ) -> Result<Vec<Full>, NoMemory>
-    requires length { layout.now.cuts.row_length ≡ (R.collection rows.now).points }
-    requires order { from ≤ to }
-    requires inside { to ≤ length (R.collection rows.now).series }
+    requires { IsStretch (R.collection rows.now) layout.now from to }
     ensures { IfOk result (λ words. words.items ≡ words_between (R.collection rows.now) layout.now from to) }
 {
     // for the fact that the rows are a collection
@@ -43,9 +41,7 @@ pub(crate) fn words_side_by_side<H: Threads + Sync, R: Rows + Sync>(
     to: u32,
     workers: u32,
 ) -> Result<Vec<Full>, NoMemory>
-    requires length { layout.now.cuts.row_length ≡ (R.collection rows.now).points }
-    requires order { from ≤ to }
-    requires inside { to ≤ length (R.collection rows.now).series }
+    requires { IsStretch (R.collection rows.now) layout.now from to }
     ensures { IfOk result (λ words. words.items ≡ words_between (R.collection rows.now) layout.now from to) }
 {
     if workers < 2 {
@@ -55,13 +51,11 @@ pub(crate) fn words_side_by_side<H: Threads + Sync, R: Rows + Sync>(
     let rest = workers - half;
     let mid = part_way(from, to, half, workers);
     let front = || -> Result<Vec<Full>, NoMemory>
-        requires { IsSync H.row × IsSync R.row × (layout.now.cuts.row_length ≡ (R.collection rows.now).points)
-            × (from ≤ mid) × (mid ≤ length (R.collection rows.now).series) }
+        requires { IsSync H.row × IsSync R.row × IsStretch (R.collection rows.now) layout.now from mid }
         ensures { IfOk result (λ words. words.items ≡ words_between (R.collection rows.entry.now) layout.entry.now from mid) }
     { words_side_by_side(rt, alloc, rows, layout, from, mid, half) };
     let back = || -> Result<Vec<Full>, NoMemory>
-        requires { IsSync H.row × IsSync R.row × (layout.now.cuts.row_length ≡ (R.collection rows.now).points)
-            × (mid ≤ to) × (to ≤ length (R.collection rows.now).series) }
+        requires { IsSync H.row × IsSync R.row × IsStretch (R.collection rows.now) layout.now mid to }
         ensures { IfOk result (λ words. words.items ≡ words_between (R.collection rows.entry.now) layout.entry.now mid to) }
     { words_side_by_side(rt, alloc, rows, layout, mid, to, rest) };
     let (low, high) = join(rt, front, back);

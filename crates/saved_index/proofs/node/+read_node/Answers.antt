@@ -69,7 +69,7 @@ read_node-read_child-requires t c =
     let divisible : (part_at word j).bits < 8 = omega arith in
     let fewer = bits_left-child word j false used divisible in (
       omega (arith, fewer, ap bits_left c.child-low_word.ensures, c.decreases),
-      (omega arith, (c.requires.short, omega (arith, c.requires.room))),
+      ((omega arith, c.requires.place.1), omega (arith, c.requires.room)),
     )
 
 pub read_node-returns-in-Err-clause-refused : goal.read_node-returns-in-Err-clause-refused
@@ -88,11 +88,8 @@ read_node-read_child-requires-2 t c =
     let read = c.in-Ok.ensures.read in (
       omega (arith, fewer, ap bits_left c.child-high_word.ensures, c.decreases),
       (
-        read.within,
-        (
-          c.requires.short,
-          omega (arith, read.fewer, c.requires.room, c.args.lists.now.ok.0, c.read_child.new.lists.ok.0),
-        ),
+        (read.within, c.requires.place.1),
+        omega (arith, read.fewer, c.requires.room, c.args.lists.now.ok.0, c.read_child.new.lists.ok.0),
       ),
     )
 
