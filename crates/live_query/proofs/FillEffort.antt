@@ -115,6 +115,15 @@ late_left g w l v = cond_both (is_new l w && nat_le (g.bound l) v) (scanned_by g
     (λ (p : Phase). phase_left p + 5 * length w.rest < 4 + 5 * length w.rest) (λ _. omega arith) (λ _. omega arith))
     (λ _. omega arith)
 
+-- a reply after which the worker has less before it leaves less, where the hand drew nothing
+by_reply : (g : Ground) (w : Worker) (h k : FillKept) (phase : Phase) (reply by : Reply) → w.phase ≡ phase → by ≡ reply
+    → roots_left g k ≡ roots_left g h → of (after_reply g w phase reply) < phase_left phase + 5 * length w.rest
+    → of (after_reply g w phase by) + roots_left g k < of w + roots_left g h
+by_reply g w h k phase reply by e lower same less =
+    let p = ap phase_left e in
+    let b = ap (λ (by : Reply). of (after_reply g w phase by)) lower in
+    omega arith
+
 -- a reply in the fill part leaves less, whatever lower limit the worker goes by
 reply_left : (g : Ground) (i : ℕ) (w : Worker) (h k : FillKept) (phase : Phase) (reply by : Reply)
     → fills phase ≡ true → w.phase ≡ phase → 0 < h.roots.size → h.roots.count ≡ length g.roots → Lowers reply by
@@ -135,15 +144,9 @@ reply_left g i w h k Look (Seen v) by f e some count lower d =
     let b = ap (λ (by : Reply). of (after_reply g w Look by)) went.1 in
     omega arith
 reply_left g i w h k (Give l) (PutTold Placed) by f e some count lower d =
-    let p = ap phase_left e in
-    let s = ap (roots_left g) d.2 in
-    let b = ap (λ (by : Reply). of (after_reply g w (Give l) by)) lower in
-    omega arith
+    by_reply g w h k (Give l) (PutTold Placed) by e lower (ap (roots_left g) d.2) (omega arith)
 reply_left g i w h k (Give l) (PutTold (Filled c)) by f e some count lower d =
-    let p = ap phase_left e in
-    let s = ap (roots_left g) d.2 in
-    let b = ap (λ (by : Reply). of (after_reply g w (Give l) by)) lower in
-    omega arith
+    by_reply g w h k (Give l) (PutTold (Filled c)) by e lower (ap (roots_left g) d.2) (omega arith)
 reply_left g i w h k (Late l) (Seen v) by f e some count lower d =
     let p = ap phase_left e in
     let went = went_by v by lower in
@@ -152,10 +155,7 @@ reply_left g i w h k (Late l) (Seen v) by f e some count lower d =
     let b = ap (λ (by : Reply). of (after_reply g w (Late l) by)) went.1 in
     omega arith
 reply_left g i w h k (Offer ToLook) (Offered v) by f e some count lower d =
-    let p = ap phase_left e in
-    let s = ap (roots_left g) d.1 in
-    let b = ap (λ (by : Reply). of (after_reply g w (Offer ToLook) by)) lower in
-    omega arith
+    by_reply g w h k (Offer ToLook) (Offered v) by e lower (ap (roots_left g) d.1) (omega arith)
 reply_left g i w h k (Offer (ToAim j)) reply by f e some count lower d = absurd (true≢false (sym f))
 reply_left g i w h k (Aim j) reply by f e some count lower d = absurd (true≢false (sym f))
 reply_left g i w h k (Pop j v) reply by f e some count lower d = absurd (true≢false (sym f))
