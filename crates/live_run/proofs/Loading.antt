@@ -14,7 +14,7 @@ use Rattle.run_traffic.specs.Named.{HoldsBytes}
 use Rattle.run_traffic.specs.Traffic.{EndsReading, Reading}
 use Rattle.run_traffic.proofs.Named.{absent_wider, blamed_open, failed_wider, held_as, opened_holds}
 use Rattle.live_run.specs.declared.status.LiveStatus.{LiveStatus}
-use Rattle.live_run.specs.declared.status.LiveStatus.TheVariants.{Done, Usage, Missing, ReadFault, Format, Mismatch, WriteFault, Memory, Script, Full}
+use Rattle.live_run.specs.declared.status.LiveStatus.TheVariants.{Missing, ReadFault, Memory}
 
 -- an error of a file that was opened is the cause of its status
 pub file_refused : (reading : Reading) (file : NamedFile) (at left : Option (List ℕ))
@@ -40,13 +40,7 @@ named_wider line whole part name P Q status ends shown = by_status status
     by_status (Missing l) x = (x.0, absent_wider whole part name ends x.1)
     by_status (ReadFault l) x = (x.0, failed_wider whole part name ends x.1)
     by_status Memory x = tt
-    by_status Done x = shown Done x
-    by_status Usage x = shown Usage x
-    by_status (Format l e) x = shown (Format l e) x
-    by_status (Mismatch l a b) x = shown (Mismatch l a b) x
-    by_status WriteFault x = shown WriteFault x
-    by_status (Script at) x = shown (Script at) x
-    by_status (Full b t) x = shown (Full b t) x
+    by_status s x = shown s x
 
 -- a refusal of a series file in the last part of a run is one in the whole of it
 pub file_wider : (whole part : Reading) (file : NamedFile) (status : LiveStatus) → EndsReading whole part

@@ -22,7 +22,7 @@ use Rattle.search_run.specs.declared.status.CertFault.{CertFault}
 use Rattle.search_run.specs.declared.status.Which.{Which}
 use Rattle.search_run.specs.declared.status.Which.TheVariants.{Certificate, Index as IndexFile}
 use Rattle.search_run.specs.declared.status.Status.{Status}
-use Rattle.search_run.specs.declared.status.Status.TheVariants.{Done, Usage, Missing, ReadFault, Format, Mismatch, Settings, WriteFault, Memory, Invalid, Index}
+use Rattle.search_run.specs.declared.status.Status.TheVariants.{Missing, ReadFault, Memory}
 
 -- an error of a file that was opened is the cause of its status
 pub file_refused : (w : Which) (reading : Reading) (name : List ℕ) (at left : Option (List ℕ)) (form : Form)
@@ -69,14 +69,7 @@ named_wider w whole part name P Q status kept less fewer later more blames shown
     by_status (Missing v) x = (x.0, absent_wider whole part name ends x.1)
     by_status (ReadFault v) x = (x.0, failed_wider whole part name ends x.1)
     by_status Memory x = tt
-    by_status Done x = shown Done x
-    by_status Usage x = shown Usage x
-    by_status (Format v e) x = shown (Format v e) x
-    by_status (Mismatch a b) x = shown (Mismatch a b) x
-    by_status (Settings v n) x = shown (Settings v n) x
-    by_status WriteFault x = shown WriteFault x
-    by_status (Invalid e) x = shown (Invalid e) x
-    by_status (Index e) x = shown (Index e) x
+    by_status s x = shown s x
 
 -- a refusal of a series file in a part of a run is one in the whole of it
 pub file_wider : (w : Which) (whole part : Reading) (name : List ℕ) (form : Form) (status : Status)
