@@ -1,5 +1,5 @@
 -- How a call ends: the number of each status, and the status with which it ends where a test fails or none does.
-use Rattle.std.specs.Prelude.{◌≡◌, ◌⊎◌, ℤ, pos, Bool, Option, None, Some, cond}
+use Rattle.std.specs.Prelude.{◌≡◌, ◌⊎◌, ℤ, pos, Bool, Option, None, Some, Result, Ok, Err, cond}
 use Rattle.isearch_c.specs.declared.status.Status.{Status}
 use Rattle.isearch_c.specs.declared.status.Status.TheVariants.{Done, NoIndex, HasIndex, WrongRows, WrongSettings, WrongQueries, WrongCount, WrongPlaces, WrongText, NoMemory}
 
@@ -15,6 +15,11 @@ code WrongCount = pos 6
 code WrongPlaces = pos 7
 code WrongText = pos 8
 code NoMemory = pos 9
+
+-- the number of the status with which work ends
+abbrev pub ended : {A : Type 0} → Result A Status → ℤ
+ended (Ok _) = code Done
+ended (Err status) = code status
 
 -- a call ends with the status of the first test that fails; where none fails it is done, or memory ran out
 abbrev pub EndsBy : Option Status → ℤ → Type 0

@@ -1,10 +1,10 @@
 //! Searching the index of a handle. Its one rule: the index is taken out of the handle for the search, and put back whatever came of it.
-ghost use Rattle.std.specs.Prelude.{◌≡◌, ◌≢◌, ◌⊎◌, IfOk, length, pos};
+ghost use Rattle.std.specs.Prelude.{◌≡◌, ◌≢◌, ◌⊎◌, IfErr, IfOk, length, pos};
 ghost use Rattle.series_core.specs.Answer.{within};
 ghost use Rattle.isearch_c.specs.Faults.{EndsWithin, first_fault, has_room, nearest_fault, nearest_tests, query_fault, within_fault};
 ghost use Rattle.isearch_c.specs.Found.{Hold, HoldFirst, all_nearest};
 ghost use Rattle.isearch_c.specs.Kept.{near_in, searched};
-ghost use Rattle.isearch_c.specs.Statuses.{EndsBy};
+ghost use Rattle.isearch_c.specs.Statuses.{EndsBy, code, ended};
 
 use crate::answers::{Ground, count_fits, places_fit, queries_fit, write};
 use crate::held::Searchable;
@@ -38,9 +38,16 @@ pub extern "C" fn isearch_nearest(
     let Some(held) = index.take(alloc) else {
         return Status::NoIndex.code();
     };
-    let status = nearest(&held.searchable, alloc, queries, k, distances, numbers);
+    let places = (distances.len(), numbers.len());
+    let found = nearest(&held.searchable, alloc, queries, k, places);
     *index = IsearchIndex::of(held);
-    status
+    match found {
+        Ok(pairs) => {
+            write(&pairs, distances, numbers);
+            Status::Done.code()
+        }
+        Err(status) => status.code(),
+    }
 }
 
 /// All rows whose squared distance to a query is at most the radius: nearer ones first, of two as near the one with the smaller number, and
@@ -69,42 +76,11 @@ pub extern "C" fn isearch_within(
     let Some(held) = index.take(alloc) else {
         return Status::NoIndex.code();
     };
-    let status = within(
-        &held.searchable,
-        alloc,
-        query,
-        radius,
-        distances,
-        numbers,
-        found,
-    );
+    let found_near = near_in(&held.searchable, alloc, query, radius);
     *index = IsearchIndex::of(held);
-    status
-}
-
-/// Tests what is asked of a collection, and then writes the rows that are within the radius.
-fn within(
-    searchable: &Searchable,
-    alloc: Global,
-    query: &[i16],
-    radius: u64,
-    distances: &mut [u64],
-    numbers: &mut [u32],
-    found: &mut usize,
-) -> i32
-    ensures ends { let c = searchable.now.rows in
-        EndsWithin (query_fault c.points (length query.now)) (within c query.now radius) distances.old numbers.old result }
-    ensures all { result ≡ pos 0 →
-        HoldFirst (within searchable.now.rows query.now radius) distances.old distances.new numbers.old numbers.new }
-    ensures kept { result ≢ pos 0 → (distances.new ≡ distances.old) × (numbers.new ≡ numbers.old) }
-    ensures told { (result ≡ pos 0) ⊎ (result ≡ pos 7) → found.new ≡ length (within searchable.now.rows query.now radius) }
-    ensures untold { result ≢ pos 0 → result ≢ pos 7 → found.new ≡ found.old }
-{
-    if query.len() != searchable.rows.length() as usize {
-        return Status::WrongQueries.code();
-    }
-    let Ok(near) = near_in(searchable, alloc, query, radius) else {
-        return Status::NoMemory.code();
+    let near = match found_near {
+        Ok(near) => near,
+        Err(status) => return status.code(),
     };
     *found = near.len();
     if !has_room(near.len(), distances.len(), numbers.len()) {
@@ -125,62 +101,62 @@ fn has_room(pairs: usize, distances: usize, numbers: usize) -> bool
     pairs <= distances && pairs <= numbers
 }
 
-/// All rows within a radius of a query, which is as long as a row.
+/// All rows of a collection within a radius of a query, or why it cannot be asked.
 fn near_in(
     searchable: &Searchable,
     alloc: Global,
     query: &[i16],
     radius: u64,
-) -> Result<Vec<Pair>, NoMemory>
-    requires { length query.now ≡ searchable.now.rows.points }
-    ensures { IfOk result (λ near. near.items ≡ within searchable.now.rows query.now radius) }
+) -> Result<Vec<Pair>, Status>
+    ensures ends { EndsBy (query_fault searchable.now.rows.points (length query.now)) (ended result) }
+    ensures found { IfOk result (λ near. near.items ≡ within searchable.now.rows query.now radius) }
+    ensures failed { IfErr result (λ s. code s ≢ pos 0 × (code s ≢ pos 7)) }
 {
+    if query.len() != searchable.rows.length() as usize {
+        return Err(Status::WrongQueries);
+    }
     let layout = &searchable.settings.layout;
-    within_alone(
-        alloc,
-        &searchable.rows,
-        &searchable.index,
-        layout,
-        query,
-        radius,
-    )
+    let (rows, index) = (&searchable.rows, &searchable.index);
+    match within_alone(alloc, rows, index, layout, query, radius) {
+        Ok(near) => Ok(near),
+        Err(NoMemory) => Err(Status::NoMemory),
+    }
 }
 
-/// Tests what is asked of a collection, and then writes the k nearest for each query.
+/// The k nearest rows of a collection for each query, filled up to k, or why they cannot be asked for or written: there are to be so many
+/// places for their distances and for their numbers.
 fn nearest(
     searchable: &Searchable,
     alloc: Global,
     queries: &[i16],
     k: u32,
-    distances: &mut [u64],
-    numbers: &mut [u32],
-) -> i32
-    ensures ends { let n = searchable.now.rows.points in
-        EndsBy (first_fault (nearest_tests n (length queries.now) k (length distances.old) (length numbers.old))) result }
-    ensures answers { result ≡ pos 0 →
-        Hold (all_nearest k searchable.now.rows queries.now) distances.new numbers.new }
-    ensures kept { result ≢ pos 0 → (distances.new ≡ distances.old) × (numbers.new ≡ numbers.old) }
+    places: (usize, usize),
+) -> Result<Vec<Pair>, Status>
+    ensures ends { let tests = nearest_tests searchable.now.rows.points (length queries.now) k in
+        EndsBy (first_fault (tests places.0 places.1)) (ended result) }
+    ensures found { IfOk result (λ pairs. pairs.items ≡ all_nearest k searchable.now.rows queries.now) }
+    ensures places { IfOk result (λ pairs. (places.0 ≡ length pairs.items) × (places.1 ≡ length pairs.items)) }
+    ensures failed { IfErr result (λ s. code s ≢ pos 0) }
 {
     // for the fact that the rows are a collection
     let length = searchable.rows.length();
     if !queries_fit(length, queries.len()) {
-        return Status::WrongQueries.code();
+        return Err(Status::WrongQueries);
     }
     if !count_fits(k) {
-        return Status::WrongCount.code();
+        return Err(Status::WrongCount);
     }
     let count = queries.len() / length as usize;
-    if !places_fit(count, k, distances.len(), numbers.len()) {
-        return Status::WrongPlaces.code();
+    if !places_fit(count, k, places.0, places.1) {
+        return Err(Status::WrongPlaces);
     }
     let ground = Ground {
         rows: &searchable.rows,
         layout: &searchable.settings.layout,
         index: &searchable.index,
     };
-    let Ok(pairs) = ground.nearest_to_all(alloc, k, queries) else {
-        return Status::NoMemory.code();
-    };
-    write(&pairs, distances, numbers);
-    Status::Done.code()
+    match ground.nearest_to_all(alloc, k, queries) {
+        Ok(pairs) => Ok(pairs),
+        Err(NoMemory) => Err(Status::NoMemory),
+    }
 }
