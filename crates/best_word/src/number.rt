@@ -11,6 +11,7 @@ use crate::pass::WordPass;
 use crate::rule::{Falling, Gather, Load, Min, Opening, Part, Terms, View};
 use atomic_table::{Seat, Table};
 use outside::NoMemory;
+use search_limits::MOST_WORKERS;
 use std::alloc::Global;
 use std::marker::{Brand, Model};
 use table_passes::close;
@@ -70,7 +71,7 @@ impl BestWord {
         start: u64,
         callers: u32,
     ) -> Result<(BestWord, Vec<WordPass>), NoMemory>
-        requires callers { (1 ≤ callers) × (callers ≤ 64) }
+        requires callers { (1 ≤ callers) × (callers ≤ MOST_WORKERS) }
         requires floor { T.floor task.now ≤ start }
         ensures start { IfOk result (λ r. r.0.start ≡ start) }
         ensures callers { IfOk result (λ r. r.0.callers ≡ callers) }

@@ -9,6 +9,7 @@ use Rattle.isax_word.specs.declared.layout.Layout.{Layout}
 use Rattle.search_task.specs.Questions.{Question}
 use Rattle.certificate.specs.declared.block.Block.{Block}
 use Rattle.certificate.specs.Printed.{Certifies, search_in}
+use Rattle.series_core.specs.declared.best.TheConstants.{MAX_BEST}
 
 -- what is asked: the k nearest of these series, which may have labels, to each of these queries, with words by this layout
 pub record Asked : Type 0 where
@@ -23,7 +24,7 @@ pub record IsAsked (x : Asked) : Type 0 where
   pub rows : IsCollection x.rows
   pub queries : IsCollection x.queries
   pub some_rank : 0 < x.k
-  pub few_ranks : x.k ≤ 1024
+  pub few_ranks : x.k ≤ MAX_BEST
   pub cuts : IsDivision x.layout.cuts
   pub row_length : x.rows.points ≡ x.layout.cuts.row_length
   pub query_length : x.queries.points ≡ x.layout.cuts.row_length

@@ -14,6 +14,8 @@ use Rattle.certificate.specs.declared.error.CertError.TheVariants.{Line, NoMemor
 use Rattle.certificate.specs.declared.block.Said.{Said}
 use Rattle.certificate.specs.declared.block.Said.TheVariants.{Scanned, Bound}
 use Rattle.certificate.specs.Spelling.{file_lines, file_text}
+use Rattle.search_limits.specs.declared.numbers.TheConstants.{MOST_QUEUES}
+use Rattle.series_core.specs.declared.best.TheConstants.{MAX_BEST}
 
 -- a pair whose numbers may be spelled
 pub record IsPair (p : Pair) : Type 0 where
@@ -43,13 +45,13 @@ pub record IsLeafLine (segments : ℕ) (leaf : LeafLine) : Type 0 where
 
 -- A block has at most 1024 answers, one label for each or no label at all, 1 to 64 queues and at most 2^32 leaves.
 pub record IsBlock (segments : ℕ) (labelled : Bool) (b : Block) : Type 0 where
-  pub few_answers : length b.answers ≤ 1024
+  pub few_answers : length b.answers ≤ MAX_BEST
   pub answers : AllByRecursion IsPair b.answers
   pub labels_size : length b.labels ≡ (if labelled then length b.answers else 0)
   pub labels : AllByRecursion (λ label. label < 2 ^ 64) b.labels
   pub start : IfSome b.start IsStart
   pub some_queue : 1 ≤ length b.lines
-  pub few_queues : length b.lines ≤ 64
+  pub few_queues : length b.lines ≤ MOST_QUEUES
   pub queues : AllByRecursion (AllByRecursion IsEntry) b.lines
   pub few_leaves : length b.leaves ≤ 2 ^ 32
   pub leaves : AllByRecursion (IsLeafLine segments) b.leaves

@@ -10,6 +10,8 @@ use Rattle.certificate.specs.declared.reader.Stage.{Stage}
 use Rattle.certificate.specs.declared.reader.Stage.TheVariants.{Between, Answers, Lines}
 use Rattle.certificate.specs.Fields.{◌>>=◌}
 use Rattle.certificate.specs.LineForms.{query_of, answer_of, start_of, queue_of, leaf_of}
+use Rattle.search_limits.specs.declared.numbers.TheConstants.{MOST_QUEUES}
+use Rattle.series_core.specs.declared.best.TheConstants.{MAX_BEST}
 
 -- the finished blocks, what is read next, and the open block as far as it is read
 pub record Reading : Type 0 where
@@ -93,7 +95,7 @@ query_step r line =
 -- an answer goes to the answers, of which there are at most 1024
 unfoldable pub answer_step : Bool → Reading → List ℕ → Option Reading
 answer_step labelled r line =
-    where_holds (nat_lt (length r.block.answers) 1024)
+    where_holds (nat_lt (length r.block.answers) MAX_BEST)
     (answer_of labelled (length r.block.answers + 1) line >>= λ x. Some (with_answer r x))
 
 -- the start
@@ -103,7 +105,7 @@ start_step r line = start_of line >>= λ start. Some (with_start r start)
 -- a queue goes to the queues, of which there are at most 64, where there is no leaf yet
 unfoldable pub queue_step : Reading → List ℕ → Option Reading
 queue_step r line =
-    where_holds (length r.block.leaves == 0 && nat_lt (length r.block.lines) 64)
+    where_holds (length r.block.leaves == 0 && nat_lt (length r.block.lines) MOST_QUEUES)
     (queue_of (length r.block.lines) line >>= λ entries. Some (with_queue r entries))
 
 -- a leaf goes to the leaves, of which there are at most 2^32, where there is a queue

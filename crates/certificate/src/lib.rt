@@ -15,6 +15,7 @@ mod printing;
 mod reader;
 mod tail;
 mod text;
+mod tuning;
 mod words;
 
 pub use block::{Block, EntryLists, LeafLine, LeafLineList, Said};

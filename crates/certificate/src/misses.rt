@@ -11,11 +11,9 @@ ghost use Rattle.certificate.specs.Verdict.{misses_refusal, is_missed, is_before
 use crate::block::Block;
 use crate::checking::last_answer;
 use crate::error::Reject;
+use crate::tuning::SERIES_OF_GROUP;
 use series_core::{NONE, Pair, Rows, values_fit};
 use simd_distance::distance_within;
-
-// How many series are compared with all queries before the next ones are: few enough to stay near the processor.
-const GROUP: u32 = 128;
 
 /// Whether some block misses a series, by one walk over the series. Where none does, no test of a block for missed series
 /// fails. There is one block a query.
@@ -26,9 +24,9 @@ pub fn is_any_missed<R: Rows, Q: Rows>(rows: &R, queries: &Q, k: u32, blocks: &[
     ensures { result ≡ false → MissNone (R.collection rows.now) (Q.collection queries.now) k blocks.now }
 {
     let count = rows.count();
-    for group in 0..count.div_ceil(GROUP) {
-        let first = group * GROUP;
-        let end = first + GROUP.min(count - first);
+    for group in 0..count.div_ceil(SERIES_OF_GROUP) {
+        let first = group * SERIES_OF_GROUP;
+        let end = first + SERIES_OF_GROUP.min(count - first);
         if is_group_missed(rows, queries, k, blocks, first, end) {
             return true;
         }

@@ -6,7 +6,8 @@ ghost use Rattle.certificate.specs.Reading.{reading_of, nothing_read, empty_bloc
 use crate::block::{Block, EntryLists, LeafLineList};
 use crate::line::{answer, leaf, query, queue, start};
 use outside::NoMemory;
-use series_core::{LabelList, Listed, PairList};
+use search_limits::MOST_QUEUES;
+use series_core::{LabelList, Listed, MAX_BEST, PairList};
 use std::alloc::Global;
 use std::mem;
 
@@ -137,7 +138,7 @@ impl Reader {
         ensures { Takes result (reading_of self.old) (reading_of self.new) (answer_step labelled (reading_of self.old) line.now) }
     {
         let count = self.block.pairs().len() as u64;
-        if count >= 1024 {
+        if count >= u64::from(MAX_BEST) {
             return Ok(false);
         }
         let Some((pair, label)) = answer(line, labelled, count + 1) else {
@@ -185,7 +186,7 @@ impl Reader {
         ensures { Takes result (reading_of self.old) (reading_of self.new) (queue_step (reading_of self.old) line.now) }
     {
         let count = self.block.queue_count();
-        if !self.block.leaf_lines().is_empty() || count >= 64 {
+        if !self.block.leaf_lines().is_empty() || count >= u64::from(MOST_QUEUES) {
             return Ok(false);
         }
         let Some(entries) = queue(alloc, line, count)? else {

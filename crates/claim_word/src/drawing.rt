@@ -7,6 +7,7 @@ use crate::pass::ClaimPass;
 use crate::rule::{Counted, Draw, Gather, Part, Terms, View};
 use atomic_table::Table;
 use outside::NoMemory;
+use search_limits::MOST_WORKERS;
 use std::alloc::Global;
 use std::marker::Model;
 use table_passes::close;
@@ -38,7 +39,7 @@ impl Model for Claims {
 impl Claims {
     /// A counter over the numbers below `n`, at most 2^32, with one fresh pass for each of the 1 to 64 callers.
     pub fn begin(alloc: Global, n: u64, callers: u32) -> Result<(Claims, Vec<ClaimPass>), NoMemory>
-        requires callers { (1 ≤ callers) × (callers ≤ 64) }
+        requires callers { (1 ≤ callers) × (callers ≤ MOST_WORKERS) }
         requires n { n ≤ 2 ^ 32 }
         ensures count { IfOk result (λ r. r.0.count ≡ n) }
         ensures callers { IfOk result (λ r. r.0.callers ≡ callers) }

@@ -8,7 +8,9 @@ use Rattle.clap.specs.declared.parser.matches.ArgMatches.{ArgMatches}
 use Rattle.breakpoints.specs.declared.table.Table.{Table}
 use Rattle.breakpoints.specs.declared.table.Table.TheVariants.{Flat, Bent}
 use Rattle.command_words.specs.Number.{number_within}
-use Rattle.command_words.specs.declared.limits.TheConstants.{MOST_APART, MOST_LEAF, MOST_NEAREST, MOST_POINTS, MOST_QUEUES, MOST_SEGMENTS, MOST_WORKERS}
+use Rattle.search_limits.specs.declared.numbers.TheConstants.{MOST_APART, MOST_LEAF, MOST_QUEUES, MOST_SEGMENTS, MOST_WORKERS}
+use Rattle.series_core.specs.declared.best.TheConstants.{MAX_BEST}
+use Rattle.series_core.specs.declared.rows.TheConstants.{MAX_LENGTH}
 use Rattle.command_words.specs.declared.limits.TheConstants.{USUAL_LEAF, USUAL_QUEUES, USUAL_WORKERS}
 use Rattle.command_words.specs.declared.options.Options.{Options}
 
@@ -43,13 +45,13 @@ is_set given = option_map_or (λ text. bytes_eq text (codes "true")) given false
 
 -- the matches have these options
 pub record HasOptions (rows : List Row) (o : Options) : Type 0 where
-  pub k : number_or 1 MOST_NEAREST 1 (first_of (codes "k") rows) ≡ Some o.k
+  pub k : number_or 1 MAX_BEST 1 (first_of (codes "k") rows) ≡ Some o.k
   pub segments : number_if 1 MOST_SEGMENTS (first_of (codes "segments") rows) ≡ Some o.segments
   pub leaf : number_or 1 MOST_LEAF USUAL_LEAF (first_of (codes "leaf") rows) ≡ Some o.leaf
   pub workers : number_or 1 MOST_WORKERS USUAL_WORKERS (first_of (codes "workers") rows) ≡ Some o.workers
   pub queues : number_or 1 MOST_QUEUES USUAL_QUEUES (first_of (codes "queues") rows) ≡ Some o.queues
   pub table : table_named (first_of (codes "breaks") rows) ≡ Some o.table
-  pub raw : number_if 1 MOST_POINTS (first_of (codes "raw") rows) ≡ Some o.raw
+  pub raw : number_if 1 MAX_LENGTH (first_of (codes "raw") rows) ≡ Some o.raw
   pub certificate : is_set (first_of (codes "certificate") rows) ≡ o.certificate
   pub sealed : is_set (first_of (codes "sealed") rows) ≡ o.sealed
   pub index : first_of (codes "index") rows ≡ o.index

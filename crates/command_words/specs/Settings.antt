@@ -8,7 +8,9 @@ use Rattle.command_words.specs.declared.command.Command.{Command}
 use Rattle.command_words.specs.declared.command.Command.TheVariants.{Nearest, Range, Verify, Trial}
 use Rattle.command_words.specs.declared.command.Command.TheVariants.{Convert, Save}
 use Rattle.command_words.specs.declared.command.Command.TheVariants.{Windows, Discord}
-use Rattle.command_words.specs.declared.limits.TheConstants.{MOST_NEAREST, MOST_POINTS, MOST_QUERIES, MOST_RADIUS, MOST_SERIES, MOST_VALUES}
+use Rattle.command_words.specs.declared.limits.TheConstants.{MOST_QUERIES, MOST_RADIUS}
+use Rattle.series_core.specs.declared.best.TheConstants.{MAX_BEST}
+use Rattle.series_core.specs.declared.rows.TheConstants.{MAX_COUNT, MAX_LENGTH, MAX_VALUES}
 use Rattle.command_words.specs.declared.name.CommandName.{CommandName}
 use Rattle.command_words.specs.declared.name.CommandName.TheVariants as name
 use Rattle.command_words.specs.declared.options.Options.{Options}
@@ -60,14 +62,14 @@ HasWords rows (Verify series queries certificate options) = HasText (codes "DATA
     × HasText (codes "QUERIES") rows queries × HasText (codes "CERTIFICATE") rows certificate
 HasWords rows (Trial seed count length queries options) =
     HasNumber (codes "SEED") 0 18446744073709551615 rows seed
-    × HasNumber (codes "COUNT") 0 MOST_SERIES rows count
-    × HasNumber (codes "LENGTH") 1 MOST_POINTS rows length
-    × HasNumber (codes "QUERIES") 0 MOST_QUERIES rows queries × (count * length ≤ MOST_VALUES)
+    × HasNumber (codes "COUNT") 0 MAX_COUNT rows count
+    × HasNumber (codes "LENGTH") 1 MAX_LENGTH rows length
+    × HasNumber (codes "QUERIES") 0 MOST_QUERIES rows queries × (count * length ≤ MAX_VALUES)
 HasWords rows (Convert series options) = HasText (codes "DATA") rows series
 HasWords rows (Save series options) = HasText (codes "DATA") rows series
 HasWords rows (Windows series queries step options) = HasText (codes "SERIES") rows series
     × HasText (codes "QUERIES") rows queries
-    × HasNumber (codes "STEP") 1 MOST_SERIES rows step × (windows_needed options ≤ MOST_NEAREST)
+    × HasNumber (codes "STEP") 1 MAX_COUNT rows step × (windows_needed options ≤ MAX_BEST)
 HasWords rows (Discord series options) = HasText (codes "DATA") rows series
 
 -- the matches have all that the command holds

@@ -18,10 +18,7 @@ mod text;
 pub use command::Command;
 pub use error::WordsError;
 pub use laws::one_command_law;
-pub use limits::{
-    MOST_LEAF, MOST_NEAREST, MOST_POINTS, MOST_QUERIES, MOST_QUEUES, MOST_SEGMENTS, MOST_SERIES,
-    MOST_VALUES, MOST_WORKERS, USUAL_LEAF,
-};
+pub use limits::{MOST_QUERIES, USUAL_LEAF};
 pub use options::Options;
 pub use parse::parse_words;
 pub use text::Text;

@@ -7,13 +7,12 @@ ghost use Rattle.command_words.specs.declared.options.Options.{Options};
 
 use crate::error::WordsError;
 use crate::given::{is_flag_set, number_if, number_or, table_named, text_if};
-use crate::limits::{
-    MOST_APART, MOST_LEAF, MOST_NEAREST, MOST_POINTS, MOST_QUEUES, MOST_SEGMENTS, MOST_WORKERS,
-    USUAL_LEAF, USUAL_QUEUES, USUAL_WORKERS,
-};
+use crate::limits::{USUAL_LEAF, USUAL_QUEUES, USUAL_WORKERS};
 use crate::text::Text;
 use breakpoints::Table;
 use clap::ArgMatches;
+use search_limits::{MOST_APART, MOST_LEAF, MOST_QUEUES, MOST_SEGMENTS, MOST_WORKERS};
+use series_core::{MAX_BEST, MAX_LENGTH};
 use std::alloc::Global;
 
 /// The options of a command. One that the command does not have holds its value for absence.
@@ -59,13 +58,13 @@ fn options_with(matches: &ArgMatches<'_>, index: Option<Text>) -> Option<Options
     ensures some { IfSome result (HasOptions (rows matches.now)) }
     ensures none { result ≡ None → (o : Options) → HasOptions (rows matches.now) o → ⊥ }
 {
-    let k = number_or(matches, "k", 1, MOST_NEAREST, 1)?;
+    let k = number_or(matches, "k", 1, MAX_BEST, 1)?;
     let segments = number_if(matches, "segments", 1, MOST_SEGMENTS)?;
     let leaf = number_or(matches, "leaf", 1, MOST_LEAF, USUAL_LEAF)?;
     let workers = number_or(matches, "workers", 1, MOST_WORKERS, USUAL_WORKERS)?;
     let queues = number_or(matches, "queues", 1, MOST_QUEUES, USUAL_QUEUES)?;
     let table = table_named(matches, "breaks")?;
-    let raw = number_if(matches, "raw", 1, MOST_POINTS)?;
+    let raw = number_if(matches, "raw", 1, MAX_LENGTH)?;
     let apart = number_or(matches, "apart", 1, MOST_APART, 1)?;
     Some(Options {
         k,

@@ -10,13 +10,12 @@ ghost use Rattle.command_words.specs.declared.command.Command.{Command};
 use crate::command::Command;
 use crate::error::WordsError;
 use crate::given::{given, is_flag_set, long_number_at, number_at, text_at};
-use crate::limits::{
-    MOST_NEAREST, MOST_POINTS, MOST_QUERIES, MOST_RADIUS, MOST_SERIES, MOST_VALUES,
-};
+use crate::limits::{MOST_QUERIES, MOST_RADIUS};
 use crate::matching::matches_of;
 use crate::name::CommandName;
 use crate::options::{Options, options_of};
 use clap::ArgMatches;
+use series_core::{MAX_BEST, MAX_COUNT, MAX_LENGTH, MAX_VALUES};
 use std::alloc::Global;
 
 /// Whether `--index` stands beside an option that a saved index has settled, or `--certificate`.
@@ -53,10 +52,10 @@ fn trial(matches: &ArgMatches<'_>, options: Options) -> Result<Command, WordsErr
     ensures usage { result ≡ Err WordsError.Usage → FitsNone CommandName.Trial (rows matches.now) }
 {
     let seed = long_number_at(matches, "SEED", 0, u64::MAX).ok_or(WordsError::Usage)?;
-    let count = number_at(matches, "COUNT", 0, MOST_SERIES).ok_or(WordsError::Usage)?;
-    let length = number_at(matches, "LENGTH", 1, MOST_POINTS).ok_or(WordsError::Usage)?;
+    let count = number_at(matches, "COUNT", 0, MAX_COUNT).ok_or(WordsError::Usage)?;
+    let length = number_at(matches, "LENGTH", 1, MAX_LENGTH).ok_or(WordsError::Usage)?;
     let queries = number_at(matches, "QUERIES", 0, MOST_QUERIES).ok_or(WordsError::Usage)?;
-    if u64::from(count) * u64::from(length) > MOST_VALUES {
+    if u64::from(count) * u64::from(length) > u64::from(MAX_VALUES) {
         return Err(WordsError::Usage);
     }
     Ok(Command::Trial {
@@ -75,13 +74,13 @@ fn windows(alloc: Global, matches: &ArgMatches<'_>, options: Options) -> Result<
     ensures ok { IfOk result (FitsAs CommandName.Windows (rows matches.now)) }
     ensures usage { result ≡ Err WordsError.Usage → FitsNone CommandName.Windows (rows matches.now) }
 {
-    if options.windows_needed() > MOST_NEAREST {
+    if options.windows_needed() > MAX_BEST {
         return Err(WordsError::Usage);
     }
     Ok(Command::Windows {
         series: text_at(alloc, matches, "SERIES")?,
         queries: text_at(alloc, matches, "QUERIES")?,
-        step: number_at(matches, "STEP", 1, MOST_SERIES).ok_or(WordsError::Usage)?,
+        step: number_at(matches, "STEP", 1, MAX_COUNT).ok_or(WordsError::Usage)?,
         options,
     })
 }

@@ -7,6 +7,7 @@ use Rattle.subtree_build.specs.Fits.{Fits}
 use Rattle.subtree_build.specs.Members.{series_at}
 use Rattle.discord_query.specs.Discords.{least_farness}
 use Rattle.discord_query.specs.declared.search.Search.{Search}
+use Rattle.series_core.specs.declared.best.TheConstants.{MAX_BEST}
 
 -- the index fits the rows under the layout, all of one length; some discords are wanted, and a group has a series
 pub record IsReady {R : Type 0} (collection : R → Collection) (s : Search R) : Type 0 where
@@ -14,7 +15,7 @@ pub record IsReady {R : Type 0} (collection : R → Collection) (s : Search R) :
   pub fits : Fits (collection s.rows.now) s.layout.now s.index.now
   pub points : (collection s.rows.now).points ≡ s.layout.now.cuts.row_length
   pub some : 1 ≤ s.k
-  pub few : s.k ≤ 1024
+  pub few : s.k ≤ MAX_BEST
   pub size : 1 ≤ s.size
 
 -- another series than number s, at most this far from it

@@ -15,7 +15,8 @@ use claim_word::Claims;
 use isax_word::Layout;
 use list_team::{dismiss, hire};
 use outside::{Gate, NoMemory};
-use series_core::{KBest, NONE, Pair, Rows};
+use search_limits::MOST_WORKERS;
+use series_core::{KBest, MAX_BEST, NONE, Pair, Rows};
 use std::alloc::Global;
 use std::thread::Threads;
 use subtree_build::Index;
@@ -35,8 +36,8 @@ pub fn discord<T: Threads + Sync, R: Rows + Sync, G: Gate + Sync>(
 ) -> Result<DiscordList, NoMemory>
     requires fits { Fits (R.collection rows.now) layout.now index.now }
     requires length { (R.collection rows.now).points ≡ layout.now.cuts.row_length }
-    requires k { (1 ≤ k) × (k ≤ 1024) }
-    requires workers { (1 ≤ workers) × (workers ≤ 64) }
+    requires k { (1 ≤ k) × (k ≤ MAX_BEST) }
+    requires workers { (1 ≤ workers) × (workers ≤ MOST_WORKERS) }
     ensures { IfOk result (λ ds. ds ≡ discords (R.collection rows.now) k) }
 {
     let homes = homes_of(alloc, index, rows.count())?;
@@ -61,7 +62,7 @@ fn by_team<T: Threads + Sync, R: Rows + Sync, G: Gate + Sync>(
     gate: &G,
 ) -> Result<KBest, NoMemory>
     requires ready { IsReady R.collection search.now }
-    requires workers { (1 ≤ workers) × (workers ≤ 64) }
+    requires workers { (1 ≤ workers) × (workers ≤ MOST_WORKERS) }
     ensures { IfOk result (λ all. all.pairs ≡ top (R.collection search.now.rows.now) search.now.k) }
 {
     let (best, words) = BestWord::begin(alloc, search, NONE, workers)?;

@@ -5,11 +5,12 @@ ghost use Rattle.discord_query.specs.Searches.{IsReady};
 
 use crate::search::Search;
 use crate::tuning::{GROUPS_OF_WORKER, SERIES_OF_GROUP};
+use search_limits::MOST_WORKERS;
 use series_core::Rows;
 
 /// How many series a group has, but for the last: fewer where so many workers would else have little to draw.
 pub(crate) fn group_size(count: u32, workers: u32) -> u32
-    requires { (1 ≤ workers) × (workers ≤ 64) }
+    requires { (1 ≤ workers) × (workers ≤ MOST_WORKERS) }
     ensures { 1 ≤ result }
 {
     (count / (GROUPS_OF_WORKER * workers)).clamp(1, SERIES_OF_GROUP)

@@ -1,8 +1,6 @@
 //! The series that were near others last, which are tried first. Nobody believes them: each is measured again.
+use crate::tuning::RECENT_SERIES;
 use mean_bound::Means;
-
-/// How many are remembered.
-pub(crate) const RECENT: usize = 12;
 
 /// A number that no series has.
 const NOBODY: u32 = u32::MAX;
@@ -27,25 +25,25 @@ impl Known {
 /// The series that were near others last, the latest first.
 #[derive(Drop)]
 pub(crate) struct Recent {
-    series: [Known; RECENT],
+    series: [Known; RECENT_SERIES],
 }
 
 impl Recent {
     /// Nothing is remembered yet.
     pub fn new() -> Recent {
         Recent {
-            series: [Known::nobody(); RECENT],
+            series: [Known::nobody(); RECENT_SERIES],
         }
     }
 
-    /// The series at a place, below `RECENT`; none where nothing is remembered there.
+    /// The series at a place, below `RECENT_SERIES`; none where nothing is remembered there.
     pub fn at(&self, place: usize) -> Known {
         self.series.get(place).copied().unwrap_or(Known::nobody())
     }
 
-    /// Puts a series first; those before this place, below `RECENT`, move back by one.
+    /// Puts a series first; those before this place, below `RECENT_SERIES`, move back by one.
     pub fn put_first(&mut self, place: usize, known: Known) {
-        for to in (1..RECENT).rev() {
+        for to in (1..RECENT_SERIES).rev() {
             if to <= place {
                 self.series[to] = self.series[to - 1];
             }

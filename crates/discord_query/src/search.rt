@@ -5,7 +5,8 @@ ghost use Rattle.std.specs.Option.{option_to_list};
 ghost use Rattle.discord_query.specs.Discords.{farness_of, is_other, other, least_farness};
 ghost use Rattle.discord_query.specs.Searches.{IsNear, IsReady};
 
-use crate::recent::{Known, RECENT, Recent};
+use crate::recent::{Known, Recent};
+use crate::tuning::{LEAVES_AROUND, RECENT_SERIES};
 use best_word::Floor;
 use isax_word::Layout;
 use mean_bound::{MeanBox, MeanView, Means};
@@ -15,9 +16,6 @@ use series_core::{NONE, Pair, Rows};
 use simd_distance::distance_within;
 use std::alloc::Global;
 use subtree_build::Index;
-
-/// How many leaves on each side are looked through before a series is searched for its nearest other.
-const REACH: u32 = 8192;
 
 /// What all workers search: rows, their index, the leaf of each series, how many discords are wanted, and how many series a worker takes
 /// at a time.
@@ -89,7 +87,7 @@ impl<'a, R: Rows> Search<'a, R> {
         };
         let nearer = NONE - limit - 1;
         let view = self.view(number);
-        for place in 0..RECENT {
+        for place in 0..RECENT_SERIES {
             let known = recent.at(place);
             if view.bound(&known.means) <= nearer && self.is_near(number, known.number, nearer) {
                 recent.put_first(place, known);
@@ -99,7 +97,7 @@ impl<'a, R: Rows> Search<'a, R> {
         let Some(other) = self.near_other(number, &view, home, nearer) else {
             return false;
         };
-        recent.put_first(RECENT - 1, self.known(other));
+        recent.put_first(RECENT_SERIES - 1, self.known(other));
         true
     }
 
@@ -121,7 +119,7 @@ impl<'a, R: Rows> Search<'a, R> {
         requires number { number < length (R.collection self.now.rows.now).series }
         ensures { IfSome result (λ t. IsNear (R.collection self.now.rows.now) number t radius) }
     {
-        for step in 0..REACH.min(self.index.leaf_count()) {
+        for step in 0..LEAVES_AROUND.min(self.index.leaf_count()) {
             if let Some(other) = self.near_in(number, view, home.wrapping_add(step), radius) {
                 return Some(other);
             }

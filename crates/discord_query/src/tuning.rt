@@ -8,3 +8,9 @@ pub(crate) const SERIES_OF_GROUP: u32 = 16;
 /// How many groups there are for each worker, at least, where there are as many series: so that all have work, and the last that is drawn is
 /// an eighth of a worker's share at most.
 pub(crate) const GROUPS_OF_WORKER: u32 = 8;
+
+/// How many leaves on each side of its own are looked through before a series is searched for its nearest other.
+pub(crate) const LEAVES_AROUND: u32 = 8192;
+
+/// How many of the series that were near others last are remembered, and tried first.
+pub(crate) const RECENT_SERIES: usize = 12;

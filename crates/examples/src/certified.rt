@@ -10,7 +10,7 @@ use isax_word::Layout;
 use outside::{NoGate, NoMemory};
 use query_core::{Task, one_worker};
 use run_traffic::push_line;
-use series_core::{Pair, PairList, Rows};
+use series_core::{MAX_BEST, Pair, PairList, Rows};
 use std::alloc::Global;
 use std::thread::Threads;
 use subtree_build::{Settings, build};
@@ -35,7 +35,7 @@ pub fn written<T: Threads + Sync, R: Rows + Sync>(
 ) -> Result<Vec<u8>, NoMemory>
     requires rows { (R.collection rows.now).points ≡ settings.now.layout.cuts.row_length }
     requires length { length query.now ≡ settings.now.layout.cuts.row_length }
-    requires k { (1 ≤ k) × (k ≤ 1024) }
+    requires k { (1 ≤ k) × (k ≤ MAX_BEST) }
     ensures { let x = asked (R.collection rows.now) query.now k settings.now.layout in
         IfOk result (λ text. IsWritten x settings.now.leaf_size query.now text.items) }
 {
@@ -100,7 +100,7 @@ pub fn checked<R: Rows, Q: Rows>(
 ) -> Result<Vec<Block>, Refusal>
     requires rows { (R.collection rows.now).points ≡ layout.now.cuts.row_length }
     requires queries { (Q.collection queries.now).points ≡ layout.now.cuts.row_length }
-    requires k { (1 ≤ k) × (k ≤ 1024) }
+    requires k { (1 ≤ k) × (k ≤ MAX_BEST) }
     ensures { IfOk result (λ blocks.
         HaveAnswers (R.collection rows.now) (Q.collection queries.now) k blocks.items) }
 {

@@ -5,7 +5,7 @@ ghost use Rattle.series_core.specs.Answer.{answer};
 use breakpoints::Table;
 use nearest_answer::{Task, one_worker_answer};
 use outside::{NoGate, NoMemory};
-use series_core::{PairList, Rows};
+use series_core::{MAX_BEST, PairList, Rows};
 use std::alloc::Global;
 use std::thread::Threads;
 use subtree_build::{Settings, build};
@@ -19,7 +19,7 @@ pub fn nearest<T: Threads + Sync, R: Rows + Sync>(
     k: u32,
 ) -> Result<PairList, NoMemory>
     requires length { length query.now ≡ (R.collection rows.now).points }
-    requires k { (1 ≤ k) × (k ≤ 1024) }
+    requires k { (1 ≤ k) × (k ≤ MAX_BEST) }
     ensures { IfOk result (λ pairs. pairs ≡ answer (R.collection rows.now) query.now k) }
 {
     let length = rows.length();

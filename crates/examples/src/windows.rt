@@ -6,7 +6,7 @@ ghost use Rattle.window_rows.specs.Windows.{collection_of, HasFewValues};
 
 use crate::nearest::nearest;
 use outside::NoMemory;
-use series_core::PairList;
+use series_core::{MAX_BEST, MAX_LENGTH, PairList};
 use std::alloc::Global;
 use std::thread::Threads;
 use window_rows::{Windows, choose, enough_law};
@@ -21,10 +21,10 @@ pub fn apart<T: Threads + Sync>(
     k: u32,
     apart: u32,
 ) -> Result<PairList, NoMemory>
-    requires length { (1 ≤ length query.now) × (length query.now ≤ 65536) }
+    requires length { (1 ≤ length query.now) × (length query.now ≤ MAX_LENGTH) }
     requires few { HasFewValues series.now }
     requires apart { (1 ≤ apart) × (apart ≤ 512) }
-    requires k { (1 ≤ k) × (enough apart k ≤ 1024) }
+    requires k { (1 ≤ k) × (enough apart k ≤ MAX_BEST) }
     ensures { let c = collection_of series.now (length query.now) 1 in
         IfOk result (λ found. found ≡ chosen_apart apart (answer c query.now (length c.series)) k) }
 {

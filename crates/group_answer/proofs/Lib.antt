@@ -1,4 +1,3 @@
 -- The lemmas of this crate.
 mod Limits
-mod Scanned
 mod Sweeps

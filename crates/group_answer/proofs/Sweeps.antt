@@ -1,14 +1,14 @@
--- Queries as they are swept: each member is met by its code (`are_codes`, `far_by_codes`) or measured (`met_more`); a query that has met
--- all members has its answer (`answer_swept`).
+-- Queries as they are swept: each member is met by its code (`codes_for_view`, `far_of_several`) or measured (`met_more`); a query that has
+-- met all members has its answer (`answer_swept`).
 use Rattle.std.proofs.Common.{◌≡◌, ◌∙◌, ◌+◌, ◌*◌, ◌<◌, ◌≤◌, Bool, false, ℕ, ℤ, List, [], ◌∷◌, ◌++◌, ap, get_or, length, refl, subst, sym, take, drop, arith}
-use Rattle.std.specs.Prelude.{None, Option, Some, flat_map, is_some, leb, option_map, true}
+use Rattle.std.specs.Prelude.{None, Option, Some, flat_map, is_some, leb, option_map, slice_index_or, true}
 use Rattle.std.specs.Borrow.{Bor}
 use Rattle.std.proofs.lemmas.List.{get_or_default, get_or-map, map_more, take_all}
 use Rattle.std.proofs.lemmas.List.Elements.{All-get_or}
 use Rattle.std.proofs.lemmas.Bool.{false≢true, leb-false}
 use Rattle.std.proofs.lemmas.Option.{none-some}
 use Rattle.isax_word.specs.declared.member.Member.{Member}
-use Rattle.row_codes.specs.Bound.{AreCodesFor, code_bound}
+use Rattle.row_codes.specs.Bound.{AreCodesFor, code_bound, each_within}
 use Rattle.row_codes.specs.Rows.{Block, block_count}
 use Rattle.series_core.specs.Answer.{answer}
 use Rattle.series_core.specs.Best.{Best}
@@ -23,7 +23,7 @@ use Rattle.search_task.specs.Scanning.{AreCoded, IsScannedOne, MayAdd}
 use Rattle.search_task.proofs.CodeRows.{all_are_members, all_coded, codes_are_below, codes_at_one, codes_fit, codes_within, each_met}
 use Rattle.search_task.proofs.Meeting.{IsScanning, meet_far, member_of, one_scanned}
 use Rattle.search_task.proofs.OfIndex.{answer_is, last_is, search_fits}
-use Rattle.group_answer.proofs.Scanned.{answer_scanned}
+use Rattle.nearest_answer.proofs.Nearest.{answer_scanned}
 use Rattle.group_answer.specs.Asking.{answer_to}
 use Rattle.group_answer.specs.Sweeping.{IsChosen, IsFarther, IsSwept, members_of, number_at}
 use Rattle.group_answer.specs.declared.asked.Asked.{Asked}
@@ -120,10 +120,19 @@ module _ {R : Type 0} (collection : R → Collection) (a : Asked R) where
         (are_codes s.chosen.now was.chosen i place.inside n codes own place.blocks place.lent place.taken)
 
     -- and where their bound is above its limit, the member is farther
-    pub far_for_view : (near : Bool) → near ≡ leb (code_bound view own) s.most → IsFarther a.index.now i near s
+    far_for_view : (near : Bool) → near ≡ leb (code_bound view own) s.most → IsFarther a.index.now i near s
     far_for_view near is_near none =
         far_by_codes s.chosen.now was.chosen i place.inside n codes own place.blocks place.lent place.taken near s.most
         (is_near ∙ ap (λ (v : List ℤ). leb (code_bound v own) s.most) view_is) none
+
+    -- and so where several are tested at once, of which it is the one at this place
+    pub far_of_several : (at : ℕ) (views : List (List ℤ)) {tests : List Bool} {limits mosts : List ℕ}
+        → tests ≡ each_within own limits views → limits ≡ mosts
+        → slice_index_or (each_within own mosts views) at false ≡ leb (code_bound view own) s.most
+        → IsFarther a.index.now i (slice_index_or tests at false) s
+    far_of_several at views {tests} {limits} {mosts} tested same its =
+        far_for_view (slice_index_or tests at false)
+        (ap (λ (bs : List Bool). slice_index_or bs at false) (tested ∙ ap (λ (ls : List ℕ). each_within own ls views) same) ∙ its)
 
   module _ (s : Swept R) (i : ℕ) (inside : i < length (members_of a.index.now)) (was : IsSwept collection a i s) where
     private_numbers : numbers_of (take (i + 1) (members_of a.index.now))

@@ -5,12 +5,13 @@ ghost use Rattle.breakpoints.specs.declared.table.Table.TheVariants.{Flat, Bent}
 ghost use Rattle.isax_word.specs.Symbol.{is_reached, symbol_of};
 
 use breakpoints::Table;
+use search_limits::RAISE;
 
 /// The symbol of a segment of this length and sum, the sum of as many values of 16 bits.
 pub fn symbol_of_sum(table: Table, length: u32, sum: i32) -> u8
     requires some_values { 1 ≤ length }
     requires few_values { length ≤ 65536 }
-    requires not_low { neg_ℤ (pos (32768 * length)) ≤ℤ sum }
+    requires not_low { neg_ℤ (pos (RAISE * length)) ≤ℤ sum }
     requires not_high { sum ≤ℤ pos (32767 * length) }
     ensures { result ≡ symbol_of table length sum }
 {
@@ -24,19 +25,19 @@ pub fn symbol_of_sum(table: Table, length: u32, sum: i32) -> u8
 fn above_least(length: u32, sum: i32) -> u32
     requires some_values { 1 ≤ length }
     requires few_values { length ≤ 65536 }
-    requires not_low { neg_ℤ (pos (32768 * length)) ≤ℤ sum }
+    requires not_low { neg_ℤ (pos (RAISE * length)) ≤ℤ sum }
     requires not_high { sum ≤ℤ pos (32767 * length) }
-    ensures value { pos result ≡ sum +ℤ pos (32768 * length) }
+    ensures value { pos result ≡ sum +ℤ pos (RAISE * length) }
     ensures bound { result ≤ 65535 * length }
 {
-    (i64::from(sum) + 32768 * i64::from(length)) as u32
+    (i64::from(sum) + i64::from(RAISE) * i64::from(length)) as u32
 }
 
 /// The symbol in the flat table: how many steps of 256 a value fit between the least sum and the sum.
 fn flat_symbol(length: u32, sum: i32) -> u8
     requires some_values { 1 ≤ length }
     requires few_values { length ≤ 65536 }
-    requires not_low { neg_ℤ (pos (32768 * length)) ≤ℤ sum }
+    requires not_low { neg_ℤ (pos (RAISE * length)) ≤ℤ sum }
     requires not_high { sum ≤ℤ pos (32767 * length) }
     ensures { result ≡ symbol_of Flat length sum }
 {

@@ -1,4 +1,5 @@
 -- The lemmas of this crate.
+pub mod Entering
 pub mod PieceValues
 pub mod HandleValues
 pub mod Sends

@@ -6,7 +6,7 @@ use Rattle.subtree_build.specs.Fits.{Fits}
 use Rattle.window_rows.specs.Choice.{enough}
 use Rattle.isearch_c.specs.declared.answers.Asked.{Asked}
 use Rattle.isearch_c.specs.declared.answers.Ground.{Ground}
-use Rattle.isearch_c.specs.declared.limits.TheConstants.{MOST_APART}
+use Rattle.search_limits.specs.declared.numbers.TheConstants.{MOST_APART}
 
 -- the index fits the rows, which are as long as the layout says
 pub record IsGround {R : Type 0} (collection : R → Collection) (g : Ground R) : Type 0 where

@@ -8,7 +8,7 @@ use Rattle.series_core.specs.declared.rows.TheConstants.{MAX_COUNT, MAX_LENGTH, 
 use Rattle.series_core.specs.declared.pair.Pair.{Pair}
 use Rattle.subtree_build.specs.declared.settings.Settings.{Settings}
 use Rattle.window_rows.specs.Choice.{enough}
-use Rattle.isearch_c.specs.declared.limits.TheConstants.{MOST_APART, MOST_LEAF, MOST_SEGMENTS}
+use Rattle.search_limits.specs.declared.numbers.TheConstants.{MOST_APART, MOST_LEAF, MOST_SEGMENTS}
 use Rattle.isearch_c.specs.declared.held.Held.{Held}
 use Rattle.isearch_c.specs.declared.settings.IsearchSettings.{IsearchSettings}
 use Rattle.isearch_c.specs.declared.status.Status.{Status}

@@ -6,7 +6,6 @@ mod answers;
 mod building;
 mod handle;
 mod held;
-mod limits;
 mod making;
 mod pieces;
 mod searching;

@@ -3,7 +3,7 @@ ghost use Rattle.std.specs.Prelude.{◌≡◌, ◌≤◌, IfErr, IfOk};
 ghost use Rattle.subtree_build.specs.Fits.{IsTreeOf};
 ghost use Rattle.saved_index.specs.Loading.{Refuses};
 ghost use Rattle.isearch_c.specs.Texts.{IsOfText};
-ghost use Rattle.isearch_c.specs.declared.limits.TheConstants.{MOST_LEAF};
+ghost use Rattle.search_limits.specs.declared.numbers.TheConstants.{MOST_LEAF};
 
 use crate::held::Searchable;
 use outside::NoMemory;

@@ -2,8 +2,8 @@
 ghost use Rattle.std.specs.Prelude.{◌≡◌, true};
 ghost use Rattle.isearch_c.specs.Faults.{settings_fit, settings_of};
 
-use crate::limits::{MOST_LEAF, MOST_SEGMENTS};
 use breakpoints::Table;
+use search_limits::{MOST_LEAF, MOST_SEGMENTS};
 use series_core::MAX_LENGTH;
 use subtree_build::Settings;
 

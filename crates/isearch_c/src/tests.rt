@@ -33,14 +33,33 @@ fn built(alloc: Global) -> Result<IsearchIndex, Fail> {
     Ok(index)
 }
 
-/// Status, distances and numbers of the k nearest to these queries, where there are so many places.
+/// What a search answers: its status, and what stands in the places for distances and for numbers.
+#[derive(Drop)]
+struct Answer {
+    status: i32,
+    distances: Vec<u64>,
+    numbers: Vec<u32>,
+}
+
+impl Answer {
+    /// The three of them, to be compared.
+    fn parts(&self) -> (i32, &[u64], &[u32]) {
+        (
+            self.status,
+            self.distances.as_slice(),
+            self.numbers.as_slice(),
+        )
+    }
+}
+
+/// The k nearest to these queries, where there are so many places.
 fn nearest(
     alloc: Global,
     index: &mut IsearchIndex,
     queries: &[i16],
     k: u32,
     places: usize,
-) -> Result<(i32, Vec<u64>, Vec<u32>), Fail> {
+) -> Result<Answer, Fail> {
     let mut distances = vec![in alloc; 7u64; places]?;
     let mut numbers = vec![in alloc; 7u32; places]?;
     let status = isearch_nearest(
@@ -51,7 +70,11 @@ fn nearest(
         distances.as_mut_slice(),
         numbers.as_mut_slice(),
     );
-    Ok((status, distances, numbers))
+    Ok(Answer {
+        status,
+        distances,
+        numbers,
+    })
 }
 
 #[test]
@@ -59,8 +82,7 @@ fn the_nearest_of_two_queries(rt: HostRuntime) -> Result<(), Fail> {
     let alloc = rt.alloc();
     let mut index = built(alloc)?;
     let queries = [1, 1, 1, 1, 9, 9, 9, 9];
-    let (status, distances, numbers) = nearest(alloc, &mut index, &queries, 5, 10)?;
-    let want = [
+    let distances = [
         4,
         164,
         324,
@@ -72,10 +94,9 @@ fn the_nearest_of_two_queries(rt: HostRuntime) -> Result<(), Fail> {
         1444,
         NO_DISTANCE,
     ];
-    assert_same!(rt; status, 0, "nearest");
-    assert_same!(rt; distances.as_slice(), want.as_slice(), "distances");
-    let want = [0, 3, 1, 2, NO_NUMBER, 1, 3, 0, 2, NO_NUMBER];
-    assert_same!(rt; numbers.as_slice(), want.as_slice(), "numbers");
+    let numbers = [0, 3, 1, 2, NO_NUMBER, 1, 3, 0, 2, NO_NUMBER];
+    let found = nearest(alloc, &mut index, &queries, 5, 10)?;
+    assert_same!(rt; found.parts(), (0, distances.as_slice(), numbers.as_slice()), "nearest");
     isearch_free(&mut index, alloc);
     Ok(())
 }
@@ -107,15 +128,9 @@ fn a_share_outlives_the_first_handle(rt: HostRuntime) -> Result<(), Fail> {
         "share twice"
     );
     isearch_free(&mut index, alloc);
-    let (status, _, _) = nearest(alloc, &mut index, &[1; 4], 1, 1)?;
-    assert_same!(rt; status, 1, "freed");
-    let (status, distances, numbers) = nearest(alloc, &mut other, &[1; 4], 1, 1)?;
-    assert_same!(rt; status, 0, "by the share");
-    assert_same!(rt;
-        (distances.as_slice(), numbers.as_slice()),
-        (&[4u64][..], &[0u32][..]),
-        "by the share"
-    );
+    assert_same!(rt; nearest(alloc, &mut index, &[1; 4], 1, 1)?.status, 1, "freed");
+    let found = nearest(alloc, &mut other, &[1; 4], 1, 1)?;
+    assert_same!(rt; found.parts(), (0, &[4u64][..], &[0u32][..]), "by the share");
     isearch_free(&mut other, alloc);
     Ok(())
 }
@@ -134,10 +149,10 @@ fn each_refusal_of_a_search(rt: HostRuntime) -> Result<(), Fail> {
         ("a part of a query before k", &[1; 3], 0, 9, 5),
     ];
     for (name, queries, k, places, want) in cases {
-        let (status, distances, numbers) = nearest(alloc, &mut index, queries, k, places)?;
-        assert_same!(rt; status, want, "{name}");
-        assert_same!(rt; distances.iter().all(|d| *d == 7), true, "{name}: distances are as they were");
-        assert_same!(rt; numbers.iter().all(|n| *n == 7), true, "{name}: numbers are as they were");
+        let found = nearest(alloc, &mut index, queries, k, places)?;
+        assert_same!(rt; found.status, want, "{name}");
+        assert_same!(rt; found.distances.iter().all(|d| *d == 7), true, "{name}: distances are as they were");
+        assert_same!(rt; found.numbers.iter().all(|n| *n == 7), true, "{name}: numbers are as they were");
     }
     isearch_free(&mut index, alloc);
     Ok(())
@@ -259,10 +274,8 @@ fn a_text_is_loaded_and_saved_again(rt: HostRuntime) -> Result<(), Fail> {
     assert_same!(rt; status, 0, "load");
     let status = isearch_load(&mut index, &ROWS, 4, &first, alloc);
     assert_same!(rt; status, 2, "load twice");
-    let (status, distances, numbers) = nearest(alloc, &mut index, &[9; 4], 2, 2)?;
-    assert_same!(rt; status, 0, "nearest");
-    assert_same!(rt; distances.as_slice(), &[4u64, 164][..], "distances");
-    assert_same!(rt; numbers.as_slice(), &[1u32, 3][..], "numbers");
+    let found = nearest(alloc, &mut index, &[9; 4], 2, 2)?;
+    assert_same!(rt; found.parts(), (0, &[4u64, 164][..], &[1u32, 3][..]), "nearest");
     let (status, again) = text(alloc, &mut index, 200)?;
     assert_same!(rt;
         (status, again.as_slice()),

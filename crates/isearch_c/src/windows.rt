@@ -8,10 +8,10 @@ ghost use Rattle.isearch_c.specs.Found.{Hold, all_apart, answers, queries_in};
 ghost use Rattle.isearch_c.specs.Statuses.{EndsBy};
 
 use crate::answers::{Asked, Ground, places_fit, queries_fit, write};
-use crate::limits::MOST_APART;
 use crate::settings::IsearchSettings;
 use crate::status::Status;
 use outside::NoMemory;
+use search_limits::MOST_APART;
 use series_core::{MAX_BEST, MAX_COUNT, MAX_LENGTH, Pair};
 use std::alloc::Global;
 use subtree_build::build_alone;

@@ -11,6 +11,7 @@ use crate::searcher::Searcher;
 use best_word::{BestWord, WordPass};
 use claim_word::{ClaimPass, Claims};
 use outside::NoMemory;
+use search_limits::MOST_WORKERS;
 use series_core::KBest;
 use std::alloc::Global;
 
@@ -24,7 +25,7 @@ pub fn hire(
     mut words: Vec<WordPass>,
 ) -> Result<Vec<Searcher>, NoMemory>
     requires k { (1 ≤ k) × (k ≤ MAX_BEST) }
-    requires few { vec_len passes ≤ 64 }
+    requires few { vec_len passes ≤ MOST_WORKERS }
     requires same { vec_len words ≡ vec_len passes }
     requires passes { All (λ p. p ≡ fresh_pass claims.now) passes.items }
     ensures len { IfOk result (λ team. vec_len team ≡ vec_len passes) }

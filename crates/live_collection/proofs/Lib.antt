@@ -4,7 +4,6 @@ pub mod Holding
 pub mod Counting
 pub mod LastCalls
 mod Called
-pub mod Fitting
 pub mod PartsSoFar
 pub mod Dealing
 pub mod Endings

@@ -9,6 +9,7 @@ ghost use Rattle.live_query.specs.Parts.{HaveDrained};
 use crate::plan::Plan;
 use outside::NoMemory;
 use query_core::{LineList, Outcome, Start, Worker, conclude};
+use search_limits::{MOST_QUEUES, MOST_WORKERS};
 use series_core::Rows;
 use std::alloc::Global;
 
@@ -20,7 +21,7 @@ pub(crate) fn outcome_of<R: Rows>(
     ended: &[Worker<'_, R>],
     lines: LineList,
 ) -> Result<Outcome, NoMemory>
-    requires few { (length ended.now ≤ 64) × (length lines ≤ 64) }
+    requires few { (length ended.now ≤ MOST_WORKERS) × (length lines ≤ MOST_QUEUES) }
     requires drained { HaveDrained plan.now.search.question plan.now.search.index plan.now.queues ended.now lines }
     requires start { start ≡ start_of (search_over plan.now.search.question plan.now.search.index 1 1) }
     ensures legal { let g = search_over plan.now.search.question plan.now.search.index (length ended.now) plan.now.queues in

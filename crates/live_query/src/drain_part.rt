@@ -16,6 +16,7 @@ use best_word::BestWord;
 use outside::{Gate, NoMemory};
 use query_core::{LineList, Worker};
 use sealed_runs::{RunPass, Runs};
+use search_limits::{MOST_QUEUES, MOST_WORKERS};
 use series_core::Rows;
 use std::alloc::Global;
 use std::thread::Threads;
@@ -29,8 +30,8 @@ pub(crate) fn drain_part<'a, T: Threads + Sync, R: Rows + Sync, G: Gate + Sync>(
     word: &BestWord,
     team: Vec<Searcher<Worker<'a, R>, Rested>>,
 ) -> Result<(Vec<Worker<'a, R>>, LineList), NoMemory>
-    requires queues { (1 ≤ plan.now.queues) × (plan.now.queues ≤ 64) }
-    requires team { (1 ≤ length team.items) × (length team.items ≤ 64) }
+    requires queues { (1 ≤ plan.now.queues) × (plan.now.queues ≤ MOST_QUEUES) }
+    requires team { (1 ≤ length team.items) × (length team.items ≤ MOST_WORKERS) }
     requires filled { AllFilled plan.now.search.question plan.now.search.index plan.now.queues word.now team.items }
     ensures sizes { IfOk result (λ r. (length r.0.items ≡ length team.entry.items) × (length r.1 ≡ plan.now.queues)) }
     ensures drained { IfOk result (λ r.

@@ -12,6 +12,7 @@ use best_word::BestWord;
 use claim_word::ClaimPass;
 use outside::{Gate, NoMemory};
 use query_core::Worker;
+use search_limits::{MOST_QUEUES, MOST_WORKERS};
 use series_core::Rows;
 use std::alloc::Global;
 use std::thread::Threads;
@@ -26,8 +27,8 @@ pub(crate) fn fill_part<'a, T: Threads + Sync, R: Rows + Sync, G: Gate + Sync>(
     word: &BestWord,
     team: Vec<Searcher<Worker<'a, R>, Holding>>,
 ) -> Result<Vec<Searcher<Worker<'a, R>, Rested>>, NoMemory>
-    requires queues { (1 ≤ plan.now.queues) × (plan.now.queues ≤ 64) }
-    requires team { (1 ≤ length team.items) × (length team.items ≤ 64) }
+    requires queues { (1 ≤ plan.now.queues) × (plan.now.queues ≤ MOST_QUEUES) }
+    requires team { (1 ≤ length team.items) × (length team.items ≤ MOST_WORKERS) }
     requires opens { Opens plan.now.search.question plan.now.search.index plan.now.queues claims word.now team.items }
     ensures len { IfOk result (λ filled. length filled.items ≡ length team.entry.items) }
     ensures filled { IfOk result (λ filled.

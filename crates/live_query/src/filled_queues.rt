@@ -10,6 +10,7 @@ use crate::searcher::{Rested, Searcher};
 use leaf_queues::Queue;
 use outside::NoMemory;
 use query_core::{Worker, empty_queues};
+use search_limits::MOST_QUEUES;
 use series_core::{Entry, Rows};
 use std::alloc::Global;
 
@@ -20,7 +21,7 @@ pub(crate) fn filled_queues<'a, R: Rows>(
     team: &[Searcher<Worker<'a, R>, Rested>],
 ) -> Result<Vec<Queue>, NoMemory>
     requires over { All (λ c. (c.worker.question ≡ plan.now.search.question) × (c.worker.index ≡ plan.now.search.index)) team.now }
-    requires queues { (1 ≤ plan.now.queues) × (plan.now.queues ≤ 64) }
+    requires queues { (1 ≤ plan.now.queues) × (plan.now.queues ≤ MOST_QUEUES) }
     ensures count { IfOk result (λ qs. length qs.items ≡ plan.now.queues) }
     ensures filled { let a = plan.now.search.question in
         IfOk result (λ qs. AreFilled a plan.now.search.index team.now plan.now.queues qs.items) }

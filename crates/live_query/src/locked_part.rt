@@ -13,6 +13,7 @@ use crate::searcher::{Rested, Searcher};
 use best_word::BestWord;
 use outside::{Gate, NoMemory};
 use query_core::{LineList, Worker};
+use search_limits::{MOST_QUEUES, MOST_WORKERS};
 use series_core::Rows;
 use std::alloc::Global;
 use std::sync::Wait;
@@ -27,8 +28,8 @@ pub(crate) fn locked_part<'a, T: Threads + Wait + Sync, R: Rows + Sync, G: Gate 
     word: &BestWord,
     team: Vec<Searcher<Worker<'a, R>, Rested>>,
 ) -> Result<(Vec<Worker<'a, R>>, LineList), NoMemory>
-    requires queues { (1 ≤ plan.now.queues) × (plan.now.queues ≤ 64) }
-    requires team { (1 ≤ length team.items) × (length team.items ≤ 64) }
+    requires queues { (1 ≤ plan.now.queues) × (plan.now.queues ≤ MOST_QUEUES) }
+    requires team { (1 ≤ length team.items) × (length team.items ≤ MOST_WORKERS) }
     requires filled { AllFilled plan.now.search.question plan.now.search.index plan.now.queues word.now team.items }
     ensures sizes { IfOk result (λ r. (length r.0.items ≡ length team.entry.items) × (length r.1 ≡ plan.now.queues)) }
     ensures drained { IfOk result (λ r.

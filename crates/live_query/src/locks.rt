@@ -8,6 +8,7 @@ ghost use Rattle.live_query.specs.LockParts.{AreDealt, AreFronts, AreNumbered, A
 
 use leaf_queues::Queue;
 use outside::NoMemory;
+use search_limits::MOST_WORKERS;
 use std::alloc::Global;
 use turn_lock::{TurnLock, TurnPass};
 
@@ -17,7 +18,7 @@ pub(crate) fn begin_locks(
     queues: Vec<Queue>,
     callers: u32,
 ) -> Result<(Vec<TurnLock<Queue>>, Vec<Vec<TurnPass<Queue>>>), NoMemory>
-    requires callers { (1 ≤ callers) × (callers ≤ 64) }
+    requires callers { (1 ≤ callers) × (callers ≤ MOST_WORKERS) }
     ensures round { IfOk result (λ r. AreRound queues.items callers r.0.items) }
     ensures dealt { IfOk result (λ r. AreDealt r.0.items 0 r.1.items) }
 {

@@ -12,6 +12,7 @@ use crate::searcher::{Rested, Searcher};
 use outside::NoMemory;
 use query_core::Worker;
 use sealed_runs::{RunPass, Runs};
+use search_limits::{MOST_QUEUES, MOST_WORKERS};
 use series_core::{Entry, Rows};
 use std::alloc::Global;
 
@@ -21,9 +22,9 @@ pub(crate) fn seal_marked<'a, R: Rows>(
     plan: &Plan<'a, R>,
     team: &[Searcher<Worker<'a, R>, Rested>],
 ) -> Result<(Runs, Vec<RunPass>), NoMemory>
-    requires queues { (1 ≤ plan.now.queues) × (plan.now.queues ≤ 64) }
+    requires queues { (1 ≤ plan.now.queues) × (plan.now.queues ≤ MOST_QUEUES) }
     requires over { All (λ c. (c.worker.question ≡ plan.now.search.question) × (c.worker.index ≡ plan.now.search.index)) team.now }
-    requires team { (1 ≤ length team.now) × (length team.now ≤ 64) }
+    requires team { (1 ≤ length team.now) × (length team.now ≤ MOST_WORKERS) }
     ensures count { IfOk result (λ r. length r.0.runs ≡ plan.now.queues) }
     ensures callers { IfOk result (λ r. r.0.callers ≡ length team.now) }
     ensures runs { let a = plan.now.search.question in

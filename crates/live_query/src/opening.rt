@@ -15,6 +15,7 @@ use best_word::{BestWord, WordPass};
 use list_team::Apart;
 use outside::NoMemory;
 use query_core::{Start, Worker, hire, limit_of};
+use search_limits::{MOST_QUEUES, MOST_WORKERS};
 use series_core::Rows;
 use std::alloc::Global;
 
@@ -39,8 +40,8 @@ pub(crate) fn open<'a, R: Rows>(
     limits: &'a [BestWord],
     passes: Vec<Vec<WordPass>>,
 ) -> Result<Opened<'a, R>, NoMemory>
-    requires workers { (1 ≤ workers) × (workers ≤ 64) }
-    requires queues { (1 ≤ plan.now.queues) × (plan.now.queues ≤ 64) }
+    requires workers { (1 ≤ workers) × (workers ≤ MOST_WORKERS) }
+    requires queues { (1 ≤ plan.now.queues) × (plan.now.queues ≤ MOST_QUEUES) }
     requires passes { let g = search_over plan.now.search.question plan.now.search.index 1 plan.now.queues in
         AreRows g limits.now workers passes.items }
     ensures start { IfOk result (λ o. o.start ≡ start_of (search_over plan.now.search.question plan.now.search.index 1 1)) }
@@ -65,7 +66,7 @@ pub(crate) fn open<'a, R: Rows>(
 
 // Room for the bounds of each worker's share of the leaves.
 fn take_shares<'a, R: Rows>(alloc: Global, workers: &mut Vec<Worker<'a, R>>) -> Result<(), NoMemory>
-    requires few { vec_len workers.old ≤ 64 }
+    requires few { vec_len workers.old ≤ MOST_WORKERS }
     ensures same { IfOk result (λ _. workers.new.items ≡ workers.old.items) }
 {
     let count = workers.len();
@@ -84,7 +85,7 @@ fn open_team<'a, R: Rows>(
 ) -> Result<Vec<Searcher<Worker<'a, R>, Holding>>, NoMemory>
     requires seen { vec_len seen ≡ vec_len workers }
     requires drawings { vec_len drawings ≡ vec_len workers }
-    requires few { vec_len workers ≤ 64 }
+    requires few { vec_len workers ≤ MOST_WORKERS }
     ensures workers { IfOk result (λ team. map (λ c. c.worker) team.items ≡ workers.entry.items) }
     ensures hands { (d : Drawn) (b : Best) (low : ℕ) → All (λ p. p ≡ d) drawings.items
         → All (λ p. p ≡ fresh_seen b low) seen.items

@@ -12,6 +12,7 @@ use crate::plan::Plan;
 use best_word::{BestWord, Floor, WordPass};
 use outside::NoMemory;
 use query_core::{Limits, Worker};
+use search_limits::{MOST_QUEUES, MOST_WORKERS};
 use series_core::{NONE, Rows};
 use std::alloc::Global;
 
@@ -35,8 +36,8 @@ pub(crate) fn begin_limits<'a, R: Rows>(
     plan: &Plan<'a, R>,
     workers: u32,
 ) -> Result<(Vec<BestWord>, Vec<Vec<WordPass>>), NoMemory>
-    requires workers { (1 ≤ workers) × (workers ≤ 64) }
-    requires queues { (1 ≤ plan.now.queues) × (plan.now.queues ≤ 64) }
+    requires workers { (1 ≤ workers) × (workers ≤ MOST_WORKERS) }
+    requires queues { (1 ≤ plan.now.queues) × (plan.now.queues ≤ MOST_QUEUES) }
     ensures { let g = search_over plan.now.search.question plan.now.search.index 1 plan.now.queues in
         IfOk result (λ r. AreRows g r.0.items workers r.1.items) }
 {
@@ -69,8 +70,8 @@ pub(crate) fn share_limits<'a, R: Rows>(
     mut rows: Vec<Vec<WordPass>>,
     workers: &mut Vec<Worker<'a, R>>,
 ) -> Result<(), NoMemory>
-    requires queues { (1 ≤ plan.now.queues) × (plan.now.queues ≤ 64) }
-    requires few { vec_len workers.old ≤ 64 }
+    requires queues { (1 ≤ plan.now.queues) × (plan.now.queues ≤ MOST_QUEUES) }
+    requires few { vec_len workers.old ≤ MOST_WORKERS }
     requires hired { AreHired plan.now.search.question plan.now.search.index plan.now.queues workers.old.items }
     requires rows { let g = search_over plan.now.search.question plan.now.search.index 1 plan.now.queues in
         AreRows g words.now (vec_len workers.old) rows.items }

@@ -7,6 +7,7 @@ ghost use Rattle.live_query.specs.RootClaims.{DidClaim, IsOwn, fresh_drawn, grou
 use crate::tuning::{GROUPS_A_SHARE, MOST_ROOTS_A_GROUP};
 use claim_word::{ClaimPass, Claims};
 use outside::NoMemory;
+use search_limits::MOST_WORKERS;
 use std::alloc::Global;
 use std::marker::Model;
 
@@ -78,7 +79,7 @@ impl RootClaims {
         roots: u32,
         workers: u32,
     ) -> Result<(RootClaims, Vec<Drawing>), NoMemory>
-        requires { (1 ≤ workers) × (workers ≤ 64) }
+        requires { (1 ≤ workers) × (workers ≤ MOST_WORKERS) }
         ensures count { IfOk result (λ r. r.0.count ≡ roots) }
         ensures workers { IfOk result (λ r. r.0.counter.callers ≡ workers) }
         ensures drawings { IfOk result (λ r. r.1.items ≡ replicate workers (fresh_drawn (fresh_pass r.0.counter))) }

@@ -13,6 +13,7 @@ use crate::plan::Plan;
 use crate::portions::begin_limits;
 use outside::{Gate, NoMemory};
 use query_core::{Outcome, Search, Task};
+use search_limits::{MOST_QUEUES, MOST_WORKERS};
 use series_core::Rows;
 use std::alloc::Global;
 use std::thread::Threads;
@@ -32,8 +33,8 @@ pub fn nearest_sealed<T: Threads + Sync, R: Rows + Sync, G: Gate + Sync>(
     gate: &G,
 ) -> Result<Outcome, NoMemory>
     requires fits { IndexFits task.now.collection task.now.layout index.now }
-    requires workers { (1 ≤ workers) × (workers ≤ 64) }
-    requires queues { (1 ≤ queues) × (queues ≤ 64) }
+    requires workers { (1 ≤ workers) × (workers ≤ MOST_WORKERS) }
+    requires queues { (1 ≤ queues) × (queues ≤ MOST_QUEUES) }
     ensures legal { IfOk result (λ o. Legal (search_over task.now index.now workers queues) o) }
     ensures straight { IfOk result IsStraight }
     ensures answer { IfOk result (λ o. o.pairs ≡ answer task.now.collection task.now.query task.now.k) }

@@ -3,7 +3,7 @@
 
 ghost use Rattle.std.specs.Prelude.{◌≡◌, ◌+◌, ◌<◌, ◌≤◌, ◌^◌, All, IfOk, IfErr, List, length};
 ghost use Rattle.std.specs.Thread.{IsSync};
-ghost use Rattle.command_words.specs.declared.limits.TheConstants.{MOST_LEAF};
+ghost use Rattle.search_limits.specs.declared.numbers.TheConstants.{MOST_LEAF};
 ghost use Rattle.series_core.specs.declared.rows.TheConstants.{MAX_LENGTH};
 ghost use Rattle.live_collection.specs.Sides.{IsWriterOf, points_of};
 ghost use Rattle.live_collection.specs.Steps.{Appends};
@@ -17,10 +17,11 @@ use crate::answering::{Answers, answer_all};
 use crate::group::{Contents, QueryFile};
 use crate::status::LiveStatus;
 use breakpoints::Table;
-use command_words::{MOST_SEGMENTS, USUAL_LEAF};
+use command_words::USUAL_LEAF;
 use isax_word::Layout;
 use live_collection::{AppendError, LiveCollection, Reader, Writer};
 use outside::{Gate, NoMemory};
+use search_limits::MOST_SEGMENTS;
 use segment_sums::Cuts;
 use series_core::Flat;
 use std::alloc::Global;

@@ -2,7 +2,7 @@
 use Rattle.std.specs.Prelude.{◌≡◌, ℕ, ◌<◌, ◌≤◌, ◌==◌, not, Bool, true, List, ◌∷◌, ◌++◌, length, codes, decimal}
 use Rattle.std.specs.List.{list_all}
 use Rattle.std.specs.Str.{IsUtf8}
-use Rattle.command_words.specs.declared.limits.TheConstants.{MOST_NEAREST}
+use Rattle.series_core.specs.declared.best.TheConstants.{MAX_BEST}
 use Rattle.live_script.specs.declared.line.Line.{Line}
 use Rattle.live_script.specs.declared.line.Line.TheVariants.{Append, Ask}
 
@@ -20,14 +20,14 @@ pub record IsName (name : List ℕ) : Type 0 where
 -- a text spells a number of 1 to 1024
 pub record IsCount (text : List ℕ) (k : ℕ) : Type 0 where
   pub least : 1 ≤ k
-  pub most : k ≤ MOST_NEAREST
+  pub most : k ≤ MAX_BEST
   pub spelled : text ≡ decimal k
 
 -- the queries of a file may be asked for k series
 pub record IsAsked (name : List ℕ) (k : ℕ) : Type 0 where
   pub named : IsName name
   pub least : 1 ≤ k
-  pub most : k ≤ MOST_NEAREST
+  pub most : k ≤ MAX_BEST
 
 -- the line that appends a batch
 abbrev pub append_line : List ℕ → List ℕ

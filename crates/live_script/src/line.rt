@@ -3,9 +3,9 @@
 ghost use Rattle.std.specs.Prelude.{◌≡◌, ◌≢◌, ℕ, true, List, Some, IfSome, IfNone, MatchOption};
 ghost use Rattle.live_script.specs.Lines.{lacks, IsName, IsCount, IsAsked, IsCut, Says, IsNoLine, asked_text};
 
-use command_words::MOST_NEAREST;
 use itoa::Buffer;
 use memchr::memchr;
+use series_core::MAX_BEST;
 
 /// What a line says.
 #[derive(Clone, Copy)]
@@ -69,7 +69,7 @@ fn read_count(bytes: &[u8]) -> Option<u32>
     };
     let mut buffer = Buffer::new();
     let is_printed = buffer.format(k).as_bytes() == bytes;
-    if 1 <= k && k <= MOST_NEAREST && is_printed {
+    if 1 <= k && k <= MAX_BEST && is_printed {
         Some(k)
     } else {
         None

@@ -7,6 +7,7 @@ use Rattle.isax_word.specs.declared.layout.Layout.{Layout}
 use Rattle.isax_word.specs.declared.word.Part.{Part}
 use Rattle.isax_word.specs.Symbol.{symbol_of}
 use Rattle.lower_bound.specs.Gap.{part_cost, HoldsCosts}
+use Rattle.search_limits.specs.declared.numbers.TheConstants.{RAISE}
 
 -- what a bound needs of a query: the layout and the sums of the query's segments
 pub record View : Type 0 where
@@ -29,7 +30,7 @@ length_at view j = segment_length view.layout.cuts j
 pub record IsView (view : View) : Type 0 where
   pub division : IsDivision view.layout.cuts
   pub whole : length view.sums ≡ view.layout.cuts.segments
-  pub not_low : (j : ℕ) → j < view.layout.cuts.segments → neg_ℤ (pos (32768 * length_at view j)) ≤ℤ sum_at view j
+  pub not_low : (j : ℕ) → j < view.layout.cuts.segments → neg_ℤ (pos (RAISE * length_at view j)) ≤ℤ sum_at view j
   pub not_high : (j : ℕ) → j < view.layout.cuts.segments → sum_at view j ≤ℤ pos (32767 * length_at view j)
 
 -- the costs of a word's parts, of which the first is that of segment j, added

@@ -6,6 +6,8 @@ use Rattle.breakpoints.specs.declared.table.Table.{Table}
 use Rattle.breakpoints.specs.Breakpoint.{breakpoint}
 use Rattle.isax_word.specs.declared.word.Part.{Part}
 use Rattle.isax_word.specs.Word.{first_symbol, end_symbol, last_symbol}
+use Rattle.search_limits.specs.declared.numbers.TheConstants.{RAISE}
+use Rattle.series_core.specs.declared.rows.TheConstants.{MAX_LENGTH}
 
 -- how far a whole number is above 0, and 0 where it is not above
 abbrev pub excess : ℤ → ℕ
@@ -45,8 +47,8 @@ nearest_symbol part symbol = max (first_symbol part) (min (last_symbol part) sym
 -- the length of a segment and the sum of as many values of 16 bits
 pub record IsSum (long : ℕ) (sum : ℤ) : Type 0 where
   pub some_values : 1 ≤ long
-  pub few_values : long ≤ 65536
-  pub not_low : neg_ℤ (pos (32768 * long)) ≤ℤ sum
+  pub few_values : long ≤ MAX_LENGTH
+  pub not_low : neg_ℤ (pos (RAISE * long)) ≤ℤ sum
   pub not_high : sum ≤ℤ pos (32767 * long)
 
 -- a list that holds at each symbol its cost

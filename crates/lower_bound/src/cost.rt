@@ -5,10 +5,11 @@ ghost use Rattle.isax_word.specs.declared.word.Part.{Part};
 ghost use Rattle.lower_bound.specs.Gap.{excess, gap, gap_below, gap_above, cost_of_gap, symbol_cost, part_cost, IsSum, HoldsCosts};
 
 use breakpoints::Table;
+use series_core::MAX_LENGTH;
 
 /// A breakpoint times the length of a segment.
 fn scaled(table: Table, length: u32, place: u32) -> i32
-    requires few_values { length ≤ 65536 }
+    requires few_values { length ≤ MAX_LENGTH }
     requires first { 1 ≤ place }
     requires last { place ≤ 255 }
     ensures { result ≡ pos length *ℤ breakpoint table place }
@@ -29,7 +30,7 @@ fn excess_over(high: i32, low: i32) -> u64
 
 /// How far a sum lies below the least sum of the symbols from `first` on.
 fn below(table: Table, length: u32, sum: i32, first: u32) -> u64
-    requires few_values { length ≤ 65536 }
+    requires few_values { length ≤ MAX_LENGTH }
     requires last { first ≤ 255 }
     ensures { result ≡ gap_below table length sum first }
 {
@@ -42,7 +43,7 @@ fn below(table: Table, length: u32, sum: i32, first: u32) -> u64
 
 /// How far a sum lies above the greatest sum of the symbols before `end`.
 fn above(table: Table, length: u32, sum: i32, end: u32) -> u64
-    requires few_values { length ≤ 65536 }
+    requires few_values { length ≤ MAX_LENGTH }
     requires some { 1 ≤ end }
     requires last { end ≤ 256 }
     ensures { result ≡ gap_above table length sum end }

@@ -4,6 +4,7 @@ use Rattle.std.specs.Prelude.{ℕ, ℤ, ◌+◌, ◌-◌, ◌*◌, ◌/◌, ◌�
 use Rattle.std.specs.Simd.Lanes.{zip2, sum_l}
 use Rattle.segment_sums.specs.Division.{Division, segment_length}
 use Rattle.mean_bound.specs.Means.{raised_sum, of_segments}
+use Rattle.series_core.specs.declared.rows.TheConstants.{MAX_LENGTH}
 
 -- what a bound by means needs of a query: the least length of a segment, and for each segment the least and the greatest
 -- mean that have no gap
@@ -34,7 +35,7 @@ mean_view_of d query = record {
 
 -- a view: no segment is longer than 65536
 abbrev pub IsMeanView : View → Type 0
-IsMeanView v = v.least_length ≤ 65536
+IsMeanView v = v.least_length ≤ MAX_LENGTH
 
 -- how far what reaches from `leasts` to `greatests` lies below the lows or above the highs, and at most 16383
 abbrev pub gaps_between : List ℕ → List ℕ → List ℕ → List ℕ → List ℕ

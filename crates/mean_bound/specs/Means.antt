@@ -3,10 +3,11 @@ use Rattle.std.specs.Prelude.{◌≡◌, ℕ, ℤ, pos, ◌+ℤ◌, ◌-◌, ◌
 use Rattle.std.specs.List.{range_with_len}
 use Rattle.segment_sums.specs.Division.{Division, segment_length}
 use Rattle.segment_sums.specs.Sum.{segment_sum}
+use Rattle.search_limits.specs.declared.numbers.TheConstants.{RAISE}
 
 -- the sum of the values of segment j, each raised by 32768
 abbrev pub raised_sum : Division → List ℤ → ℕ → ℕ
-raised_sum d row j = unsigned_abs (segment_sum d row j +ℤ pos (32768 * segment_length d j))
+raised_sum d row j = unsigned_abs (segment_sum d row j +ℤ pos (RAISE * segment_length d j))
 
 -- the mean of the raised values of segment j, rounded down
 abbrev pub segment_mean : Division → List ℤ → ℕ → ℕ

@@ -3,7 +3,9 @@
 ghost use Rattle.std.specs.Prelude.{◌≡◌, ◌*◌, ◌/◌, ◌≤◌, pos, neg_ℤ, ◌+ℤ◌, ◌≤ℤ◌, length, replicate, unsigned_abs};
 ghost use Rattle.mean_bound.specs.Means.{of_segments, raised_sum, row_means, AreMeans, NoRaisedSumAbove};
 
+use search_limits::RAISE;
 use segment_sums::Cuts;
+use series_core::MAX_LENGTH;
 use std::marker::Model;
 use std::simd::prelude::*;
 
@@ -132,7 +134,7 @@ fn equal_raised_sums<const W: usize, const L: usize>(cuts: &Cuts, row: &[i16]) -
     requires equal { cuts.now.row_length ≡ W * L }
     ensures sums { result ≡ of_segments cuts.now (raised_sum cuts.now row.now) }
     ensures limit { NoRaisedSumAbove cuts.now row.now cuts.now.segments }
-    ensures known { (1 ≤ L) × (L ≤ 65536) }
+    ensures known { (1 ≤ L) × (L ≤ MAX_LENGTH) }
 {
     // for the fact that the cuts divide
     let _segments = cuts.segments();
@@ -147,11 +149,11 @@ fn equal_raised_sums<const W: usize, const L: usize>(cuts: &Cuts, row: &[i16]) -
 
 /// The sum of `length` values, each raised by 32768, from the sum of the values as they are.
 fn raised_by(length: u32, sum: i32) -> u32
-    requires few_values { length ≤ 65536 }
-    requires not_low { neg_ℤ (pos (32768 * length)) ≤ℤ sum }
+    requires few_values { length ≤ MAX_LENGTH }
+    requires not_low { neg_ℤ (pos (RAISE * length)) ≤ℤ sum }
     requires not_high { sum ≤ℤ pos (32767 * length) }
-    ensures value { result ≡ unsigned_abs (sum +ℤ pos (32768 * length)) }
+    ensures value { result ≡ unsigned_abs (sum +ℤ pos (RAISE * length)) }
     ensures limit { result ≤ 65535 * length }
 {
-    (i64::from(sum) + 32768 * i64::from(length)) as u32
+    (i64::from(sum) + i64::from(RAISE) * i64::from(length)) as u32
 }

@@ -1,5 +1,5 @@
 -- A search by leaves on its way: as it begins (`all_left`), with what is left in another order (`left_moved`), after some of it was scanned
--- (`part_scanned`), by a closer limit (`left_within`), and at its end, where the list is the answer (`left_answered`).
+-- (`others_left`), by a closer limit (`left_within`), and at its end, where the list is the answer (`left_answered`).
 use Rattle.std.proofs.Common.{◌≡◌, ℕ, ◌<◌, ◌≤◌, List, [], ◌∷◌, ◌++◌, length, sym, ap, subst, ◌∙◌, ⊎_elim, ◌⊎◌, inl, inr, append_assoc, arith}
 use Rattle.std.specs.List.{All}
 use Rattle.std.specs.List.Sorted.{IsPermutation}
@@ -9,11 +9,15 @@ use Rattle.std.proofs.lemmas.List.Elements.{All-cons, All-head, All-nil, All-tai
 use Rattle.std.proofs.lemmas.List.Sorted.{All-permutation}
 use Rattle.list_totals.specs.Totals.{once_below, times}
 use Rattle.list_totals.proofs.Totals.{once_below_most, once_below_yes, times_append}
+use Rattle.series_core.specs.Answer.{answer}
+use Rattle.series_core.specs.Best.{Best}
 use Rattle.series_core.specs.declared.pair.Pair.{Pair}
 use Rattle.series_core.specs.declared.queue_words.Entry.{Entry}
-use Rattle.search_machine.specs.Ground.{Fits, Ground, answer, last}
+use Rattle.search_machine.specs.Ground.{Ground, last}
 use Rattle.search_machine.specs.Sound.{ListSound}
-use Rattle.nearest_answer.specs.Begun.{AreLeft}
+use Rattle.search_task.specs.Questions.{CanBeSearched, Searched, ground_of}
+use Rattle.search_task.proofs.Grounds.{ground_answer, ground_fits, ground_last}
+use Rattle.nearest_answer.specs.Begun.{AreLeft, IsLeft}
 use Rattle.nearest_answer.specs.NearLeaves.{AreNear, IsFar, IsLeafEntry, leaves_in, within_bound}
 use Rattle.nearest_answer.proofs.LeavesNear.{same_count, within_all, within_or_far, within_times}
 use Rattle.nearest_answer.proofs.Nearest.{answer_met, none_met}
@@ -70,11 +74,11 @@ module _ (g : Ground) where
 
   module _ (v : ℕ) (met : List ℕ) (ps : List Pair) (es ds : List Entry) (are : AreLeft g v met ps (es ++ ds)) where
     -- the first of what is left are leaves
-    pub first_entries : All (IsLeafEntry g) es
+    first_entries : All (IsLeafEntry g) es
     first_entries = (parts_all g es ds are.entries).0
 
     -- each of them is new
-    pub first_new : (l : ℕ) → times l (met ++ leaves_in es) ≤ 1
+    first_new : (l : ℕ) → times l (met ++ leaves_in es) ≤ 1
     first_new l =
         let most = are.once l in
         let same = ap (times l) (leaves_behind met es ds) in
@@ -82,12 +86,12 @@ module _ (g : Ground) where
         omega (arith, most, same, parts)
 
     -- and listed once
-    pub first_once : (l : ℕ) → times l (leaves_in es) ≤ 1
+    first_once : (l : ℕ) → times l (leaves_in es) ≤ 1
     first_once l =
         let most = first_new l in let parts = times_append l met (leaves_in es) in omega (arith, most, parts)
 
     -- the others are left where the first were scanned
-    pub part_scanned : (qs : List Pair) → Scans g (leaves_in es) ps qs → AreLeft g v (met ++ leaves_in es) qs ds
+    part_scanned : (qs : List Pair) → Scans g (leaves_in es) ps qs → AreLeft g v (met ++ leaves_in es) qs ds
     part_scanned qs scanned = record {
       sound = scanned met first_new are.sound;
       entries = (parts_all g es ds are.entries).1;
@@ -126,8 +130,44 @@ module _ (g : Ground) where
           (within_or_far g w l es are.entries (omega (arith, all, none, there))))
           (cases_lt 0 (times l met))
 
-  -- where all that is left was scanned, the list is the answer
-  pub left_answered : Fits g → (v : ℕ) (met : List ℕ) (ps qs : List Pair) (es : List Entry) → last g ≤ v → length qs ≤ g.k
-      → AreLeft g v met ps es → Scans g (leaves_in es) ps qs → qs ≡ answer g
-  left_answered fits v met ps qs es enough size are scanned =
-      answer_met g fits (met ++ leaves_in es) v qs size enough (scanned met are.once are.sound) are.whole
+-- a search with a list, and what is left of it
+module _ {s : Searched} {v : ℕ} {best : Best} {es : List Entry} (was : IsLeft s v best es) where
+  -- of what is left, as it is lent, the closest are to be scanned, as they are lent, and then the others are left
+  module _ {ds closest cs : List Entry} (others : List Entry) (lent : ds ≡ es) (parted : IsPermutation ds (closest ++ others))
+      (closest_lent : cs ≡ closest) where
+    are : AreLeft (ground_of s) v was.left.0 best.pairs (cs ++ others)
+    are =
+        left_moved (ground_of s) v was.left.0 best.pairs es (cs ++ others)
+        (subst (λ (xs : List Entry). IsPermutation es (xs ++ others)) (sym closest_lent)
+        (subst (λ (xs : List Entry). IsPermutation xs (closest ++ others)) lent parted)) was.left.1
+
+    pub closest_leaves : All (IsLeafEntry (ground_of s)) cs
+    closest_leaves = first_entries (ground_of s) v was.left.0 best.pairs cs others are
+
+    pub closest_once : (l : ℕ) → times l (leaves_in cs) ≤ 1
+    closest_once = first_once (ground_of s) v was.left.0 best.pairs cs others are
+
+    pub others_left : (after : Best) → (after.k ≡ s.question.k) × (length after.pairs ≤ s.question.k)
+        → Scans (ground_of s) (leaves_in cs) best.pairs after.pairs → IsLeft s v after others
+    others_left after list scanned = record {
+      limit = was.limit;
+      list = list;
+      left = (
+        was.left.0 ++ leaves_in cs,
+        part_scanned (ground_of s) v was.left.0 best.pairs cs others are after.pairs scanned,
+      );
+    }
+
+  -- where all that is left was scanned, as it is lent, the list is the answer
+  pub left_answered : CanBeSearched s.question s.index → {ds : List Entry} → ds ≡ es → (after : Best)
+      → length after.pairs ≤ s.question.k → Scans (ground_of s) (leaves_in ds) best.pairs after.pairs
+      → after.pairs ≡ answer s.question.collection s.question.query s.question.k
+  left_answered searched lent after size scanned =
+      let g = ground_of s in
+      let met = was.left.0 in
+      let are = was.left.1 in
+      let enough : last g ≤ v = omega (arith, ground_last s searched, was.limit) in
+      let whole : Scans g (leaves_in es) best.pairs after.pairs
+      = subst (λ (xs : List Entry). Scans g (leaves_in xs) best.pairs after.pairs) lent scanned in
+      answer_met g (ground_fits s searched) (met ++ leaves_in es) v after.pairs size enough (whole met are.once are.sound) are.whole
+      ∙ ground_answer s

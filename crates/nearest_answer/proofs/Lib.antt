@@ -1,5 +1,6 @@
 -- The lemmas of this crate.
-mod Nearest
+pub mod Fitting
+pub mod Nearest
 mod LeavesNear
 mod LeavesLeft
 mod Ranges
@@ -7,3 +8,5 @@ mod StretchLeaves
 mod ItemsScanned
 mod TeamLists
 mod ListedLeaves
+mod Drawing
+pub mod Hiring

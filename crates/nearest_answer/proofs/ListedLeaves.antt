@@ -1,16 +1,16 @@
--- Stretches of listed leaves. A stretch has no leaf of those before it (`next_once`), and its entries stand in a row (`cut_out`); and the lists of workers that drew all stretches,
--- merged, are a list of all leaves (`all_found`).
-use Rattle.std.proofs.Common.{◌≡◌, ℕ, zero, suc, ◌+◌, ◌-◌, ◌*◌, ◌<◌, ◌≤◌, List, [], ◌∷◌, ◌++◌, All, length, map, min, take, drop, true, refl, sym, ap, subst, ◌∙◌, ⊎_elim, append-nil, append_assoc, arith}
+-- Stretches of listed leaves. A stretch has no leaf of those before it (`next_once`), and its entries stand in a row (`cut_out`); and the
+-- lists of workers that drew all stretches, merged, are a list of all leaves (`all_found`).
+use Rattle.std.proofs.Common.{◌≡◌, ℕ, zero, suc, ◌+◌, ◌-◌, ◌*◌, ◌<◌, ◌≤◌, List, [], ◌∷◌, ◌++◌, All, length, map, min, take, drop, refl, sym, ap, subst, ◌∙◌, ⊎_elim, append-nil, append_assoc, arith}
 use Rattle.std.specs.List.{range_with_len}
 use Rattle.std.proofs.Math.Seq.{take-add}
 use Rattle.std.proofs.lemmas.Bool.{cases_lt}
 use Rattle.std.proofs.lemmas.List.{length-drop, map-append, take-append-drop, take_all}
 use Rattle.std.proofs.lemmas.List.Concat.{flat_map-append}
-use Rattle.std.proofs.lemmas.List.Elements.{All-head, All-tail, All-map}
+use Rattle.std.proofs.lemmas.List.Elements.{All-head, All-tail}
 use Rattle.list_totals.specs.Totals.{once_below, times}
 use Rattle.list_totals.proofs.Totals.{times_append}
-use Rattle.claim_word.specs.Passes.{Pass, EachDrawnOnce}
-use Rattle.claim_word.proofs.Draws.{all_drawn, all_draws, same_pieces, times_all, times_below}
+use Rattle.claim_word.specs.Passes.{EachDrawnOnce}
+use Rattle.claim_word.proofs.Draws.{all_draws, same_pieces, times_all, times_below}
 use Rattle.series_core.specs.Pairs.{smallest}
 use Rattle.series_core.specs.declared.pair.Pair.{Pair}
 use Rattle.series_core.specs.declared.queue_words.Entry.{Entry}
@@ -18,7 +18,7 @@ use Rattle.search_machine.specs.Ground.{Fits, Ground}
 use Rattle.search_machine.specs.Sound.{ListSound}
 use Rattle.list_team.specs.Searchers.{merged}
 use Rattle.list_team.specs.declared.searcher.Searcher.{Searcher}
-use Rattle.nearest_answer.specs.Listed.{AreListed, HasDrawn, entries_of, leaves_drawn}
+use Rattle.nearest_answer.specs.Listed.{AreListed, entries_of, leaves_drawn}
 use Rattle.nearest_answer.specs.NearLeaves.{leaves_in}
 use Rattle.nearest_answer.proofs.LeavesNear.{same_times}
 use Rattle.nearest_answer.proofs.Nearest.{none_met, same_leaves}
@@ -124,11 +124,12 @@ drawn_by ws = all_draws (map (λ (w : Searcher). w.pass) ws)
 module _ (g : Ground) (fits : Fits g) (es : List Entry) where
   -- the lists of all workers
   lists_joined : (ws : List Searcher) (ms : List ℕ) (held : List Pair) → ListSound g ms held
-      → All (λ w. HasDrawn g es w.pass w.list) ws → ((l : ℕ) → times l (ms ++ leaves_drawn es (drawn_by ws)) ≤ 1)
+      → All (λ w. ListSound g (leaves_drawn es w.pass.draws) w.list.pairs) ws
+      → ((l : ℕ) → times l (ms ++ leaves_drawn es (drawn_by ws)) ≤ 1)
       → ListSound g (ms ++ leaves_drawn es (drawn_by ws)) (merged g.k held ws)
-  lists_joined [] ms held sound done once = subst (λ (ls : List ℕ). ListSound g ls held) (sym (append-nil ms)) sound
-  lists_joined (w ∷ ws) ms held sound done once =
-      let Done : Searcher → Type 0 = λ v. HasDrawn g es v.pass v.list in
+  lists_joined [] ms held sound all once = subst (λ (ls : List ℕ). ListSound g ls held) (sym (append-nil ms)) sound
+  lists_joined (w ∷ ws) ms held sound all once =
+      let Sound : Searcher → Type 0 = λ v. ListSound g (leaves_drawn es v.pass.draws) v.list.pairs in
       let own = leaves_drawn es w.pass.draws in
       let others = leaves_drawn es (drawn_by ws) in
       let split : (ms ++ own) ++ others ≡ ms ++ leaves_drawn es (drawn_by (w ∷ ws))
@@ -136,35 +137,25 @@ module _ (g : Ground) (fits : Fits g) (es : List Entry) where
       ∙ ap (λ (ls : List ℕ). ms ++ ls) (sym (flat_map-append (piece es) w.pass.draws (drawn_by ws))) in
       let each : (l : ℕ) → times l ((ms ++ own) ++ others) ≤ 1
       = subst (λ (ls : List ℕ). (l : ℕ) → times l ls ≤ 1) (sym split) once in
-      let next = joined g fits own ms w.list.pairs held (All-head Done w ws done).sound sound
+      let next = joined g fits own ms w.list.pairs held (All-head Sound w ws all) sound
       (λ l.
       let most = each l in
       let a = times_append l (ms ++ own) others in
       let b = times_append l ms own in
       omega (arith, most, a, b)) in
       subst (λ (ls : List ℕ). ListSound g ls (merged g.k held (w ∷ ws))) split
-      (lists_joined ws (ms ++ own) (smallest g.k (w.list.pairs ++ held)) next (All-tail Done w ws done) each)
+      (lists_joined ws (ms ++ own) (smallest g.k (w.list.pairs ++ held)) next (All-tail Sound w ws all) each)
 
   -- the lists of workers that drew all stretches, merged, are a list of all leaves
-  pub all_found : (count : ℕ) → AreListed g es count → (ws : List Searcher) → 0 < length ws
-      → All (λ w. HasDrawn g es w.pass w.list) ws → EachDrawnOnce count (map (λ (w : Searcher). w.pass) ws)
+  pub all_found : (count : ℕ) → AreListed g es count → (ws : List Searcher)
+      → All (λ w. ListSound g (leaves_drawn es w.pass.draws) w.list.pairs) ws
+      → (each : EachDrawnOnce count (map (λ (w : Searcher). w.pass) ws)) → each.drawn ≡ count
       → ListSound g (leaves_in es) (merged g.k [] ws)
-  all_found count listed ws some done each =
+  all_found count listed ws sound each whole =
       same_leaves g (leaves_drawn es (drawn_by ws)) (leaves_in es) (merged g.k [] ws) same
-      (lists_joined ws [] [] (none_met g) done
+      (lists_joined ws [] [] (none_met g) sound
       (λ l. let so = same l in let one = listed.once l in omega (arith, so, one)))
     where
-      passes : List Pass
-      passes = map (λ (w : Searcher). w.pass) ws
-
-      long : (vs : List Searcher) → 0 < length vs → 0 < length (map (λ (w : Searcher). w.pass) vs)
-      long [] none = none
-      long (v ∷ vs) some = omega arith
-
-      ended : All (λ (p : Pass). p.ended ≡ true) passes
-      ended = All-map (λ (p : Pass). p.ended ≡ true) (λ (w : Searcher). w.pass) ws (λ n d low. (done n d low).ended)
-
       same : (l : ℕ) → times l (leaves_drawn es (drawn_by ws)) ≡ times l (leaves_in es)
       same l = whole_drawn es count listed.cut.whole (drawn_by ws)
-          (λ n. times_all n passes ∙ each.once n
-          ∙ ap (once_below n) (all_drawn count passes each (long ws some) ended)) l
+          (λ n. times_all n (map (λ (w : Searcher). w.pass) ws) ∙ each.once n ∙ ap (once_below n) whole) l

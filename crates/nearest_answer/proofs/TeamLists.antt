@@ -1,13 +1,12 @@
 -- The lists of all workers, joined one after another, are the answer where each stretch was drawn once (`all_answer`).
-use Rattle.std.proofs.Common.{◌≡◌, ℕ, ◌+◌, ◌<◌, ◌≤◌, List, [], ◌∷◌, ◌++◌, All, length, map, true, refl, sym, subst, inl, inr, ◌∙◌, ⊎_elim, arith}
+use Rattle.std.proofs.Common.{◌≡◌, ℕ, ◌+◌, ◌<◌, ◌≤◌, List, [], ◌∷◌, ◌++◌, All, map, refl, sym, subst, inl, inr, ◌∙◌, ⊎_elim, arith}
 use Rattle.std.proofs.lemmas.Bool.{cases_lt}
-use Rattle.std.proofs.lemmas.List.Elements.{All-head, All-tail, All-map}
+use Rattle.std.proofs.lemmas.List.Elements.{All-head, All-tail}
 use Rattle.list_totals.specs.Standing.{In}
 use Rattle.list_totals.specs.Totals.{total, times}
 use Rattle.list_totals.proofs.Standing.{in_append}
 use Rattle.list_totals.proofs.Totals.{once_below_most, once_below_yes, times_append}
 use Rattle.claim_word.specs.Passes.{Pass, EachDrawnOnce}
-use Rattle.claim_word.proofs.Draws.{all_drawn}
 use Rattle.series_core.specs.Answer.{answer}
 use Rattle.series_core.specs.Order.{Ascending}
 use Rattle.series_core.specs.Pairs.{smallest}
@@ -21,7 +20,6 @@ use Rattle.list_team.specs.declared.searcher.Searcher.{Searcher}
 use Rattle.list_team.proofs.Merging.{merged_few}
 use Rattle.nearest_answer.specs.declared.telling.ApartBy.{ApartBy}
 use Rattle.nearest_answer.specs.Stretches.{IsCut, by_stretches}
-use Rattle.nearest_answer.specs.Team.{IsDone}
 use Rattle.nearest_answer.proofs.Nearest.{answer_met, none_met}
 use Rattle.nearest_answer.proofs.StretchLeaves.{stretches_fit}
 use Rattle.search_task.specs.Questions.{CanBeSearched, Searched}
@@ -85,15 +83,15 @@ module _ (g : Ground) (fits : Fits g) where
 
   -- the lists of all workers
   all_joined : (ws : List Searcher) (ms : List ℕ) (held : List Pair) → ListSound g ms held
-      → All (λ w. IsDone g w.pass w.list) ws → ((l : ℕ) → drawn l ws + times l ms ≤ 1)
+      → All (λ w. ListSound g w.pass.draws w.list.pairs) ws → ((l : ℕ) → drawn l ws + times l ms ≤ 1)
       → (ns : List ℕ) × ListSound g ns (merged g.k held ws) × ((l : ℕ) → times l ns ≡ drawn l ws + times l ms)
-  all_joined [] ms held sound done once = (ms, sound, λ l. omega arith)
-  all_joined (w ∷ ws) ms held sound done once =
-      let Done : Searcher → Type 0 = λ v. IsDone g v.pass v.list in
-      let next = joined w.pass.draws ms w.list.pairs held (All-head Done w ws done).sound sound
+  all_joined [] ms held sound all once = (ms, sound, λ l. omega arith)
+  all_joined (w ∷ ws) ms held sound all once =
+      let Sound : Searcher → Type 0 = λ v. ListSound g v.pass.draws v.list.pairs in
+      let next = joined w.pass.draws ms w.list.pairs held (All-head Sound w ws all) sound
       (λ l. let most = once l in omega (arith, most)) in
       let rest = all_joined ws (ms ++ w.pass.draws) (smallest g.k (w.list.pairs ++ held)) next
-      (All-tail Done w ws done)
+      (All-tail Sound w ws all)
       (λ l. let most = once l in let both = times_append l ms w.pass.draws in omega (arith, most, both)) in (
         rest.0,
         rest.1,
@@ -103,26 +101,18 @@ module _ (g : Ground) (fits : Fits g) where
 
 -- the lists of workers that drew all stretches, merged, are the answer
 pub all_answer : (s : Searched) (by : ApartBy) (count : ℕ) → CanBeSearched s.question s.index → IsCut s by count
-    → (ws : List Searcher) → 0 < length ws → All (λ w. IsDone (by_stretches s by count) w.pass w.list) ws
-    → EachDrawnOnce count (map (λ (w : Searcher). w.pass) ws)
+    → (ws : List Searcher) → All (λ w. ListSound (by_stretches s by count) w.pass.draws w.list.pairs) ws
+    → (each : EachDrawnOnce count (map (λ (w : Searcher). w.pass) ws)) → each.drawn ≡ count
     → merged s.question.k [] ws ≡ answer s.question.collection s.question.query s.question.k
-all_answer s by count searched cut ws some done each =
+all_answer s by count searched cut ws sound each whole =
     let g = by_stretches s by count in
     let fits = stretches_fit s by count searched cut in
-    let passes = map (λ (w : Searcher). w.pass) ws in
-    let ended : All (λ p. p.ended ≡ true) passes
-    = All-map (λ (p : Pass). p.ended ≡ true) (λ (w : Searcher). w.pass) ws (λ n d low. (done n d low).ended) in
-    let all = all_drawn count passes each (long ws some) ended in
-    let held = all_joined g fits ws [] [] (none_met g) done
+    let held = all_joined g fits ws [] [] (none_met g) sound
     (λ l. let most = once_below_most l each.drawn in let once = each.once l in omega (arith, most, once)) in
     answer_met g fits held.0 (last g) (merged g.k [] ws) (merged_few g.k [] ws (omega arith)) (omega arith) held.1
     (λ l real.
     let once = each.once l in
-    let one = once_below_yes l each.drawn (omega (arith, all, real)) in
+    let one = once_below_yes l each.drawn (omega (arith, whole, real)) in
     let so = held.2 l in
     inl (omega (arith, once, one, so)))
     ∙ ground_answer s
-  where
-    long : (ws : List Searcher) → 0 < length ws → 0 < length (map (λ (w : Searcher). w.pass) ws)
-    long [] some = some
-    long (w ∷ ws) some = omega arith

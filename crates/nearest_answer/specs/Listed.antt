@@ -1,12 +1,9 @@
 -- Leaves that are listed, as workers draw them: stretches of entries in a row.
-use Rattle.std.specs.Prelude.{◌≡◌, ℕ, ◌*◌, ◌<◌, ◌≤◌, List, length, true, take, drop}
+use Rattle.std.specs.Prelude.{ℕ, ◌*◌, ◌<◌, ◌≤◌, List, length, take, drop}
 use Rattle.std.specs.List.{All, flat_map}
 use Rattle.list_totals.specs.Totals.{times}
-use Rattle.claim_word.specs.Passes.{Pass}
-use Rattle.series_core.specs.Best.{Best}
 use Rattle.series_core.specs.declared.queue_words.Entry.{Entry}
 use Rattle.search_machine.specs.Ground.{Ground}
-use Rattle.search_machine.specs.Sound.{ListSound}
 use Rattle.nearest_answer.specs.NearLeaves.{IsLeafEntry, leaves_in}
 
 -- the entries of stretch n: sixteen in a row, but for the last
@@ -27,9 +24,3 @@ pub record AreListed (g : Ground) (es : List Entry) (count : ℕ) : Type 0 where
   pub entries : All (IsLeafEntry g) es
   pub once : (l : ℕ) → times l (leaves_in es) ≤ 1
   pub cut : AreStretches (length es) count
-
--- the pass drew until no stretch was left; and its list has pairs of the leaves that it drew alone, and each of the answer that is of one
--- of them
-pub record HasDrawn (g : Ground) (es : List Entry) (pass : Pass) (list : Best) : Type 0 where
-  pub ended : pass.ended ≡ true
-  pub sound : ListSound g (leaves_drawn es pass.draws) list.pairs

@@ -64,8 +64,6 @@ pub(crate) fn begin_by_leaves<R: Rows>(
     requires limit { last_of search.now.question ≤ first }
     ensures { IfOk result (λ b. IsBegun search.now b) }
 {
-    // for the fact that the index can be searched for the question
-    let _k = search.k();
     let listed = all_near(alloc, search, first)?;
     let Begun {
         mut list,
@@ -121,19 +119,14 @@ pub(crate) fn finish_in_order<R: Rows>(
 }
 
 // The list of the answer, from what is left, in the order in which it is.
-fn finish<R: Rows>(search: &Search<'_, R>, begun: Begun) -> KBest
+fn finish<R: Rows>(search: &Search<'_, R>, mut begun: Begun) -> KBest
     requires begun { IsBegun search.now begun }
     ensures { let a = search.now.question in result.pairs ≡ answer a.collection a.query a.k }
 {
     // for the fact that the index can be searched for the question
     let _k = search.k();
-    let Begun {
-        mut list,
-        limit,
-        left,
-    } = begun;
-    scan_entries(search, &left, limit, &mut list);
-    list
+    scan_entries(search, &begun.left, begun.limit, &mut begun.list);
+    begun.list
 }
 
 // How many leaves of least bound are scanned for a closer limit.

@@ -12,18 +12,14 @@ use crate::begun::Begun;
 use crate::by_leaves::{begin_by_leaves, finish_in_order, left_by_first, narrowed, split_closest};
 use crate::crew::Crew;
 use crate::first_limit::first_limit;
-use crate::listed::scan_together;
 use crate::sharing::{hired_for_leaves, hired_for_rows, is_little, shared_first, value_count};
-use crate::stretches::stretch_count;
 use crate::sweep::answer_by_codes;
-use crate::team::draw_together;
+use crate::team::{Drawn, found_together, scan_together};
 use crate::telling::{ApartBy, what_tells};
 use crate::tuning::{FIRST_MEMBERS, LEAST_VALUES_TO_SHARE, MOST_RANKS_AT_ONCE};
 use crate::way::first_way;
-use best_word::BestWord;
-use claim_word::Claims;
-use list_team::{dismiss, hire};
 use outside::{Gate, NoMemory};
+use search_limits::MOST_WORKERS;
 use search_task::{Search, Task};
 use series_core::{KBest, PairList, Rows};
 use std::alloc::Global;
@@ -42,7 +38,7 @@ pub fn answer_by_team<T: Threads + Sync, R: Rows + Sync, G: Gate + Sync>(
     gate: &G,
 ) -> Result<PairList, NoMemory>
     requires fits { IndexFits task.now.collection task.now.layout index.now }
-    requires workers { (1 ≤ workers) × (workers ≤ 64) }
+    requires workers { (1 ≤ workers) × (workers ≤ MOST_WORKERS) }
     ensures { IfOk result (λ ps. ps ≡ answer task.now.collection task.now.query task.now.k) }
 {
     if workers == 1 {
@@ -76,7 +72,7 @@ pub fn answer_by_stretches<T: Threads + Sync, R: Rows + Sync, G: Gate + Sync>(
     gate: &G,
 ) -> Result<PairList, NoMemory>
     requires fits { IndexFits task.now.collection task.now.layout index.now }
-    requires workers { (1 ≤ workers) × (workers ≤ 64) }
+    requires workers { (1 ≤ workers) × (workers ≤ MOST_WORKERS) }
     ensures { IfOk result (λ ps. ps ≡ answer task.now.collection task.now.query task.now.k) }
 {
     let search = Search::new(task, index);
@@ -92,7 +88,9 @@ pub fn answer_by_stretches<T: Threads + Sync, R: Rows + Sync, G: Gate + Sync>(
             let left = left_by_first(alloc, &search, first)?;
             finish_at_once(&crew, &search, left)?
         }
-        ApartBy::Codes | ApartBy::Nothing => side_by_side(&crew, &search, by, first)?,
+        ApartBy::Codes | ApartBy::Nothing => {
+            found_together(&crew, &search, Drawn::Whole(by), first)?
+        }
     };
     Ok(PairList {
         items: list.pairs().to_vec(alloc)?,
@@ -107,7 +105,7 @@ fn by_near_leaves<T: Threads + Sync, R: Rows + Sync, G: Gate + Sync>(
     first: u64,
 ) -> Result<KBest, NoMemory>
     requires limit { last_of search.now.question ≤ first }
-    requires workers { (1 ≤ crew.now.workers) × (crew.now.workers ≤ 64) }
+    requires workers { (1 ≤ crew.now.workers) × (crew.now.workers ≤ MOST_WORKERS) }
     ensures { let a = search.now.question in IfOk result (λ best. best.pairs ≡ answer a.collection a.query a.k) }
 {
     let begun = begin_by_leaves(crew.alloc, search, first)?;
@@ -130,7 +128,7 @@ fn finish_together<T: Threads + Sync, R: Rows + Sync, G: Gate + Sync>(
     begun: Begun,
 ) -> Result<KBest, NoMemory>
     requires begun { IsBegun search.now begun }
-    requires workers { (1 ≤ crew.now.workers) × (crew.now.workers ≤ 64) }
+    requires workers { (1 ≤ crew.now.workers) × (crew.now.workers ≤ MOST_WORKERS) }
     ensures { let a = search.now.question in IfOk result (λ best. best.pairs ≡ answer a.collection a.query a.k) }
 {
     let hired = crew.of(hired_for_leaves(search, begun.left.len(), crew.workers));
@@ -153,11 +151,9 @@ fn closer_together<T: Threads + Sync, R: Rows + Sync, G: Gate + Sync>(
     begun: Begun,
 ) -> Result<Begun, NoMemory>
     requires begun { IsBegun search.now begun }
-    requires workers { (1 ≤ crew.now.workers) × (crew.now.workers ≤ 64) }
+    requires workers { (1 ≤ crew.now.workers) × (crew.now.workers ≤ MOST_WORKERS) }
     ensures { IfOk result (λ b. IsBegun search.now b) }
 {
-    // for the fact that the index can be searched for the question
-    let _k = search.k();
     let Begun {
         mut list,
         limit,
@@ -172,21 +168,16 @@ fn closer_together<T: Threads + Sync, R: Rows + Sync, G: Gate + Sync>(
 fn finish_at_once<T: Threads + Sync, R: Rows + Sync, G: Gate + Sync>(
     crew: &Crew<'_, T, G>,
     search: &Search<'_, R>,
-    begun: Begun,
+    mut begun: Begun,
 ) -> Result<KBest, NoMemory>
     requires begun { IsBegun search.now begun }
-    requires workers { (1 ≤ crew.now.workers) × (crew.now.workers ≤ 64) }
+    requires workers { (1 ≤ crew.now.workers) × (crew.now.workers ≤ MOST_WORKERS) }
     ensures { let a = search.now.question in IfOk result (λ best. best.pairs ≡ answer a.collection a.query a.k) }
 {
     // for the fact that the index can be searched for the question
     let _k = search.k();
-    let Begun {
-        mut list,
-        limit,
-        left,
-    } = begun;
-    scan_together(crew, search, &left, limit, &mut list)?;
-    Ok(list)
+    scan_together(crew, search, &begun.left, begun.limit, &mut begun.list)?;
+    Ok(begun.list)
 }
 
 // The list of the answer by the codes of all members' rows, or by all rows: shared where these have many values.
@@ -197,7 +188,7 @@ fn rest<T: Threads + Sync, R: Rows + Sync, G: Gate + Sync>(
     limit: u64,
 ) -> Result<KBest, NoMemory>
     requires limit { last_of search.now.question ≤ limit }
-    requires workers { (1 ≤ crew.now.workers) × (crew.now.workers ≤ 64) }
+    requires workers { (1 ≤ crew.now.workers) × (crew.now.workers ≤ MOST_WORKERS) }
     ensures { let a = search.now.question in IfOk result (λ best. best.pairs ≡ answer a.collection a.query a.k) }
 {
     let values = value_count(search.task());
@@ -211,29 +202,7 @@ fn rest<T: Threads + Sync, R: Rows + Sync, G: Gate + Sync>(
         }
         _ => {
             let hired = crew.of(hired_for_rows(search.task(), crew.workers));
-            side_by_side(&hired, search, by, limit)
+            found_together(&hired, search, Drawn::Whole(by), limit)
         }
     }
-}
-
-// The list of the answer by all workers, who draw the stretches side by side.
-fn side_by_side<T: Threads + Sync, R: Rows + Sync, G: Gate + Sync>(
-    crew: &Crew<'_, T, G>,
-    search: &Search<'_, R>,
-    by: ApartBy,
-    limit: u64,
-) -> Result<KBest, NoMemory>
-    requires limit { last_of search.now.question ≤ limit }
-    requires workers { (1 ≤ crew.now.workers) × (crew.now.workers ≤ 64) }
-    ensures { let a = search.now.question in IfOk result (λ best. best.pairs ≡ answer a.collection a.query a.k) }
-{
-    let count = stretch_count(search, by);
-    let workers = crew.workers.min(count.max(1));
-    let (best, words) = BestWord::begin(crew.alloc, search.task(), limit, workers)?;
-    let (claims, passes) = Claims::begin(crew.alloc, u64::from(count), workers)?;
-    let k = search.k();
-    let mut team = hire(crew.alloc, &claims, &best, k, passes, words)?;
-    draw_together(crew.rt, search, by, &claims, &best, crew.gate, &mut team);
-    let list = dismiss(crew.alloc, k, claims, team)?;
-    Ok(list)
 }

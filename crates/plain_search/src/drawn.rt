@@ -6,7 +6,8 @@ use breakpoints::Table;
 use outside::NoMemory;
 use rand_xoshiro::SplitMix64;
 use rand_xoshiro::rand_core::Rng;
-use series_core::Flat;
+use search_limits::{MOST_QUEUES, MOST_WORKERS};
+use series_core::{Flat, MAX_BEST};
 use std::alloc::Global;
 use subtree_build::Settings;
 
@@ -31,12 +32,15 @@ impl Shape {
     /// Whether there may be such a search over series of four values.
     pub fn is_sound(&self) -> bool
         ensures segments { IsTrue result → (1 ≤ self.now.segments) × (self.now.segments ≤ 4) }
-        ensures k { IsTrue result → (1 ≤ self.now.k) × (self.now.k ≤ 1024) }
-        ensures workers { IsTrue result → (1 ≤ self.now.workers) × (self.now.workers ≤ 64) }
-        ensures queues { IsTrue result → (1 ≤ self.now.queues) × (self.now.queues ≤ 64) }
+        ensures k { IsTrue result → (1 ≤ self.now.k) × (self.now.k ≤ MAX_BEST) }
+        ensures workers { IsTrue result → (1 ≤ self.now.workers) × (self.now.workers ≤ MOST_WORKERS) }
+        ensures queues { IsTrue result → (1 ≤ self.now.queues) × (self.now.queues ≤ MOST_QUEUES) }
     {
         let some = self.segments >= 1 && self.k >= 1 && self.workers >= 1 && self.queues >= 1;
-        some && self.segments <= 4 && self.k <= 1024 && self.workers <= 64 && self.queues <= 64
+        some && self.segments <= 4
+            && self.k <= MAX_BEST
+            && self.workers <= MOST_WORKERS
+            && self.queues <= MOST_QUEUES
     }
 
     /// The settings of its tree.

@@ -15,6 +15,7 @@ use Rattle.subtree_build.specs.Start.{start_leaf_of}
 use Rattle.search_task.specs.Questions.{CanBeSearched, Question, view_in}
 use Rattle.query_core.specs.Teams.{AreOver}
 use Rattle.query_core.specs.Working.{Working}
+use Rattle.search_limits.specs.declared.numbers.TheConstants.{MOST_WORKERS}
 
 -- the fate of leaf l where no queue gave it
 abbrev pub fate_unqueued : Ground → State → ℕ → Fate
@@ -41,7 +42,7 @@ pub record HaveSearched (a : Question) (ix : IndexParts) (start : Option Start) 
   pub searches : CanBeSearched a ix
   pub start_is : leaf_of start ≡ start_leaf_of (view_in a) ix
   pub over : AreOver a ix ws
-  pub few : length ws ≤ 64
+  pub few : length ws ≤ MOST_WORKERS
 
 -- each leaf that had a fate has the fate that these entries of queue m give it
 abbrev pub AreMarked : Option ℕ → ℕ → List Entry → List Fate → List Fate → Type 0

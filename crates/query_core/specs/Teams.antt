@@ -14,6 +14,7 @@ use Rattle.search_machine.specs.Basics.{start_of}
 use Rattle.search_task.specs.Questions.{Question, CanBeSearched, last_of, search_over}
 use Rattle.query_core.specs.Working.{Working, IsOf, Shows, opens_as}
 use Rattle.search_machine.specs.declared.phase.Phase.TheVariants.{Done}
+use Rattle.search_limits.specs.declared.numbers.TheConstants.{MOST_WORKERS}
 
 -- a team: the question and the index, the number of queues, the start, what the workers share, and the workers
 pub record TeamParts : Type 0 where
@@ -43,7 +44,7 @@ AreAlone ws = (i : ℕ) (w : Working) → slice_get ws i ≡ Some w → w.shares
 pub record IsTeam (t : TeamParts) : Type 0 where
   pub searches : CanBeSearched t.question t.index
   pub some_worker : 0 < length t.workers
-  pub few_workers : length t.workers ≤ 64
+  pub few_workers : length t.workers ≤ MOST_WORKERS
   pub some_queue : 0 < t.queues
   pub begins : t.start ≡ start_of (searched t)
   pub floor : t.hand.floor ≡ last_of t.question

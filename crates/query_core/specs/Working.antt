@@ -22,6 +22,7 @@ use Rattle.search_machine.specs.Workers.{Worker, is_new, leader, idle}
 use Rattle.search_machine.specs.Outcome.{is_start}
 use Rattle.search_task.specs.Questions.{Question, CanBeSearched, view_in, search_over}
 use Rattle.query_core.specs.Walks.{IsEntry, Walked}
+use Rattle.search_limits.specs.declared.numbers.TheConstants.{MOST_QUEUES, MOST_WORKERS}
 
 -- a worker: the question and the index, its number, the number of queues, its phase, the leaves that it has still to
 -- look at, its list, for each leaf whether it scanned it, and whether it shares limits of portions
@@ -115,9 +116,9 @@ pub record IsOf (a : Question) (ix : IndexParts) (m i : ℕ) (w : Working) : Typ
 -- many pairs as are wanted, and holds what was found in leaves with marks
 pub record IsWorking (start : Option ℕ) (walk : Walked) (best : Best) (stage : Stage) (w : Working) : Type 0 where
   pub searched : CanBeSearched w.question w.index
-  pub number_limit : w.number < 64
+  pub number_limit : w.number < MOST_WORKERS
   pub some_queue : 0 < w.queues
-  pub few_queues : w.queues ≤ 64
+  pub few_queues : w.queues ≤ MOST_QUEUES
   pub start_is : start ≡ start_leaf_of (view_in w.question) w.index
   pub walk_index : walk.index ≡ w.index
   pub wanted : best.k ≡ w.question.k

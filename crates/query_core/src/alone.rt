@@ -10,6 +10,7 @@ ghost use Rattle.search_task.specs.Questions.{search_over};
 
 use crate::team::Team;
 use outside::NoMemory;
+use search_limits::MOST_QUEUES;
 use search_machine::Outcome;
 use search_task::{Search, Task};
 use series_core::Rows;
@@ -25,7 +26,7 @@ pub fn one_worker<R: Rows>(
     queues: u32,
 ) -> Result<Outcome, NoMemory>
     requires fits { IndexFits task.now.collection task.now.layout index.now }
-    requires queues { (1 ≤ queues) × (queues ≤ 64) }
+    requires queues { (1 ≤ queues) × (queues ≤ MOST_QUEUES) }
     ensures legal { IfOk result (λ o. Legal (search_over task.now index.now 1 queues) o) }
     ensures straight { IfOk result IsStraight }
     ensures answer { IfOk result (λ o. o.pairs ≡ answer task.now.collection task.now.query task.now.k) }
@@ -41,7 +42,7 @@ fn finished<'a, R: Rows>(
     search: Search<'a, R>,
     queues: u32,
 ) -> Result<Team<'a, R>, NoMemory>
-    requires queues { (1 ≤ queues) × (queues ≤ 64) }
+    requires queues { (1 ≤ queues) × (queues ≤ MOST_QUEUES) }
     ensures searches { IfOk result (λ t. searched t ≡ search_over search.entry.question search.entry.index 1 queues) }
     ensures ends { IfOk result EndsAlone }
 {

@@ -14,6 +14,7 @@ ghost use Rattle.query_core.specs.Teams.{AreOver, AreShown, EndsIn, HaveLeaf, al
 use crate::merging::merge;
 use crate::worker::Worker;
 use outside::NoMemory;
+use search_limits::{MOST_QUEUES, MOST_WORKERS};
 use search_machine::{Fate, FateList, LineList, Outcome, QueueLine, Start};
 use search_task::Search;
 use series_core::{Entry, PairList, Rows};
@@ -31,8 +32,8 @@ pub fn conclude<R: Rows>(
 ) -> Result<Outcome, NoMemory>
     requires start { start ≡ start_of (search_over search.now.question search.now.index 1 1) }
     requires over { AreOver search.now.question search.now.index workers.now }
-    requires workers { length workers.now ≤ 64 }
-    requires lines { length lines ≤ 64 }
+    requires workers { length workers.now ≤ MOST_WORKERS }
+    requires lines { length lines ≤ MOST_QUEUES }
     ensures { (n m : ℕ) (s : State) → EndsIn workers.now lines s
         → IfOk result (λ o. o ≡ outcome (search_over search.now.question search.now.index n m) s) }
 {
@@ -68,7 +69,7 @@ fn fates<R: Rows>(
     lines: &[QueueLine],
 ) -> Result<FateList, NoMemory>
     requires ended { HaveSearched search.now.question search.now.index start workers.now }
-    requires lines { length lines.now ≤ 64 }
+    requires lines { length lines.now ≤ MOST_QUEUES }
     ensures { (n m : ℕ) (s : State) → EndsIn workers.now lines.now s
         → IfOk result (λ fs. fs ≡ fates_from (search_over search.now.question search.now.index n m) s 0 (length search.now.index.leaves)) }
 {
@@ -123,7 +124,7 @@ fn bound_of<R: Rows>(search: &Search<'_, R>, workers: &[Worker<'_, R>], leaf: u3
 
 // The first worker that scanned the leaf.
 fn first_to_scan<R: Rows>(workers: &[Worker<'_, R>], leaf: u32) -> Option<u32>
-    requires workers { length workers.now ≤ 64 }
+    requires workers { length workers.now ≤ MOST_WORKERS }
     requires leaf { HaveLeaf workers.now leaf }
     ensures { (ms : List Shown) → AreShown workers.now ms → result ≡ first_place (scans leaf) ms }
 {

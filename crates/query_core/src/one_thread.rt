@@ -7,6 +7,7 @@ use crate::opening::empty_queues;
 use crate::shared::Shared;
 use leaf_queues::Queue;
 use outside::NoMemory;
+use search_limits::MOST_QUEUES;
 use search_task::Task;
 use series_core::{Entry, PopReply, PutReply, Rows};
 use std::alloc::Global;
@@ -57,7 +58,7 @@ impl<'a, R: Rows> OneThread<'a, R> {
         queues: u32,
         limit: u64,
     ) -> Result<OneThread<'a, R>, NoMemory>
-        requires queues { (1 ≤ queues) × (queues ≤ 64) }
+        requires queues { (1 ≤ queues) × (queues ≤ MOST_QUEUES) }
         requires limit { last_of task.now ≤ limit }
         ensures { let g = search_over task.now index.now 1 queues in
             IfOk result (λ h. h ≡ opening_hand g (last_of task.now) (length index.now.roots) limit) }
@@ -74,7 +75,7 @@ impl<'a, R: Rows> OneThread<'a, R> {
     /// Lends the queues, no more than 64.
     pub(crate) fn queues(&self) -> &[Queue]
         ensures queues { result.now ≡ self.now.queues }
-        ensures few { length self.now.queues ≤ 64 }
+        ensures few { length self.now.queues ≤ MOST_QUEUES }
     {
         &self.queues
     }

@@ -9,6 +9,7 @@ ghost use Rattle.query_core.specs.Teams.{AreAlone, AreHired, limit_of};
 use crate::worker::Worker;
 use leaf_queues::Queue;
 use outside::NoMemory;
+use search_limits::{MOST_QUEUES, MOST_WORKERS};
 use search_machine::Start;
 use search_task::Search;
 use series_core::{KBest, NONE, Rows};
@@ -35,8 +36,8 @@ pub fn hire<'a, R: Rows>(
     start: Option<Start>,
     list: KBest,
 ) -> Result<Vec<Worker<'a, R>>, NoMemory>
-    requires workers { (1 ≤ workers) × (workers ≤ 64) }
-    requires queues { (1 ≤ queues) × (queues ≤ 64) }
+    requires workers { (1 ≤ workers) × (workers ≤ MOST_WORKERS) }
+    requires queues { (1 ≤ queues) × (queues ≤ MOST_QUEUES) }
     requires start { let s = search.now in start ≡ start_of (search_over s.question s.index 1 queues) }
     requires list { let s = search.now in
         list ≡ record { k = s.question.k; pairs = opening (search_over s.question s.index 1 queues) } }

@@ -13,6 +13,7 @@ ghost use Rattle.query_core.specs.Teams.{StandsAt, searched};
 
 use crate::team::Team;
 use outside::NoMemory;
+use search_limits::{MOST_QUEUES, MOST_WORKERS};
 use search_machine::Outcome;
 use search_task::{Search, Task};
 use series_core::Rows;
@@ -46,8 +47,8 @@ pub fn replay<R: Rows>(
     schedule: &[u32],
 ) -> Result<Outcome, ReplayError>
     requires fits { IndexFits task.now.collection task.now.layout index.now }
-    requires workers { (1 ≤ workers) × (workers ≤ 64) }
-    requires queues { (1 ≤ queues) × (queues ≤ 64) }
+    requires workers { (1 ≤ workers) × (workers ≤ MOST_WORKERS) }
+    requires queues { (1 ≤ queues) × (queues ≤ MOST_QUEUES) }
     ensures played { IfOk result (λ o. IsPlayed (search_over task.now index.now workers queues) schedule.now) }
     ensures outcome { let g = search_over task.now index.now workers queues in
         IfOk result (λ o. o ≡ outcome g (played g schedule.now)) }

@@ -6,6 +6,7 @@ ghost use Rattle.search_machine.specs.declared.phase.Phase.TheVariants.{Aim, Don
 ghost use Rattle.search_machine.specs.Workers.{onward};
 ghost use Rattle.query_core.specs.Working.{OnwardInRange, StageInRange, phase_of};
 
+use search_limits::MOST_QUEUES;
 use search_machine::Onward;
 use series_core::Entry;
 
@@ -45,7 +46,7 @@ impl Stage {
 
     /// After a queue that is closed comes the next of the round, and after the last nothing.
     pub(crate) fn after_close(place: u32, queues: u32) -> Stage
-        requires few { queues ≤ 64 }
+        requires few { queues ≤ MOST_QUEUES }
         requires place { place < queues }
         ensures phase { phase_of result ≡ cond (nat_lt (suc place) queues) (Aim (suc place)) Done }
         ensures range { (view : View) (ix : IndexParts) → StageInRange view ix queues result }

@@ -8,6 +8,7 @@ use crate::one_thread::OneThread;
 use crate::opening::{hire, limit_of};
 use crate::worker::Worker;
 use outside::NoMemory;
+use search_limits::{MOST_QUEUES, MOST_WORKERS};
 use search_machine::Start;
 use search_task::Search;
 use series_core::Rows;
@@ -47,8 +48,8 @@ impl<'a, R: Rows> Team<'a, R> {
         workers: u32,
         queues: u32,
     ) -> Result<Team<'a, R>, NoMemory>
-        requires workers { (1 ≤ workers) × (workers ≤ 64) }
-        requires queues { (1 ≤ queues) × (queues ≤ 64) }
+        requires workers { (1 ≤ workers) × (workers ≤ MOST_WORKERS) }
+        requires queues { (1 ≤ queues) × (queues ≤ MOST_QUEUES) }
         ensures searches { let s = search.entry in IfOk result (λ t. searched t ≡ search_over s.question s.index workers queues) }
         ensures opens { let s = search.entry in
             IfOk result (λ t. StandsAt t (opened (search_over s.question s.index workers queues))) }

@@ -15,6 +15,7 @@ use crate::limits::Limits;
 use crate::stage::Stage;
 use crate::walk::Walk;
 use outside::NoMemory;
+use search_limits::{MOST_QUEUES, MOST_WORKERS};
 use search_machine::{Onward, Start};
 use search_task::{Search, Task};
 use series_core::{KBest, Rows};
@@ -78,8 +79,8 @@ impl<'a, R: Rows> Worker<'a, R> {
         list: KBest,
     ) -> Result<Worker<'a, R>, NoMemory>
         requires fits { IndexFits task.now.collection task.now.layout index.now }
-        requires number { number < 64 }
-        requires queues { (1 ≤ queues) × (queues ≤ 64) }
+        requires number { number < MOST_WORKERS }
+        requires queues { (1 ≤ queues) × (queues ≤ MOST_QUEUES) }
         requires start { start ≡ start_of (search_over task.now index.now 1 queues) }
         requires list { list ≡ record {
           k = task.now.k;

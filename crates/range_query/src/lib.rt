@@ -4,6 +4,7 @@
 
 mod range;
 mod team;
+mod tuning;
 mod walk;
 
 pub use range::{within, within_alone};

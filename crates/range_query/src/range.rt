@@ -9,6 +9,7 @@ use isax_word::Layout;
 use lower_bound::QueryView;
 use mean_bound::MeanView;
 use outside::{Gate, NoMemory};
+use search_limits::MOST_WORKERS;
 use series_core::{Pair, Rows};
 use std::alloc::Global;
 use std::thread::Threads;
@@ -32,7 +33,7 @@ pub fn within<T: Threads + Sync, R: Rows + Sync, G: Gate + Sync>(
     requires fits { Fits (R.collection rows.now) layout.now index.now }
     requires length { (R.collection rows.now).points ≡ layout.now.cuts.row_length }
     requires query { length query.now ≡ (R.collection rows.now).points }
-    requires workers { (1 ≤ workers) × (workers ≤ 64) }
+    requires workers { (1 ≤ workers) × (workers ≤ MOST_WORKERS) }
     ensures { IfOk result (λ pairs. pairs.items ≡ within (R.collection rows.now) query.now radius) }
 {
     let view = QueryView::new(layout, query);

@@ -1,14 +1,16 @@
 //! Workers that draw groups of root children until none is left, each with what it found: side by side, or one alone.
-ghost use Rattle.std.specs.Prelude.{◌≡◌, ◌<◌, ◌≤◌, ◌++◌, All, IfOk, OnOk, IfSome, length, vec_len};
+ghost use Rattle.std.specs.Prelude.{◌≡◌, ◌<◌, ◌≤◌, ◌++◌, All, IfOk, OnOk, length, vec_len};
 ghost use Rattle.claim_word.specs.Passes.{fresh_pass};
 ghost use Rattle.range_query.specs.Searches.{IsReady, asked_of};
-ghost use Rattle.range_query.specs.Done.{IsDone};
+ghost use Rattle.range_query.specs.Done.{HasDrawn};
 ghost use Rattle.range_query.specs.Near.{group_count, near_group};
 ghost use Rattle.series_core.specs.Answer.{within};
 
+use crate::tuning::MOST_ROOTS_A_GROUP;
 use crate::walk::Search;
 use claim_word::Claims;
 use outside::{Gate, NoGate, NoMemory};
+use search_limits::MOST_WORKERS;
 use series_core::{Pair, Rows};
 use std::alloc::Global;
 use std::thread::Threads;
@@ -21,7 +23,7 @@ fn search_group<R: Rows>(
     found: &mut Vec<Pair>,
 ) -> Result<(), NoMemory>
     requires ready { IsReady R.collection search.now }
-    requires size { (1 ≤ search.now.size) × (search.now.size ≤ 64) }
+    requires size { (1 ≤ search.now.size) × (search.now.size ≤ MOST_ROOTS_A_GROUP) }
     requires group { group < group_count search.now.size (length search.now.index.now.roots) }
     ensures { let near = near_group (asked_of R.collection search.now) search.now.index.now search.now.size group in
         OnOk result (found.new.items ≡ found.old.items ++ near) }
@@ -34,35 +36,9 @@ fn search_group<R: Rows>(
     Ok(())
 }
 
-/// Draws groups of root children until none is left, and finds the pairs below each that are within the radius.
+/// Draws groups of root children until none is left, and keeps the pairs below them that are within the radius; where memory does not
+/// suffice, it stops and keeps nothing.
 fn draw_all<R: Rows, G: Gate>(
-    alloc: Global,
-    search: &Search<'_, R>,
-    claims: &Claims,
-    gate: &G,
-    worker: &mut TeamWorker<Vec<Pair>>,
-) -> Result<Vec<Pair>, NoMemory>
-    requires ready { IsReady R.collection search.now }
-    requires size { (1 ≤ search.now.size) × (search.now.size ≤ 64) }
-    requires count { claims.now.count ≡ group_count search.now.size (length search.now.index.now.roots) }
-    requires fresh { worker.old.pass ≡ fresh_pass claims.now }
-    ensures own { worker.new.pass.claims ≡ claims.now }
-    ensures done { let asked = asked_of R.collection search.now in
-        IfOk result (λ found. IsDone asked search.now.index.now search.now.size worker.new.pass found.items) }
-{
-    let mut found = Vec::new(alloc);
-    loop {
-        gate.pass(worker.number, worker.turn);
-        worker.turn = worker.turn.saturating_add(1);
-        let Some(drawn) = claims.draw(&mut worker.pass) else {
-            return Ok(found);
-        };
-        search_group(search, drawn, &mut found)?;
-    }
-}
-
-/// Lets a worker draw to the end, and keeps what it found.
-fn work<R: Rows, G: Gate>(
     alloc: Global,
     search: &Search<'_, R>,
     claims: &Claims,
@@ -70,14 +46,25 @@ fn work<R: Rows, G: Gate>(
     worker: &mut TeamWorker<Vec<Pair>>,
 )
     requires ready { IsReady R.collection search.now }
-    requires size { (1 ≤ search.now.size) × (search.now.size ≤ 64) }
+    requires size { (1 ≤ search.now.size) × (search.now.size ≤ MOST_ROOTS_A_GROUP) }
     requires count { claims.now.count ≡ group_count search.now.size (length search.now.index.now.roots) }
     requires fresh { worker.old.pass ≡ fresh_pass claims.now }
     ensures own { worker.new.pass.claims ≡ claims.now }
-    ensures done { let asked = asked_of R.collection search.now in
-        IfSome worker.new.made (λ found. IsDone asked search.now.index.now search.now.size worker.new.pass found.items) }
+    ensures done { HasDrawn R.collection search.now worker.new }
 {
-    worker.made = draw_all(alloc, search, claims, gate, worker).ok();
+    let mut found = Vec::new(alloc);
+    worker.made = None;
+    loop {
+        gate.pass(worker.number, worker.turn);
+        worker.turn = worker.turn.saturating_add(1);
+        let Some(drawn) = claims.draw(&mut worker.pass) else {
+            worker.made = Some(found);
+            return;
+        };
+        let Ok(()) = search_group(search, drawn, &mut found) else {
+            return;
+        };
+    }
 }
 
 /// Lets the workers draw side by side, each in a thread of its own; a worker alone starts no thread.
@@ -90,20 +77,18 @@ pub(crate) fn draw_together<T: Threads + Sync, R: Rows + Sync, G: Gate + Sync>(
     team: &mut Vec<TeamWorker<Vec<Pair>>>,
 )
     requires ready { IsReady R.collection search.now }
-    requires size { (1 ≤ search.now.size) × (search.now.size ≤ 64) }
+    requires size { (1 ≤ search.now.size) × (search.now.size ≤ MOST_ROOTS_A_GROUP) }
     requires count { claims.now.count ≡ group_count search.now.size (length search.now.index.now.roots) }
     requires some { 0 < vec_len team.old }
     requires fresh { All (λ w. w.pass ≡ fresh_pass claims.now) team.old.items }
     ensures len { vec_len team.new ≡ vec_len team.old }
     ensures own { All (λ w. w.pass.claims ≡ claims.now) team.new.items }
-    ensures done { let asked = asked_of R.collection search.now in
-        let done = IsDone asked search.now.index.now search.now.size in
-        All (λ w. IfSome w.made (λ found. done w.pass found.items)) team.new.items }
+    ensures done { All (HasDrawn R.collection search.now) team.new.items }
 {
     for_each_mut(
         rt,
         team.as_mut_slice(),
-        &|_, worker| work(alloc, search, claims, gate, worker),
+        &|_, worker| draw_all(alloc, search, claims, gate, worker),
     );
 }
 
@@ -115,17 +100,15 @@ pub(crate) fn draw_alone<R: Rows>(
     team: &mut Vec<TeamWorker<Vec<Pair>>>,
 )
     requires ready { IsReady R.collection search.now }
-    requires size { (1 ≤ search.now.size) × (search.now.size ≤ 64) }
+    requires size { (1 ≤ search.now.size) × (search.now.size ≤ MOST_ROOTS_A_GROUP) }
     requires count { claims.now.count ≡ group_count search.now.size (length search.now.index.now.roots) }
     requires one { vec_len team.old ≡ 1 }
     requires fresh { All (λ w. w.pass ≡ fresh_pass claims.now) team.old.items }
     ensures len { vec_len team.new ≡ vec_len team.old }
     ensures own { All (λ w. w.pass.claims ≡ claims.now) team.new.items }
-    ensures done { let asked = asked_of R.collection search.now in
-        let done = IsDone asked search.now.index.now search.now.size in
-        All (λ w. IfSome w.made (λ found. done w.pass found.items)) team.new.items }
+    ensures done { All (HasDrawn R.collection search.now) team.new.items }
 {
-    work(alloc, search, claims, &NoGate, &mut team[0]);
+    draw_all(alloc, search, claims, &NoGate, &mut team[0]);
 }
 
 /// The counter over the groups of root children, and a team whose workers are to draw them.
@@ -134,7 +117,7 @@ pub(crate) fn begin<R: Rows>(
     search: &Search<'_, R>,
     workers: u32,
 ) -> Result<(Claims, Vec<TeamWorker<Vec<Pair>>>), NoMemory>
-    requires workers { (1 ≤ workers) × (workers ≤ 64) }
+    requires workers { (1 ≤ workers) × (workers ≤ MOST_WORKERS) }
     requires size { 1 ≤ search.now.size }
     ensures count { let groups = group_count search.now.size (length search.now.index.now.roots) in
         IfOk result (λ r. r.0.count ≡ groups) }
@@ -144,7 +127,7 @@ pub(crate) fn begin<R: Rows>(
 {
     let groups = groups(search.index.root_count(), search.size);
     let (claims, passes) = Claims::begin(alloc, groups, workers)?;
-    let team = hire(alloc, &claims, passes, &[0; 64])?;
+    let team = hire(alloc, &claims, passes, &[0; MOST_WORKERS as usize])?;
     Ok((claims, team))
 }
 
@@ -170,9 +153,7 @@ pub(crate) fn end<R: Rows>(
     requires all { vec_len team ≡ claims.callers }
     requires some { 0 < vec_len team }
     requires own { All (λ w. w.pass.claims ≡ claims) team.items }
-    requires done { let asked = asked_of R.collection search.now in
-        let done = IsDone asked search.now.index.now search.now.size in
-        All (λ w. IfSome w.made (λ found. done w.pass found.items)) team.items }
+    requires done { All (HasDrawn R.collection search.now) team.items }
     ensures { let asked = asked_of R.collection search.now in
         IfOk result (λ pairs. pairs.items ≡ within asked.collection asked.query asked.radius) }
 {

@@ -10,10 +10,12 @@ ghost use Rattle.subtree_build.specs.Means.{means_of};
 ghost use Rattle.range_query.specs.Searches.{IsReady, asked_of};
 ghost use Rattle.range_query.specs.Near.{IsAsked, ask, near_series, near_leaf, near_root};
 
+use crate::tuning::{GROUPS_A_SHARE, MOST_ROOTS_A_GROUP};
 use isax_word::Member;
 use lower_bound::QueryView;
 use mean_bound::{MeanView, Means};
 use outside::NoMemory;
+use search_limits::MOST_WORKERS;
 use series_core::{Pair, Rows, values_fit};
 use simd_distance::distance_within;
 use subtree_build::Index;
@@ -41,12 +43,12 @@ fn keep(found: &mut Vec<Pair>, pair: Option<Pair>) -> Result<(), NoMemory>
     }
 }
 
-/// How many root children a worker takes at a time: an eighth of its share, but no more than 64.
+/// How many root children a worker takes at a time: a part of its share, but no more than `MOST_ROOTS_A_GROUP`.
 fn group_size(roots: u32, workers: u32) -> u32
-    requires { (1 ≤ workers) × (workers ≤ 64) }
-    ensures { (1 ≤ result) × (result ≤ 64) }
+    requires { (1 ≤ workers) × (workers ≤ MOST_WORKERS) }
+    ensures { (1 ≤ result) × (result ≤ MOST_ROOTS_A_GROUP) }
 {
-    (roots / (8 * workers)).clamp(1, 64)
+    (roots / (GROUPS_A_SHARE * workers)).clamp(1, MOST_ROOTS_A_GROUP)
 }
 
 /// The law that an index that fits under the layout of a query's view is all that a search rests on.
@@ -79,10 +81,10 @@ impl<'a, R: Rows> Search<'a, R> {
         requires query { length query.now ≡ view.now.layout.cuts.row_length }
         requires view { view.now ≡ view_of view.now.layout query.now }
         requires means { means.now ≡ mean_view_of view.now.layout.cuts query.now }
-        requires workers { (1 ≤ workers) × (workers ≤ 64) }
+        requires workers { (1 ≤ workers) × (workers ≤ MOST_WORKERS) }
         ensures ready { IsReady R.collection result }
         ensures asked { asked_of R.collection result ≡ ask (R.collection rows.now) query.now radius }
-        ensures size { (1 ≤ result.size) × (result.size ≤ 64) }
+        ensures size { (1 ≤ result.size) × (result.size ≤ MOST_ROOTS_A_GROUP) }
     {
         search_law(rows, index, view, query, radius);
         Search {

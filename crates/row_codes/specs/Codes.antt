@@ -3,10 +3,11 @@
 use Rattle.std.specs.Prelude.{ℕ, ℤ, pos, ◌+◌, ◌-◌, ◌*◌, ◌/◌, ◌%◌, ◌+ℤ◌, ◌-ℤ◌, List, [], ◌∷◌, ◌++◌, map, max, min, slice_index, unsigned_abs}
 use Rattle.std.specs.List.{range_with_len}
 use Rattle.row_codes.specs.Roots.{square}
+use Rattle.search_limits.specs.declared.numbers.TheConstants.{RAISE}
 
 -- a value, counted from the least that there is
 abbrev pub raised : ℤ → ℕ
-raised x = unsigned_abs (x +ℤ pos 32768)
+raised x = unsigned_abs (x +ℤ pos RAISE)
 
 -- the least of some values, so counted
 abbrev pub least : List ℤ → ℕ
@@ -28,7 +29,7 @@ code_of low step x = (raised x - low) / step
 
 -- what a code stands for
 abbrev pub picture_of : ℕ → ℕ → ℕ → ℤ
-picture_of low step c = pos (low + step * c + step / 2) -ℤ pos 32768
+picture_of low step c = pos (low + step * c + step / 2) -ℤ pos RAISE
 
 -- what codes stand for
 abbrev pub pictured : ℕ → ℕ → List ℕ → List ℤ

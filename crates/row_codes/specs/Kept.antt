@@ -4,6 +4,8 @@ use Rattle.std.specs.Prelude.{◌≡◌, ℕ, ℤ, pos, ◌+◌, ◌-◌, ◌*�
 use Rattle.std.specs.List.{range_with_len}
 use Rattle.std.specs.Simd.Lanes.{chunk}
 use Rattle.row_codes.specs.Codes.{value_squares}
+use Rattle.search_limits.specs.declared.numbers.TheConstants.{RAISE}
+use Rattle.series_core.specs.declared.rows.TheConstants.{MAX_LENGTH}
 
 -- the sum of some values
 abbrev pub value_total : List ℤ → ℤ
@@ -29,7 +31,7 @@ filled xs = xs ++ replicate (256 - length xs) (pos 0)
 
 -- what a view keeps of a query
 pub record IsCodeView (query last : List ℤ) (sums : List Sums) : Type 0 where
-  pub limit : length query ≤ 65536
+  pub limit : length query ≤ MAX_LENGTH
   pub behind : last ≡ filled (drop (256 * ((length query - 1) / 256)) query)
   pub places : length sums ≡ 256
   pub summed : take ((length query + 255) / 256) sums ≡ map (sums_at query) (range_with_len 0 ((length query + 255) / 256))
@@ -38,5 +40,5 @@ pub record IsCodeView (query last : List ℤ) (sums : List Sums) : Type 0 where
 -- the sum of the products of codes and values, and the sums of the query's values
 abbrev pub multiplied_out : ℕ → ℕ → ℕ → ℤ → Sums → ℤ
 multiplied_out low step squares dot sums =
-    (pos squares -ℤ (pos 2 *ℤ ((pos step *ℤ dot) +ℤ ((pos (low + step / 2) *ℤ sums.total) -ℤ (pos 32768 *ℤ sums.total)))))
+    (pos squares -ℤ (pos 2 *ℤ ((pos step *ℤ dot) +ℤ ((pos (low + step / 2) *ℤ sums.total) -ℤ (pos RAISE *ℤ sums.total)))))
     +ℤ pos sums.squares

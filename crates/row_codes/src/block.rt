@@ -4,6 +4,7 @@ ghost use Rattle.row_codes.specs.Rows.{block_count, block_of, forgotten, row_cod
 
 use crate::coding::{codes_of, forgotten_of, greatest_of, least_of, packed, squares_of, step_of};
 use crate::roots::root_up_of;
+use series_core::MAX_LENGTH;
 use std::marker::Model;
 
 /// The number of values of a block.
@@ -75,7 +76,7 @@ impl CodeBlock {
 
 /// How many blocks are kept of a row of `n` values: one for each 256 of them and one for what is left.
 pub fn block_count(n: u32) -> u32
-    requires { n ≤ 65536 }
+    requires { n ≤ MAX_LENGTH }
     ensures value { result ≡ block_count n }
     ensures few { result ≤ 256 }
 {
@@ -85,7 +86,7 @@ pub fn block_count(n: u32) -> u32
 /// Puts the codes of a row of at most 65536 values in their places, of which there are as many as the row has blocks (`block_count`). Several
 /// rows of one length may stand one behind the other in a table, and be coded side by side. It takes no memory, and is never refused.
 pub fn code_row(row: &[i16], codes: &mut [CodeBlock])
-    requires limit { length row.now ≤ 65536 }
+    requires limit { length row.now ≤ MAX_LENGTH }
     requires places { length codes.old ≡ block_count (length row.now) }
     ensures { codes.new ≡ row_codes row.now }
 {

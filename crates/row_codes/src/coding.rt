@@ -6,13 +6,14 @@ ghost use Rattle.row_codes.specs.Codes.{greatest, least, packed, picture_of, pic
 ghost use Rattle.row_codes.specs.Rows.{block_codes, forgotten, value_codes};
 
 use crate::sums::square_of;
+use search_limits::RAISE;
 
 /// A value, counted from the least of 16 bits.
 #[inline(always)]
 fn raised(value: i16) -> u16
     ensures { result ≡ raised value }
 {
-    (i32::from(value) + 32768) as u16
+    (i32::from(value) + RAISE as i32) as u16
 }
 
 /// The least of some values, counted from the least of 16 bits.
@@ -87,7 +88,7 @@ fn picture(code: u16, low: u16, step: u16) -> i32
 {
     let code = u32::from(code);
     let step = u32::from(step);
-    (u32::from(low) + step * code + step / 2) as i32 - 32768
+    (u32::from(low) + step * code + step / 2) as i32 - RAISE as i32
 }
 
 /// The squares of what codes stand for, added up. They are added in two halves of 16 bits, whose sums take 32.

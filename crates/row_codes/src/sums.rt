@@ -3,6 +3,7 @@ ghost use Rattle.std.specs.Prelude.{◌≡◌, ◌+◌, ◌*◌, ◌/◌, ◌≤
 ghost use Rattle.row_codes.specs.Codes.{value_squares};
 ghost use Rattle.row_codes.specs.Kept.{multiplied_out, value_total};
 
+use search_limits::RAISE;
 use std::marker::Model;
 
 /// The sum of a block's values, and that of their squares.
@@ -78,11 +79,11 @@ fn products(low: u16, step: u16, dot: i32, total: i32) -> i64
     requires step { step ≤ 4096 }
     requires dot { unsigned_abs dot ≤ 125829120 }
     requires total { unsigned_abs total ≤ 8388608 }
-    ensures value { result ≡ (pos step *ℤ dot) +ℤ ((pos (low + step / 2) *ℤ total) -ℤ (pos 32768 *ℤ total)) }
+    ensures value { result ≡ (pos step *ℤ dot) +ℤ ((pos (low + step / 2) *ℤ total) -ℤ (pos RAISE *ℤ total)) }
     ensures small { unsigned_abs result ≤ 1400000000000 }
 {
     let center = u32::from(low) + u32::from(step) / 2;
-    times(u32::from(step), dot) + (times(center, total) - 32768 * i64::from(total))
+    times(u32::from(step), dot) + (times(center, total) - RAISE as i64 * i64::from(total))
 }
 
 /// How far two lists lie from each other, of the sums of their squares and that of their products.

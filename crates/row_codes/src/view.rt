@@ -10,7 +10,7 @@ use crate::block::{BLOCK, CodeBlock};
 use crate::lanes::dot;
 use crate::limit::CodeLimit;
 use crate::sums::QuerySums;
-use series_core::values_fit;
+use series_core::{MAX_LENGTH, values_fit};
 use std::marker::Model;
 
 /// A query, seen as its values: it is lent, and beside it stand the sums of each block and the last block, with zeros behind where it has
@@ -36,7 +36,7 @@ impl<'a> Model for CodeView<'a> {
 impl<'a> CodeView<'a> {
     /// The view of a query of at most 65536 values. It takes no memory.
     pub fn new(query: &'a [i16]) -> CodeView<'a>
-        requires { length query.now ≤ 65536 }
+        requires { length query.now ≤ MAX_LENGTH }
         ensures { result ≡ query.now }
     {
         let mut sums = [QuerySums::zeros(); 256];
@@ -132,7 +132,7 @@ impl<'a> CodeView<'a> {
         requires dot { IsBlockDot code.now.words (filled (values_at self.now k)) dot }
         ensures value { result ≡ block_distance (drop (256 * k) self.now) code.now }
         ensures small { result ≤ 8000000000000 }
-        ensures limit { length self.now ≤ 65536 }
+        ensures limit { length self.now ≤ MAX_LENGTH }
     {
         sums_of(&self.sums, k).distance(code.low, code.step, code.squares, dot)
     }

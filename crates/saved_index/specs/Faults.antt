@@ -14,6 +14,7 @@ use Rattle.saved_index.specs.declared.error.IndexFault.{IndexFault}
 use Rattle.saved_index.specs.declared.error.IndexFault.TheVariants.{NotIndex, Length, Count, Unfit, TooLong}
 use Rattle.saved_index.specs.Reading.{saved_in}
 use Rattle.saved_index.specs.Saved.{Header, Saved}
+use Rattle.search_limits.specs.declared.numbers.TheConstants.{MOST_TEXT_BYTES}
 
 -- a leaf as it is saved, with its word
 pub record WordedLeaf : Type 0 where
@@ -63,4 +64,4 @@ fault_of c (Some s) =
 
 -- what bytes have against a collection
 abbrev pub index_fault : List ℕ → Collection → Option IndexFault
-index_fault bytes c = if nat_lt 1073741824 (length bytes) then Some TooLong else fault_of c (saved_in bytes)
+index_fault bytes c = if nat_lt MOST_TEXT_BYTES (length bytes) then Some TooLong else fault_of c (saved_in bytes)

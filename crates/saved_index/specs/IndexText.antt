@@ -10,6 +10,7 @@ use Rattle.subtree_build.specs.Members.{numbers_of}
 use Rattle.subtree_build.specs.Outline.{outline}
 use Rattle.subtree_build.specs.Tree.{Tree, absent, leaf, split}
 use Rattle.saved_index.specs.Saved.{Header, Saved, IsTextOf}
+use Rattle.series_core.specs.declared.rows.TheConstants.{MAX_COUNT}
 
 -- the numbers of the members of leaf l
 abbrev pub numbers_in_leaf : List TreeLeaf → ℕ → List ℕ
@@ -57,7 +58,7 @@ HasSaved count x = AreSaved count x.members
 -- each leaf holds members of a collection of `count` series
 pub record CanSave (settings : Settings) (count : ℕ) (ix : IndexParts) : Type 0 where
   pub segments : ix.segments ≡ settings.layout.cuts.segments
-  pub count_limit : count ≤ 16777216
+  pub count_limit : count ≤ MAX_COUNT
   pub some_leaf_size : 1 ≤ settings.leaf_size
   pub leaf_size_limit : settings.leaf_size ≤ 65535
   pub leaves : All (HasSaved count) ix.leaves

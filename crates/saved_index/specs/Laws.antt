@@ -16,6 +16,7 @@ use Rattle.saved_index.specs.IndexText.{CanSave, IndexText}
 use Rattle.saved_index.specs.Loading.{Explains, IsIndexFor, IsTextFor}
 use Rattle.saved_index.specs.Reading.{saved_in}
 use Rattle.saved_index.specs.Saved.{Saved, IsTextOf}
+use Rattle.search_limits.specs.declared.numbers.TheConstants.{MOST_TEXT_BYTES}
 
 -- bytes are the text of one thing alone
 abbrev pub TextsAreOne : Type 0
@@ -48,7 +49,7 @@ TextTellsIndex = (c : Collection) (bytes : List ℕ) (s t : Settings) (m n : ℕ
 -- the text of an index that fits a collection has nothing against it, where it is no longer than a saved index may be
 abbrev pub TextHasNoFault : Type 0
 TextHasNoFault = (c : Collection) (bytes : List ℕ) (settings : Settings) (ix : IndexParts) → IsIndexOf c settings ix
-    → settings.layout.cuts.row_length ≡ c.points → IndexText bytes settings (length c.series) ix → length bytes ≤ 1073741824
+    → settings.layout.cuts.row_length ≡ c.points → IndexText bytes settings (length c.series) ix → length bytes ≤ MOST_TEXT_BYTES
     → index_fault bytes c ≡ None
 
 -- Loading bytes over a collection ends with this index under these settings: whatever may be handed out is the same, and only a read that
@@ -60,7 +61,7 @@ pub record LoadsBack (c : Collection) (bytes : List ℕ) (settings : Settings) (
 -- the text of an index that fits a collection is loaded back, where it is no longer than a saved index may be
 abbrev pub TextsLoadBack : Type 0
 TextsLoadBack = (c : Collection) (bytes : List ℕ) (settings : Settings) (ix : IndexParts) → IsIndexOf c settings ix
-    → settings.layout.cuts.row_length ≡ c.points → IndexText bytes settings (length c.series) ix → length bytes ≤ 1073741824
+    → settings.layout.cuts.row_length ≡ c.points → IndexText bytes settings (length c.series) ix → length bytes ≤ MOST_TEXT_BYTES
     → LoadsBack c bytes settings ix
 
 -- an index that is the tree of a collection can be saved

@@ -9,6 +9,7 @@ use Rattle.isax_word.specs.Word.{part_at, child_word, one_bit_word}
 use Rattle.subtree_build.specs.Division.{bits_left}
 use Rattle.subtree_build.specs.Tree.{Tree, absent, leaf, split}
 use Rattle.saved_index.specs.Saved.{Header, Saved}
+use Rattle.series_core.specs.declared.rows.TheConstants.{MAX_COUNT, MAX_LENGTH}
 
 -- what was read, and what is left
 abbrev pub Read : Type 0 → Type 0
@@ -88,8 +89,8 @@ header_at bytes = record {
 -- whether a header keeps its limits
 abbrev pub is_header : Header → Bool
 is_header h =
-    nat_le 1 h.segments && (nat_le h.segments 16 && (nat_le h.segments h.points && (nat_le h.points 65536
-    && (nat_le h.count 16777216 && (nat_le 1 h.leaf_size && nat_le h.leaf_size 65535)))))
+    nat_le 1 h.segments && (nat_le h.segments 16 && (nat_le h.segments h.points && (nat_le h.points MAX_LENGTH
+    && (nat_le h.count MAX_COUNT && (nat_le 1 h.leaf_size && nat_le h.leaf_size 65535)))))
 
 -- whether the bytes begin with a header
 abbrev pub has_header : List ℕ → Bool

@@ -9,6 +9,7 @@ use Rattle.isax_word.specs.declared.word.Part.{Part}
 use Rattle.isax_word.specs.Word.{part_at, child_word, one_bit_word}
 use Rattle.subtree_build.specs.Assembly.{AreRoots}
 use Rattle.subtree_build.specs.Tree.{Tree, absent, leaf, split, is_absent}
+use Rattle.series_core.specs.declared.rows.TheConstants.{MAX_COUNT, MAX_LENGTH}
 
 -- what stands before the root children
 pub record Header : Type 0 where
@@ -23,8 +24,8 @@ pub record IsHeader (h : Header) : Type 0 where
   pub some_segments : 1 ≤ h.segments
   pub few_segments : h.segments ≤ 16
   pub no_empty_segment : h.segments ≤ h.points
-  pub length_limit : h.points ≤ 65536
-  pub count_limit : h.count ≤ 16777216
+  pub length_limit : h.points ≤ MAX_LENGTH
+  pub count_limit : h.count ≤ MAX_COUNT
   pub some_leaf_size : 1 ≤ h.leaf_size
   pub leaf_size_limit : h.leaf_size ≤ 65535
 

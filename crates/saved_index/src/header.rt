@@ -8,6 +8,7 @@ use breakpoints::Table;
 use byteorder::{ByteOrder, LittleEndian};
 use isax_word::Layout;
 use segment_sums::Cuts;
+use series_core::MAX_COUNT;
 use subtree_build::Settings;
 
 /// How many bytes a header has.
@@ -98,7 +99,7 @@ impl Fields {
             && self.segments <= 16
             && self.segments <= self.length
             && self.length <= 65536
-            && self.count <= 16777216
+            && self.count <= MAX_COUNT
             && 1 <= self.leaf_size
             && self.leaf_size <= 65535
     }

@@ -14,13 +14,11 @@ use crate::reading::{Spelled, read_saved};
 use crate::words::{words_in_turn, words_side_by_side};
 use isax_word::Full;
 use outside::{AllError, Files, read_all};
+use search_limits::MOST_TEXT_BYTES;
 use series_core::Rows;
 use std::alloc::Global;
 use std::thread::Threads;
 use subtree_build::{Index, Settings};
-
-/// The most bytes of a saved index.
-const MAX_BYTES: u64 = 1073741824;
 
 /// What was loaded: an index, and the settings that it was saved with.
 #[derive(Drop)]
@@ -48,7 +46,7 @@ pub fn load<H: Threads + Sync, F: Files, R: Rows + Sync>(
     ensures left { IfErr result (Leaves (F.left files.old) (F.left files.new)) }
     ensures files { Loads F.held F.at F.blamed F.faults F.misses F.reliable result files.old files.new }
 {
-    let bytes = match read_all(alloc, files, MAX_BYTES) {
+    let bytes = match read_all(alloc, files, MOST_TEXT_BYTES) {
         Ok(bytes) => bytes,
         Err(AllError::Longer) => return Err(IndexFault::TooLong),
         Err(AllError::ReadFault) => return Err(IndexFault::ReadFault),
@@ -67,7 +65,7 @@ pub fn load_alone<R: Rows>(alloc: Global, bytes: &[u8], rows: &R) -> Result<Load
         IfOk result (λ loaded. CanSave loaded.settings count loaded.index) }
     ensures refused { IfErr result (Refuses (R.collection rows.now) bytes.now) }
 {
-    if bytes.len() as u64 > MAX_BYTES {
+    if bytes.len() as u64 > MOST_TEXT_BYTES {
         return Err(IndexFault::TooLong);
     }
     let read = match read_for(alloc, bytes, rows) {
@@ -92,7 +90,7 @@ pub(crate) fn load_bytes<H: Threads + Sync, R: Rows + Sync>(
     rows: &R,
     workers: u32,
 ) -> Result<LoadedIndex, IndexFault>
-    requires short { length bytes.now ≤ 1073741824 }
+    requires short { length bytes.now ≤ MOST_TEXT_BYTES }
     requires some { 1 ≤ workers }
     ensures fits { IfOk result (IsIndexFor (R.collection rows.now)) }
     ensures text { IfOk result (λ loaded. IsTextFor (R.collection rows.now) loaded bytes.now) }
@@ -132,7 +130,7 @@ fn tested<R: Rows>(
     read: Spelled,
     words: Vec<Full>,
 ) -> Result<LoadedIndex, IndexFault>
-    requires short { length bytes.now ≤ 1073741824 }
+    requires short { length bytes.now ≤ MOST_TEXT_BYTES }
     requires read { IsSavedFor (R.collection rows.now) bytes.now read }
     requires words { words.items ≡ words_of (R.collection rows.now) (layout_for (header_of read.fields)) }
     ensures tested { IfOk result (IsTested (R.collection rows.now) bytes.now) }
@@ -150,7 +148,7 @@ fn tested<R: Rows>(
 
 /// What the bytes are the text of, where that is an index over series of these rows' length and count.
 fn read_for<R: Rows>(alloc: Global, bytes: &[u8], rows: &R) -> Result<Spelled, IndexFault>
-    requires { length bytes.now ≤ 1073741824 }
+    requires { length bytes.now ≤ MOST_TEXT_BYTES }
     ensures read { IfOk result (IsSavedFor (R.collection rows.now) bytes.now) }
     ensures refused { IfErr result (Refuses (R.collection rows.now) bytes.now) }
 {

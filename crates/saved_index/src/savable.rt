@@ -4,6 +4,7 @@ ghost use Rattle.std.specs.List.{All};
 ghost use Rattle.saved_index.specs.IndexText.{AreSaved, CanSave, HasSaved};
 
 use isax_word::Member;
+use series_core::MAX_COUNT;
 use subtree_build::{Index, Settings};
 
 /// Whether these members of a leaf can be saved.
@@ -38,7 +39,7 @@ pub fn can_save(settings: &Settings, count: u32, index: &Index) -> bool
     ensures { IsTrue result ↔ CanSave settings.now count index.now }
 {
     index.segments() == settings.layout.cuts.segments()
-        && count <= 16777216
+        && count <= MAX_COUNT
         && 1 <= settings.leaf_size
         && settings.leaf_size <= 65535
         && all_saved(index, count)

@@ -7,6 +7,7 @@ ghost use Rattle.sealed_runs.specs.Popped.{Pops};
 use crate::pass::Visit;
 use claim_word::{ClaimPass, Claims};
 use outside::NoMemory;
+use search_limits::MOST_WORKERS;
 use series_core::{Entry, PopReply, far};
 use std::alloc::Global;
 use std::marker::Model;
@@ -38,7 +39,7 @@ impl Run {
         entries: Vec<Entry>,
         callers: u32,
     ) -> Result<(Run, Vec<ClaimPass>), NoMemory>
-        requires callers { (1 ≤ callers) × (callers ≤ 64) }
+        requires callers { (1 ≤ callers) × (callers ≤ MOST_WORKERS) }
         requires count { length entries.items ≤ 2 ^ 32 }
         ensures entries { IfOk result (λ r. r.0.entries ≡ entries.items) }
         ensures count { IfOk result (λ r. r.0.claims.count ≡ length entries.items) }

@@ -13,6 +13,7 @@ use crate::pass::RunPass;
 use crate::run::Run;
 use crate::sealing::{divide, seal_rows};
 use outside::NoMemory;
+use search_limits::{MOST_QUEUES, MOST_WORKERS};
 use series_core::{Entry, PopReply};
 use std::alloc::Global;
 use std::collections::VecDeque;
@@ -49,8 +50,8 @@ impl Runs {
         callers: u32,
     ) -> Result<(Runs, Vec<RunPass>), NoMemory>
         requires leaves { LeavesDiffer entries.items }
-        requires queues { (1 ≤ queues) × (queues ≤ 64) }
-        requires callers { (1 ≤ callers) × (callers ≤ 64) }
+        requires queues { (1 ≤ queues) × (queues ≤ MOST_QUEUES) }
+        requires callers { (1 ≤ callers) × (callers ≤ MOST_WORKERS) }
         ensures count { IfOk result (λ r. length r.0.runs ≡ queues) }
         ensures runs { IfOk result (λ r. (m : ℕ) → m < queues → IsRun entries.items queues m (run_at r.0.runs m).entries) }
         ensures callers { IfOk result (λ r. r.0.callers ≡ callers) }

@@ -11,6 +11,7 @@ use crate::pass::{RunPass, Visit};
 use crate::run::Run;
 use claim_word::ClaimPass;
 use outside::NoMemory;
+use search_limits::MOST_WORKERS;
 use series_core::Entry;
 use std::alloc::Global;
 use std::marker::Model;
@@ -119,7 +120,7 @@ pub(crate) fn seal_rows(
     rows: Vec<Row>,
     callers: u32,
 ) -> Result<(Vec<Run>, Vec<RunPass>), NoMemory>
-    requires callers { (1 ≤ callers) × (callers ≤ 64) }
+    requires callers { (1 ≤ callers) × (callers ≤ MOST_WORKERS) }
     requires ascending { All IsAscending rows.items }
     requires count { All (λ row. length row ≤ 2 ^ 32) rows.items }
     ensures entries { IfOk result (λ r. map (λ run. run.entries) r.0.items ≡ rows.items) }

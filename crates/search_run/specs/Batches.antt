@@ -3,7 +3,7 @@ use Rattle.std.specs.Prelude.{◌≡◌, ℕ, ℤ, ◌+◌, ◌*◌, ◌<◌, �
 use Rattle.std.specs.Borrow.{Bor}
 use Rattle.outside.specs.declared.faults.NoMemory.{NoMemory}
 use Rattle.command_words.specs.Limits.{IsWithin}
-use Rattle.command_words.specs.declared.limits.TheConstants.{MOST_QUEUES, MOST_WORKERS}
+use Rattle.search_limits.specs.declared.numbers.TheConstants.{MOST_QUEUES, MOST_WORKERS}
 use Rattle.command_words.specs.declared.options.Options.{Options}
 use Rattle.claim_word.specs.Passes.{Claim, fresh_pass}
 use Rattle.group_answer.specs.Asking.{IsAsked}

@@ -12,7 +12,7 @@ use Rattle.series_file.specs.declared.error.Loaded.{Loaded}
 use Rattle.search_run.specs.Layouts.{layout_of}
 use Rattle.search_run.specs.Loads.{HoldsBytes, RefusesNamed}
 use Rattle.search_run.specs.Traffic.{Reading}
-use Rattle.search_run.specs.declared.input.certificate_file.TheConstants.{MOST_BYTES}
+use Rattle.search_limits.specs.declared.numbers.TheConstants.{MOST_TEXT_BYTES}
 use Rattle.search_run.specs.declared.status.CertFault.{CertFault}
 use Rattle.search_run.specs.declared.status.CertFault.TheVariants.{Line, TooLong, Rejected}
 use Rattle.search_run.specs.declared.status.Status.{Status}
@@ -21,7 +21,7 @@ use Rattle.search_run.specs.declared.status.Which.TheVariants.{Certificate}
 
 -- the most bytes that a certificate may have
 abbrev pub most_bytes : ℕ
-most_bytes = MOST_BYTES
+most_bytes = MOST_TEXT_BYTES
 
 -- what a certificate is checked against: the series, the queries, how many answers, and how series become words
 pub record Subject : Type 0 where

@@ -2,7 +2,7 @@
 use Rattle.std.specs.Prelude.{ℕ, min, Option, None, Some}
 use Rattle.breakpoints.specs.declared.table.Table.{Table}
 use Rattle.isax_word.specs.declared.layout.Layout.{Layout}
-use Rattle.command_words.specs.declared.limits.TheConstants.{MOST_SEGMENTS}
+use Rattle.search_limits.specs.declared.numbers.TheConstants.{MOST_SEGMENTS}
 use Rattle.command_words.specs.declared.options.Options.{Options}
 use Rattle.subtree_build.specs.declared.settings.Settings.{Settings}
 use Rattle.segment_sums.specs.Division.{division_of}

@@ -1,6 +1,7 @@
 -- A trial: a search over random walks that are all made from one number, and the four lines that sum it up.
 use Rattle.std.specs.Prelude.{ℕ, ◌*◌, ◌≤◌, ℤ, List, [], ◌∷◌, ◌++◌, codes, decimal, length, map}
-use Rattle.command_words.specs.declared.limits.TheConstants.{MOST_POINTS, MOST_QUERIES, MOST_SERIES, MOST_VALUES}
+use Rattle.command_words.specs.declared.limits.TheConstants.{MOST_QUERIES}
+use Rattle.series_core.specs.declared.rows.TheConstants.{MAX_COUNT, MAX_LENGTH, MAX_VALUES}
 use Rattle.list_totals.specs.Totals.{total}
 use Rattle.series_core.specs.Answer.{answer}
 use Rattle.series_core.specs.Collection.{Collection}
@@ -52,8 +53,8 @@ trial_text seed count n queries k =
 
 -- the numbers of a trial are within their limits
 pub record KeepsTrialLimits (count n queries : ℕ) : Type 0 where
-  pub count_limit : count ≤ MOST_SERIES
+  pub count_limit : count ≤ MAX_COUNT
   pub some_point : 1 ≤ n
-  pub length_limit : n ≤ MOST_POINTS
+  pub length_limit : n ≤ MAX_LENGTH
   pub queries_limit : queries ≤ MOST_QUERIES
-  pub values_limit : count * n ≤ MOST_VALUES
+  pub values_limit : count * n ≤ MAX_VALUES

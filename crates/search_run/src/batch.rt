@@ -3,7 +3,7 @@
 
 ghost use Rattle.std.specs.Prelude.{◌≡◌, ◌<◌, ◌≤◌, IfOk, length};
 ghost use Rattle.command_words.specs.Limits.{IsWithin};
-ghost use Rattle.command_words.specs.declared.limits.TheConstants.{MOST_WORKERS};
+ghost use Rattle.search_limits.specs.declared.numbers.TheConstants.{MOST_WORKERS};
 ghost use Rattle.group_answer.specs.Asking.{answer_to};
 ghost use Rattle.series_core.specs.declared.best.TheConstants.{MAX_BEST};
 ghost use Rattle.search_run.specs.Batches.{Asks, IsBatch};

@@ -3,7 +3,7 @@
 ghost use Rattle.std.specs.Prelude.{◌≡◌, ◌+◌, ◌*◌, ◌<◌, ◌≤◌, ℕ, All, IfOk, length, vec_len};
 ghost use Rattle.claim_word.specs.Passes.{Claim, fresh_pass};
 ghost use Rattle.group_answer.specs.Asking.{AreAnswers};
-ghost use Rattle.command_words.specs.declared.limits.TheConstants.{MOST_WORKERS};
+ghost use Rattle.search_limits.specs.declared.numbers.TheConstants.{MOST_WORKERS};
 ghost use Rattle.search_run.specs.Batches.{IsBatch, IsDeal, IsFresh};
 ghost use Rattle.search_run.specs.declared.tuning.TheConstants.{MOST_QUERIES_OF_DRAW};
 

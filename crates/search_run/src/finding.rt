@@ -4,7 +4,7 @@
 ghost use Rattle.std.specs.Prelude.{◌≡◌, ◌≤◌, length, IfOk};
 ghost use Rattle.series_core.specs.Answer.{within};
 ghost use Rattle.command_words.specs.Limits.{OptionsKeepLimits};
-ghost use Rattle.command_words.specs.declared.limits.TheConstants.{MOST_WORKERS};
+ghost use Rattle.search_limits.specs.declared.numbers.TheConstants.{MOST_WORKERS};
 ghost use Rattle.discord_query.specs.Discords.{discords};
 ghost use Rattle.search_run.specs.Batches.{CanAsk, HasRightOutcome, IsAsking, asking_of};
 ghost use Rattle.search_run.specs.Finding.{IsTreeFor};

@@ -2,14 +2,14 @@
 
 ghost use Rattle.std.specs.Prelude.{◌≡◌, ◌≤◌, IfSome};
 ghost use Rattle.command_words.specs.Limits.{IsWithin};
-ghost use Rattle.command_words.specs.declared.limits.TheConstants.{MOST_SEGMENTS};
+ghost use Rattle.search_limits.specs.declared.numbers.TheConstants.{MOST_SEGMENTS};
 ghost use Rattle.series_core.specs.declared.rows.TheConstants.{MAX_LENGTH};
 ghost use Rattle.search_run.specs.Plans.{HasSegments};
 ghost use Rattle.search_run.specs.Layouts.{layout_of};
 
 use breakpoints::Table;
-use command_words::MOST_SEGMENTS;
 use isax_word::Layout;
+use search_limits::MOST_SEGMENTS;
 use segment_sums::Cuts;
 
 /// The layout of series of `length` values: with the asked segments, or with as many as there may be.

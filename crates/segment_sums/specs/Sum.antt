@@ -2,6 +2,7 @@
 use Rattle.std.specs.Prelude.{ℕ, ℤ, pos, ◌+◌, ◌<◌, ◌*◌, ◌+ℤ◌, neg_ℤ, ◌≤ℤ◌, List, [], ◌∷◌, map, slice_range}
 use Rattle.std.specs.List.{range_with_len}
 use Rattle.segment_sums.specs.Division.{Division, cut_place, segment_length}
+use Rattle.search_limits.specs.declared.numbers.TheConstants.{RAISE}
 
 -- the sum of a list of signed numbers
 abbrev pub signed_sum : List ℤ → ℤ
@@ -22,7 +23,7 @@ segment_sums d row = map (segment_sum d row) (range_with_len 0 d.segments)
 
 -- the sum of each of the first k segments is at least -32768 times its length
 abbrev pub NoSumBelow : Division → List ℤ → ℕ → Type 0
-NoSumBelow d row k = (j : ℕ) → j < k → neg_ℤ (pos (32768 * segment_length d j)) ≤ℤ segment_sum d row j
+NoSumBelow d row k = (j : ℕ) → j < k → neg_ℤ (pos (RAISE * segment_length d j)) ≤ℤ segment_sum d row j
 
 -- the sum of each of the first k segments is at most 32767 times its length
 abbrev pub NoSumAbove : Division → List ℤ → ℕ → Type 0

@@ -4,6 +4,7 @@ ghost use Rattle.std.specs.Prelude.{◌≡◌, ◌+◌, ◌-◌, ◌*◌, ◌<�
 ghost use Rattle.segment_sums.specs.Division.{IsDivision, division_of, cut_place};
 ghost use Rattle.segment_sums.specs.Sum.{signed_sum, segment_sums, NoSumBelow, NoSumAbove};
 
+use search_limits::RAISE;
 use std::marker::Model;
 
 /// A series' length and its cut points, seen as the length and the number of segments.
@@ -143,7 +144,7 @@ impl Cuts {
 fn sum_of(values: &[i16]) -> i32
     requires { length values.now ≤ 65536 }
     ensures value { result ≡ signed_sum values.now }
-    ensures not_low { neg_ℤ (pos (32768 * length values.now)) ≤ℤ result }
+    ensures not_low { neg_ℤ (pos (RAISE * length values.now)) ≤ℤ result }
     ensures not_high { result ≤ℤ pos (32767 * length values.now) }
 {
     let mut sum = 0;

@@ -33,7 +33,7 @@ impl Header {
     pub fn label_bytes(&self) -> u64
         requires { IsHeader self.now }
         ensures exact { result ≡ label_bytes self.now }
-        ensures limit { result ≤ 134217728 }
+        ensures limit { result ≤ MAX_VALUES }
     {
         if self.labelled {
             8 * u64::from(self.count)

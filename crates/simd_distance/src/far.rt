@@ -12,6 +12,7 @@ ghost use Rattle.simd_distance.specs.Lanes.{square};
 use crate::blocks::{BLOCK, rest_distance, within};
 use crate::lanes::{LANES, sixteen_differences};
 use crate::low::low_quarter;
+use series_core::MAX_LENGTH;
 use std::simd::prelude::*;
 
 /// The squared Euclidean distance of two series where it is at most `limit`. A lower bound is taken block by block, and the distance
@@ -19,7 +20,7 @@ use std::simd::prelude::*;
 #[inline(never)]
 pub(crate) fn far_within(x: &[i16], q: &[i16], limit: u64) -> Option<u64>
     requires same_length { length x.now ≡ length q.now }
-    requires short { length x.now ≤ 65536 }
+    requires short { length x.now ≤ MAX_LENGTH }
     requires x_fits { All (FitsSigned w16) x.now }
     requires q_fits { All (FitsSigned w16) q.now }
     ensures { let d = squared_distance x.now q.now in
@@ -39,7 +40,7 @@ pub(crate) fn far_within(x: &[i16], q: &[i16], limit: u64) -> Option<u64>
 /// The squared Euclidean distance, block by block.
 fn by_blocks(x: &[i16], q: &[i16]) -> u64
     requires same_length { length x.now ≡ length q.now }
-    requires short { length x.now ≤ 65536 }
+    requires short { length x.now ≤ MAX_LENGTH }
     requires x_fits { All (FitsSigned w16) x.now }
     requires q_fits { All (FitsSigned w16) q.now }
     ensures { result ≡ squared_distance x.now q.now }

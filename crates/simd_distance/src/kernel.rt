@@ -11,7 +11,7 @@ use crate::blocks::{BLOCK, rest_distance, within};
 use crate::far::far_within;
 use crate::near::near_distance;
 use crate::plain::distance;
-use series_core::values_fit;
+use series_core::{MAX_LENGTH, values_fit};
 
 /// The number of values before the first test of the limit.
 const FIRST: usize = 32;
@@ -20,7 +20,7 @@ const FIRST: usize = 32;
 /// Some of it exactly there, and None exactly where it is above `limit`. It takes no memory.
 pub fn distance_within(x: &[i16], q: &[i16], limit: u64) -> Option<u64>
     requires same_length { length x.now ≡ length q.now }
-    requires short { length x.now ≤ 65536 }
+    requires short { length x.now ≤ MAX_LENGTH }
     ensures { let d = squared_distance x.now q.now in
         MatchOption result (limit < d) (λ found. (found ≡ d) × (found ≤ limit)) }
 {
@@ -55,7 +55,7 @@ pub fn distance_within(x: &[i16], q: &[i16], limit: u64) -> Option<u64>
 /// The distance where it is at most the limit, of which the values before place `at` make so much.
 fn far_behind(x: &[i16], q: &[i16], at: usize, sum: u64, limit: u64) -> Option<u64>
     requires same_length { length x.now ≡ length q.now }
-    requires short { length x.now ≤ 65536 }
+    requires short { length x.now ≤ MAX_LENGTH }
     requires inside { at ≤ length x.now }
     requires x_fits { All (FitsSigned w16) x.now }
     requires q_fits { All (FitsSigned w16) q.now }

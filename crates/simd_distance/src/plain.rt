@@ -4,10 +4,12 @@
 ghost use Rattle.std.specs.Prelude.{◌≡◌, ◌*◌, ◌≤◌, length};
 ghost use Rattle.series_core.specs.Distance.{squared_difference, squared_distance};
 
+use series_core::MAX_LENGTH;
+
 /// The squared Euclidean distance of two series of one length, of at most 65536 values.
 pub fn distance(x: &[i16], q: &[i16]) -> u64
     requires same_length { length x.now ≡ length q.now }
-    requires short { length x.now ≤ 65536 }
+    requires short { length x.now ≤ MAX_LENGTH }
     ensures value { result ≡ squared_distance x.now q.now }
     ensures bounded { result ≤ length x.now * 4294836225 }
 {

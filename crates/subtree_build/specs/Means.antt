@@ -2,7 +2,7 @@
 use Rattle.std.specs.Prelude.{ℕ, ℤ, ◌≡◌, ◌+◌, ◌*◌, ◌/◌, ◌^◌, ◌<◌, ◌≤◌, All, List, [], Option, Some, None, cond, length, ltb, map, min, slice_index_or, take}
 use Rattle.std.specs.List.{flat_map}
 use Rattle.series_core.specs.Collection.{Collection}
-use Rattle.series_core.specs.declared.rows.TheConstants.{MAX_VALUES}
+use Rattle.series_core.specs.declared.rows.TheConstants.{MAX_LENGTH, MAX_VALUES}
 use Rattle.isax_word.specs.declared.layout.Layout.{Layout}
 use Rattle.isax_word.specs.declared.member.Member.{Member}
 use Rattle.mean_bound.specs.Means.{row_means}
@@ -63,7 +63,7 @@ pub record HavePlaces (c : Collection) (layout : Layout) (coded : ℕ) (members 
     (codes : List Block) : Type 0 where
   pub row_length : layout.cuts.row_length ≡ c.points
   pub coded_length : coded ≡ coded_points c
-  pub short : coded ≤ 65536
+  pub short : coded ≤ MAX_LENGTH
   pub series : All (λ m. m.number < length c.series) members
   pub few : length members < 2 ^ 32
   pub means_places : length means ≡ length members

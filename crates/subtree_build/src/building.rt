@@ -6,10 +6,11 @@ ghost use Rattle.claim_word.specs.Passes.{fresh_pass};
 ghost use Rattle.subtree_build.specs.Building.{CanBuild, HasBuilt, IsPartAt};
 
 use crate::part::Part;
-use crate::settings::{MOST_WORKERS, Settings};
+use crate::settings::Settings;
 use crate::splicing::RootLists;
 use claim_word::Claims;
 use outside::{Gate, NoGate, NoMemory};
+use search_limits::MOST_WORKERS;
 use std::alloc::Global;
 use std::thread::Threads;
 use worker_team::{TeamWorker, dismiss, for_each_mut, hire, joined};

@@ -9,7 +9,7 @@ use crate::fetched::{FETCHED, fetch};
 use isax_word::{Layout, Member};
 use mean_bound::Means;
 use row_codes::{CodeBlock, block_count, code_row};
-use series_core::{MAX_VALUES, Rows};
+use series_core::{MAX_LENGTH, MAX_VALUES, Rows};
 use std::thread::{Threads, join_mut};
 
 /// What means and codes are made of: rows, how means cut them, and how many of the values of each are coded.
@@ -25,7 +25,7 @@ impl<'a, R: Rows> Source<'a, R> {
     pub(crate) fn of(rows: &'a R, layout: &'a Layout) -> Source<'a, R>
         ensures value { result ≡ record { rows = rows.entry; layout = layout.entry; coded = coded_points (R.collection rows.now) } }
         ensures limit { result.coded ≤ (R.collection rows.now).points }
-        ensures short { result.coded ≤ 65536 }
+        ensures short { result.coded ≤ MAX_LENGTH }
     {
         Source {
             rows,
@@ -145,7 +145,7 @@ fn fill_from<R: Rows>(
 pub fn coded_length<R: Rows>(rows: &R) -> u32
     ensures value { result ≡ coded_points (R.collection rows.now) }
     ensures limit { result ≤ (R.collection rows.now).points }
-    ensures short { result ≤ 65536 }
+    ensures short { result ≤ MAX_LENGTH }
 {
     let length = rows.length();
     let values = u64::from(rows.count()) * u64::from(length);

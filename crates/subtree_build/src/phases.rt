@@ -18,7 +18,8 @@ use crate::splicing::{RootLists, splice};
 use crate::summaries::{Summaries, root_numbers, summarise_all, summarise_alone};
 use crate::tables::{tables_alone, tables_of};
 use outside::{Gate, NoMemory};
-use series_core::Rows;
+use search_limits::MOST_WORKERS;
+use series_core::{MAX_LENGTH, Rows};
 use std::alloc::Global;
 use std::thread::{Threads, join};
 
@@ -35,7 +36,7 @@ pub fn build<H: Threads + Sync, R: Rows + Sync, G: Gate + Sync>(
     gate: &G,
 ) -> Result<Index, NoMemory>
     requires length { settings.now.layout.cuts.row_length ≡ (R.collection rows.now).points }
-    requires workers { (1 ≤ workers) × (workers ≤ 64) }
+    requires workers { (1 ≤ workers) × (workers ≤ MOST_WORKERS) }
     ensures tree { IfOk result (IsTreeOf (R.collection rows.now) settings.now.layout settings.now.leaf_size) }
     ensures fits { IfOk result (Fits (R.collection rows.now) settings.now.layout) }
     ensures tables { IfOk result HasTables }
@@ -56,7 +57,7 @@ fn tree_and_room<H: Threads + Sync, R: Rows + Sync, G: Gate + Sync>(
     gate: &G,
 ) -> Result<(BareTree, Room), NoMemory>
     requires length { settings.now.layout.cuts.row_length ≡ (R.collection rows.now).points }
-    requires workers { (1 ≤ workers) × (workers ≤ 64) }
+    requires workers { (1 ≤ workers) × (workers ≤ MOST_WORKERS) }
     ensures { IfOk result (λ r. IsTreeBuilt (R.collection rows.now) settings.now r.0) }
 {
     if workers < 2 {
@@ -68,11 +69,11 @@ fn tree_and_room<H: Threads + Sync, R: Rows + Sync, G: Gate + Sync>(
     let (room, bare) = join(
         rt,
         || -> Result<Room, NoMemory>
-            requires { (coded ≤ 65536) × (count < 2 ^ 32) }
+            requires { (coded ≤ MAX_LENGTH) × (count < 2 ^ 32) }
         { room_for(alloc, count, coded) },
         || -> Result<BareTree, NoMemory>
             requires { IsSync H.row × IsSync R.row × IsSync G.row
-                × (settings.now.layout.cuts.row_length ≡ (R.collection rows.now).points) × (1 ≤ workers) × (workers ≤ 64) }
+                × (settings.now.layout.cuts.row_length ≡ (R.collection rows.now).points) × (1 ≤ workers) × (workers ≤ MOST_WORKERS) }
             ensures { IfOk result (IsTreeBuilt (R.collection rows.entry.now) settings.entry.now) }
         { bare_tree(rt, alloc, rows, settings, workers, gate) },
     );
@@ -89,7 +90,7 @@ fn bare_tree<H: Threads + Sync, R: Rows + Sync, G: Gate + Sync>(
     gate: &G,
 ) -> Result<BareTree, NoMemory>
     requires length { settings.now.layout.cuts.row_length ≡ (R.collection rows.now).points }
-    requires workers { (1 ≤ workers) × (workers ≤ 64) }
+    requires workers { (1 ≤ workers) × (workers ≤ MOST_WORKERS) }
     ensures { IfOk result (IsTreeBuilt (R.collection rows.now) settings.now) }
 {
     let summaries = summarise_all(rt, alloc, rows, &settings.layout, workers, gate)?;

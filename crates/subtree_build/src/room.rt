@@ -6,6 +6,7 @@ ghost use Rattle.row_codes.specs.Rows.{block_count};
 use mean_bound::Means;
 use outside::NoMemory;
 use row_codes::{CodeBlock, block_count};
+use series_core::MAX_LENGTH;
 use std::alloc::Global;
 
 /// Room for the means and the codes of members, and where more of it comes from.
@@ -28,7 +29,7 @@ impl Room {
 
     /// Makes room for so many members, of whose rows so many values are coded. Where there is that much, it takes no memory.
     pub(crate) fn fit(&mut self, members: usize, coded: u32) -> Result<(), NoMemory>
-        requires short { coded ≤ 65536 }
+        requires short { coded ≤ MAX_LENGTH }
         requires few { members < 2 ^ 32 }
         ensures means { OnOk result (vec_len self.new.means ≡ members) }
         ensures codes { OnOk result (vec_len self.new.codes ≡ members * block_count coded) }
@@ -42,7 +43,7 @@ impl Room {
 
 /// Room for so many members, of whose rows so many values are coded.
 pub(crate) fn room_for(alloc: Global, members: usize, coded: u32) -> Result<Room, NoMemory>
-    requires short { coded ≤ 65536 }
+    requires short { coded ≤ MAX_LENGTH }
     requires few { members < 2 ^ 32 }
     ensures means { IfOk result (λ room. vec_len room.means ≡ members) }
     ensures codes { IfOk result (λ room. vec_len room.codes ≡ members * block_count coded) }

@@ -5,9 +5,7 @@ ghost use Rattle.segment_sums.specs.Division.{division_of};
 use breakpoints::Table;
 use isax_word::Layout;
 use segment_sums::Cuts;
-
-/// How many workers build a tree, at most.
-pub(crate) const MOST_WORKERS: usize = 64;
+use series_core::MAX_LENGTH;
 
 /// How series become words, and how many members a leaf may have while its word can still be divided.
 #[derive(Clone, Copy)]
@@ -24,7 +22,7 @@ impl Settings {
         requires some_segments { 1 ≤ segments }
         requires few_segments { segments ≤ 16 }
         requires no_empty_segment { segments ≤ length }
-        requires short_row { length ≤ 65536 }
+        requires short_row { length ≤ MAX_LENGTH }
         ensures cuts { result.layout.cuts ≡ division_of length segments }
         ensures table { result.layout.table ≡ table }
         ensures leaf_size { result.leaf_size ≡ leaf_size }

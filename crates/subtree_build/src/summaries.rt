@@ -6,11 +6,11 @@ ghost use Rattle.series_core.specs.Collection.{IsCollection};
 ghost use Rattle.summary_phase.specs.Chunks.{chunk_count};
 ghost use Rattle.subtree_build.specs.Summaries.{HasSummarised, HoldAllMembers};
 
-use crate::settings::MOST_WORKERS;
 use claim_word::Claims;
 use isax_word::Layout;
 use outside::{Gate, NoGate, NoMemory};
-use series_core::Rows;
+use search_limits::MOST_WORKERS;
+use series_core::{MAX_LENGTH, Rows};
 use std::alloc::Global;
 use std::thread::Threads;
 use summary_phase::{Buffers, chunks, summarise};
@@ -27,7 +27,7 @@ pub(crate) struct Summaries {
 pub(crate) fn root_numbers(layout: &Layout) -> u32
     ensures value { result ≡ 2 ^ layout.now.cuts.segments }
     ensures some { 2 ≤ result }
-    ensures limit { result ≤ 65536 }
+    ensures limit { result ≤ MAX_LENGTH }
     ensures divides { IsDivision layout.now.cuts }
 {
     1 << layout.cuts.segments()
@@ -112,7 +112,7 @@ fn begin<R: Rows>(
     ensures sound { IsCollection (R.collection rows.now) }
 {
     let (claims, passes) = Claims::begin(alloc, chunks(rows.count()), workers)?;
-    let team = hire(alloc, &claims, passes, &[0; MOST_WORKERS])?;
+    let team = hire(alloc, &claims, passes, &[0; MOST_WORKERS as usize])?;
     Ok((claims, team))
 }
 

@@ -8,6 +8,7 @@ use crate::lock::{LockError, TurnLock, TurnPass, TurnSeat};
 use crate::object::{Held, Object};
 use crate::plays::{Deal, Opening};
 use atomic_table::{Refused, Table};
+use search_limits::MOST_WORKERS;
 use std::alloc::Global;
 use std::snapshot::Snapshot;
 
@@ -18,7 +19,7 @@ impl<O: Object> TurnLock<O> {
         object: O,
         callers: u32,
     ) -> Result<(TurnLock<O>, Vec<TurnPass<O>>), LockError<O>>
-        requires { (0 < callers) × (callers ≤ 64) }
+        requires { (0 < callers) × (callers ≤ MOST_WORKERS) }
         ensures opening { IfOk result (λ r. opening_of r.0 ≡ object) }
         ensures callers { IfOk result (λ r. callers_of r.0 ≡ callers) }
         ensures count { IfOk result (λ r. length r.1.items ≡ callers) }

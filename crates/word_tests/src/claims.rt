@@ -4,6 +4,9 @@ use std::process::Abort;
 
 /// Ends the test, with a note, where what is found is not what is wanted.
 macro_rules! assert_same {
+    ($rt:expr; $found:expr, $wanted:expr $(,)?) => {
+        crate::claims::end_unless_same(&$rt, $found, $wanted, stringify!($found))
+    };
     ($rt:expr; $found:expr, $wanted:expr, $($note:tt)+) => {
         crate::claims::end_unless_same(&$rt, $found, $wanted, format_args!($($note)+))
     };

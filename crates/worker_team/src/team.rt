@@ -6,6 +6,7 @@ ghost use Rattle.claim_word.specs.Passes.{fresh_pass};
 use crate::worker::TeamWorker;
 use claim_word::{ClaimPass, Claims};
 use outside::NoMemory;
+use search_limits::MOST_WORKERS;
 use std::alloc::Global;
 
 /// A worker for each fresh pass of these claims, numbered in their order, with nothing made. Its turns go on from those
@@ -17,7 +18,7 @@ pub fn hire<M>(
     turns: &[u64],
 ) -> Result<Vec<TeamWorker<M>>, NoMemory>
     requires fresh { All (λ p. p ≡ fresh_pass claims.now) passes.items }
-    requires few { vec_len passes ≤ 64 }
+    requires few { vec_len passes ≤ MOST_WORKERS }
     requires turns { vec_len passes ≤ length turns.now }
     ensures len { IfOk result (λ team. vec_len team ≡ vec_len passes) }
     ensures fresh { IfOk result (λ team. All (λ w. w.pass ≡ fresh_pass claims.now) team.items) }

@@ -4,6 +4,7 @@ ghost use Rattle.claim_word.specs.Passes.{fresh_pass};
 
 use crate::{ClaimPass, Claims};
 use outside::NoMemory;
+use search_limits::MOST_WORKERS;
 use std::alloc::Global;
 use std::test::*;
 use std::thread::{Threads, for_each_mut};
@@ -71,7 +72,7 @@ fn draw_in_threads<R: Threads + Sync>(
     n: u64,
     callers: u32,
 ) -> Result<Vec<u64>, NoMemory>
-    requires callers { (1 ≤ callers) × (callers ≤ 64) }
+    requires callers { (1 ≤ callers) × (callers ≤ MOST_WORKERS) }
     requires n { n ≤ 2 ^ 32 }
 {
     let (claims, passes) = Claims::begin(alloc, n, callers)?;

@@ -17,11 +17,9 @@ use crate::status::{CertFault, Status, Which};
 use certificate::{CertError, Reject, check, read};
 use command_words::Options;
 use outside::{AllError, Files, read_all};
+use search_limits::MOST_TEXT_BYTES;
 use series_core::{LabelList, Rows};
 use std::alloc::Global;
-
-/// The most bytes that a certificate may have.
-pub const MOST_BYTES: u64 = 1073741824;
 
 /// Reads the certificate of this name, and checks it against both files.
 pub fn check_certificate<F: Files>(
@@ -55,7 +53,7 @@ fn read_bytes<F: Files>(alloc: Global, files: &mut F, name: &str) -> Result<Vec<
     ensures reliable { F.reliable files.old → (w : Which) → result ≢ Err (Status.ReadFault w) }
 {
     open(files, name, Which::Certificate)?;
-    match read_all(alloc, files, MOST_BYTES) {
+    match read_all(alloc, files, MOST_TEXT_BYTES) {
         Ok(bytes) => Ok(bytes),
         Err(AllError::Longer) => Err(Status::Invalid(CertFault::TooLong)),
         Err(AllError::ReadFault) => Err(Status::ReadFault(Which::Certificate)),

@@ -1,12 +1,9 @@
 -- The limit begins above its floor, the team is hired fresh for it, and its lists merged are the k farthest of all.
-use Rattle.std.proofs.Common.{◌≡◌, ◌<◌, ◌-◌, List, All, length, refl, sym, ap, ◌∙◌, subst, arith}
-use Rattle.std.proofs.lemmas.List.{length-replicate}
-use Rattle.std.proofs.lemmas.List.Elements.{All-replicate}
-use Rattle.claim_word.specs.Passes.{fresh_pass}
-use Rattle.best_word.specs.Passes.{Pass as Word, fresh_pass as fresh_word}
+use Rattle.std.proofs.Common.{◌-◌, All, length, sym, ◌∙◌, subst}
 use Rattle.list_team.specs.declared.searcher.Searcher.{Searcher}
 use Rattle.series_core.specs.Pairs.{ascending}
 use Rattle.series_core.proofs.Parts.{distance_small}
+use Rattle.nearest_answer.proofs.Hiring.{fresh_words, some_hired}
 use Rattle.discord_query.specs.Discords.{all_farness, least_farness}
 use Rattle.discord_query.specs.Done.{IsDone}
 use Rattle.discord_query.specs.Groups.{IsCut}
@@ -21,12 +18,8 @@ begin-requires-clause-floor g c =
 
 pub draw_together-requires-clause-fresh : goal.draw_together-requires-clause-fresh
 draw_together-requires-clause-fresh g c κs within =
-    let best = c.in_ok-best.best in
-    let floor = least_farness (g.R.Rows.collection c.args.search.now.rows.now) c.args.search.now.k in
-    let words : All (λ (w : Word). w ≡ fresh_word best floor) c.in_ok-best.words.items
-    = subst (λ (ws : List Word). All (λ (w : Word). w ≡ fresh_word best floor) ws) (sym c.in_ok-best.ensures.passes)
-    (All-replicate (λ (w : Word). w ≡ fresh_word best floor) c.args.workers (fresh_word best floor) refl) in
-    c.in_ok-team.ensures.fresh floor words
+    c.in_ok-team.ensures.fresh (least_farness (g.R.Rows.collection c.args.search.now.rows.now) c.args.search.now.k)
+    (fresh_words c.args.workers c.in_ok-best.ensures.passes)
 
 pub draw_together-requires-clause-cut : goal.draw_together-requires-clause-cut
 draw_together-requires-clause-cut g c κs within =
@@ -40,17 +33,8 @@ returns g c =
     let all = g.R.Rows.collection c.args.search.now.rows.now in
     let k = c.args.search.now.k in
     let team = c.draw_together.new.team.items in
-    let passes = c.in_ok-claims.passes in
-    let some : 0 < length team = omega (
-      arith,
-      c.draw_together.ensures.len,
-      c.draw_together.new.team.ok.0,
-      c.in_ok-team.ensures.len,
-      passes.ok.0,
-      ap length c.in_ok-claims.ensures.passes,
-      length-replicate c.args.workers (fresh_pass c.in_ok-claims.claims),
-      c.requires.workers.0,
-    ) in
+    let some = some_hired c.in_ok-claims.claims c.in_ok-claims.passes c.in_ok-team.team c.draw_together.new.team
+    c.in_ok-claims.ensures.passes c.requires.workers.0 c.in_ok-team.ensures.len c.draw_together.ensures.len in
     let size = c.args.search.now.size in
     let done : All (λ (w : Searcher). IsDone all k size w.pass w.list) team
     = λ n d low. c.draw_together.ensures.done n d low (c.in_ok-list.ensures.ended n d low) in

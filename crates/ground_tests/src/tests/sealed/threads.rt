@@ -63,14 +63,17 @@ struct Sizes {
     limit: u64,
 }
 
+/// How many entries there are, the queues, the threads and the limit.
+const CASES: [(u32, u32, u32, u64); 4] = [
+    (1000, 4, 4, 500),
+    (1000, 3, 2, 0),
+    (7, 64, 4, 2000),
+    (0, 1, 4, 9),
+];
+
 #[test]
 fn two_and_four_threads_take_what_is_within_the_limit(rt: HostRuntime) -> Result<(), Fail> {
-    for (count, queues, callers, limit) in [
-        (1000, 4, 4, 500),
-        (1000, 3, 2, 0),
-        (7, 64, 4, 2000),
-        (0, 1, 4, 9),
-    ] {
+    for (count, queues, callers, limit) in CASES {
         let alloc = rt.alloc();
         let sizes = Sizes {
             queues,

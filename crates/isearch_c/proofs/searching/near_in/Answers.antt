@@ -1,5 +1,5 @@
 -- The index fits.
-use Rattle.isearch_c.proofs.Fitting.{Fits-had}
+use Rattle.nearest_answer.proofs.Fitting.{Fits-had}
 use Rattle.isearch_c.proofs.searching.near_in.Goals as goal
 
 pub within_alone-requires-clause-fits : goal.within_alone-requires-clause-fits

@@ -1,6 +1,6 @@
 -- There are as many places as pairs, and the index fits.
 use Rattle.std.proofs.Common.{◌/◌, length, ap, None, refl}
-use Rattle.isearch_c.proofs.Fitting.{Fits-had}
+use Rattle.nearest_answer.proofs.Fitting.{Fits-had}
 use Rattle.isearch_c.proofs.Filling.{found_fill}
 use Rattle.isearch_c.proofs.searching.nearest.Goals as goal
 

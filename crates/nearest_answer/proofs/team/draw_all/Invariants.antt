@@ -1,8 +1,7 @@
--- The list has pairs of the stretches that were drawn alone, and each of the answer that is of one of them.
-use Rattle.std.proofs.Common.{◌≡◌, ◌≤◌, ◌-◌, false}
-use Rattle.search_machine.specs.Sound.{ListSound}
-use Rattle.nearest_answer.specs.Stretches.{by_stretches}
+-- The list is what is found of the stretches that were drawn.
+use Rattle.std.proofs.Common.{◌≡◌, ◌≤◌, ◌-◌, false, length}
 use Rattle.list_team.specs.Searchers.{IsTold}
+use Rattle.nearest_answer.specs.Team.{HasFound}
 use Rattle.search_task.specs.Questions.{last_of}
 use Rattle.nearest_answer.proofs.team.draw_all.Given as goal
 
@@ -12,8 +11,8 @@ invariant-loop-drawn g l = record {
   goes_on : l.worker.pass.ended ≡ false;
   met : l.worker.pass.met ≤ l.claims.count;
   told : IsTold l.best (last_of l.search.question) l.worker.word;
-  k : l.worker.list.k ≡ l.search.question.k;
-  sound : ListSound (by_stretches l.search l.by l.claims.count) l.worker.pass.draws l.worker.list.pairs;
+  list : (l.worker.list.k ≡ l.search.question.k) × (length l.worker.list.pairs ≤ l.search.question.k);
+  found : HasFound l.search l.what l.claims.count l.worker.pass.draws l.worker.list.pairs;
 }
 
 abbrev pub decreases-loop-drawn : goal.decreases-loop-drawn

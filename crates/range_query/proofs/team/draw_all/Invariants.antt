@@ -1,5 +1,5 @@
 -- All that is near below the root children drawn so far is found.
-use Rattle.std.proofs.Common.{◌≡◌, ◌≤◌, ◌-◌, false}
+use Rattle.std.proofs.Common.{◌≡◌, ◌≤◌, ◌-◌, None, false}
 use Rattle.range_query.specs.Near.{near_drawn}
 use Rattle.range_query.specs.Searches.{asked_of}
 use Rattle.range_query.proofs.team.draw_all.Given as goal
@@ -9,6 +9,7 @@ invariant-loop-drawn g l = record {
   own : l.worker.pass.claims ≡ l.claims;
   goes_on : l.worker.pass.ended ≡ false;
   met : l.worker.pass.met ≤ l.claims.count;
+  none : l.worker.made ≡ None;
   all_near :
       l.found.items
       ≡ near_drawn (asked_of g.R.Rows.collection l.search) l.search.index.now l.search.size l.worker.pass.draws;

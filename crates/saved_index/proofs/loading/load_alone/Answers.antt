@@ -14,7 +14,7 @@ pub returns-clause-fits : goal.returns-clause-fits
 returns-clause-fits g c = index_for _ _ c.type_inv.bytes _ c.in-Ok-tested.ensures.tested _ c.in_ok-index.ensures
 
 pub returns-clause-text : goal.returns-clause-text
-returns-clause-text g c = text_for _ _ c.type_inv.bytes _ c.in-Ok-tested.ensures.tested _ c.in_ok-index.ensures (omega (arith, c.if-bytes-gt-MAX_BYTES.false))
+returns-clause-text g c = text_for _ _ c.type_inv.bytes _ c.in-Ok-tested.ensures.tested _ c.in_ok-index.ensures (omega (arith, c.if-bytes-gt-MOST_TEXT_BYTES.false))
 
 pub returns-clause-saves : goal.returns-clause-saves
 returns-clause-saves g c = saves_for _ _ c.type_inv.bytes _ c.in-Ok-tested.ensures.tested _ c.in_ok-index.ensures

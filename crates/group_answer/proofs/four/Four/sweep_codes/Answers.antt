@@ -1,14 +1,13 @@
 -- Each of the four meets the member at a place by its own limit.
-use Rattle.std.proofs.Common.{◌≡◌, ◌∙◌, ◌∷◌, [], Bool, false, ℕ, List, ap, subst, arith}
-use Rattle.std.specs.Prelude.{leb, slice_index, slice_index_or}
-use Rattle.row_codes.specs.Bound.{code_bound}
+use Rattle.std.proofs.Common.{◌≡◌, ◌∙◌, ◌∷◌, [], ℕ, ℤ, List, ap, refl, subst, arith}
 use Rattle.row_codes.specs.Rows.{block_count}
 use Rattle.search_task.specs.Questions.{Question}
 use Rattle.subtree_build.specs.Means.{coded_points}
-use Rattle.group_answer.proofs.Sweeps.{codes_for_view, far_for_view, own_within}
+use Rattle.group_answer.proofs.Sweeps.{IsPlace, codes_for_view, far_of_several, own_within}
 use Rattle.group_answer.specs.Sweeping.{AreSwept}
+use Rattle.group_answer.proofs.four.Four.sweep_codes.Given as given
 use Rattle.group_answer.proofs.four.Four.sweep_codes.Goals as goal
-use Rattle.group_answer.proofs.four.Four.sweep_codes.Goals.{then-by_a, else-by_a+else-by_b+else-by_c+else-by_d}
+use Rattle.group_answer.proofs.four.Four.sweep_codes.Goals.{After-codes_at_place-own, then-by_a, else-by_a+else-by_b+else-by_c+else-by_d}
 
 -- four numbers that stay
 alike : (a b c d e f g h : ℕ) → e ≡ a → f ≡ b → g ≡ c → h ≡ d → (a ∷ b ∷ c ∷ d ∷ []) ≡ (e ∷ f ∷ g ∷ h ∷ [])
@@ -24,121 +23,68 @@ codes_at_place-own-requires g c =
     ∙ ap (λ (q : Question). block_count (coded_points q.collection)) c.requires.swept.first.chosen.question)
     c.requires.codes
 
+-- what the codes of four queries are tested by, in their order
+abbrev views : (a b c d : List ℤ) → List (List ℤ)
+views a b c d = a ∷ b ∷ c ∷ d ∷ []
+
+-- the codes that are read are those of the member at the place
+there : (g : given.Over) (c : After-codes_at_place-own g)
+    → IsPlace g.R.Rows.collection c.args.asked.now c.loop-i.i c.code_blocks-blocks.result c.args.codes.now c.codes_at_place-own.result.now
+there g c = record {
+  inside = omega arith;
+  blocks = c.code_blocks-blocks.ensures.count
+      ∙ ap (λ (q : Question). block_count (coded_points q.collection)) c.requires.swept.first.chosen.question;
+  lent = c.requires.codes;
+  taken = c.codes_at_place-own.ensures;
+}
+
 pub four_within-requires-clause-a : goal.four_within-requires-clause-a
 four_within-requires-clause-a g c =
-    codes_for_view g.R.Rows.collection c.args.asked.now
-    {n = c.code_blocks-blocks.result} {codes = c.args.codes.now}
-    (record {
-      inside = omega arith;
-      blocks = c.code_blocks-blocks.ensures.count
-          ∙ ap (λ (q : Question). block_count (coded_points q.collection)) c.requires.swept.first.chosen.question;
-      lent = c.requires.codes;
-      taken = c.codes_at_place-own.ensures;
-    })
+    codes_for_view g.R.Rows.collection c.args.asked.now (there g (goal.at.four_within-requires-clause-a g c).After-codes_at_place-own)
     c.loop-i.self.a c.loop-i.invariant.swept.first c.args.self.now.a.chosen c.loop-i.invariant.a c.codes.result.now c.codes.ensures.codes
 
 pub four_within-requires-clause-b : goal.four_within-requires-clause-b
 four_within-requires-clause-b g c =
-    codes_for_view g.R.Rows.collection c.args.asked.now
-    {n = c.code_blocks-blocks.result} {codes = c.args.codes.now}
-    (record {
-      inside = omega arith;
-      blocks = c.code_blocks-blocks.ensures.count
-          ∙ ap (λ (q : Question). block_count (coded_points q.collection)) c.requires.swept.first.chosen.question;
-      lent = c.requires.codes;
-      taken = c.codes_at_place-own.ensures;
-    })
+    codes_for_view g.R.Rows.collection c.args.asked.now (there g (goal.at.four_within-requires-clause-b g c).After-codes_at_place-own)
     c.loop-i.self.b c.loop-i.invariant.swept.second c.args.self.now.b.chosen c.loop-i.invariant.b c.codes-in-loop-i.result.now c.codes-in-loop-i.ensures.codes
 
 pub four_within-requires-clause-c : goal.four_within-requires-clause-c
 four_within-requires-clause-c g c =
-    codes_for_view g.R.Rows.collection c.args.asked.now
-    {n = c.code_blocks-blocks.result} {codes = c.args.codes.now}
-    (record {
-      inside = omega arith;
-      blocks = c.code_blocks-blocks.ensures.count
-          ∙ ap (λ (q : Question). block_count (coded_points q.collection)) c.requires.swept.first.chosen.question;
-      lent = c.requires.codes;
-      taken = c.codes_at_place-own.ensures;
-    })
+    codes_for_view g.R.Rows.collection c.args.asked.now (there g (goal.at.four_within-requires-clause-c g c).After-codes_at_place-own)
     c.loop-i.self.c c.loop-i.invariant.swept.third c.args.self.now.c.chosen c.loop-i.invariant.c c.codes-in-loop-i-2.result.now c.codes-in-loop-i-2.ensures.codes
 
 pub four_within-requires-clause-d : goal.four_within-requires-clause-d
 four_within-requires-clause-d g c =
-    codes_for_view g.R.Rows.collection c.args.asked.now
-    {n = c.code_blocks-blocks.result} {codes = c.args.codes.now}
-    (record {
-      inside = omega arith;
-      blocks = c.code_blocks-blocks.ensures.count
-          ∙ ap (λ (q : Question). block_count (coded_points q.collection)) c.requires.swept.first.chosen.question;
-      lent = c.requires.codes;
-      taken = c.codes_at_place-own.ensures;
-    })
+    codes_for_view g.R.Rows.collection c.args.asked.now (there g (goal.at.four_within-requires-clause-d g c).After-codes_at_place-own)
     c.loop-i.self.d c.loop-i.invariant.swept.fourth c.args.self.now.d.chosen c.loop-i.invariant.d c.codes-in-loop-i-3.result.now c.codes-in-loop-i-3.ensures.codes
 
 pub meet-by_a-requires-clause-far : goal.meet-by_a-requires-clause-far
 meet-by_a-requires-clause-far g c =
-    far_for_view g.R.Rows.collection c.args.asked.now
-    {n = c.code_blocks-blocks.result} {codes = c.args.codes.now}
-    (record {
-      inside = omega arith;
-      blocks = c.code_blocks-blocks.ensures.count
-          ∙ ap (λ (q : Question). block_count (coded_points q.collection)) c.requires.swept.first.chosen.question;
-      lent = c.requires.codes;
-      taken = c.codes_at_place-own.ensures;
-    })
+    far_of_several g.R.Rows.collection c.args.asked.now (there g (goal.at.meet-by_a-requires-clause-far g c).After-codes_at_place-own)
     c.loop-i.self.a c.loop-i.invariant.swept.first c.args.self.now.a.chosen c.loop-i.invariant.a c.codes.result.now c.codes.ensures.codes
-    (slice_index_or c.four_within.result 0 false)
-    (ap (λ (bs : List Bool). slice_index_or bs 0 false) c.four_within.ensures
-    ∙ ap (λ (ls : List ℕ). leb (code_bound c.codes.result.now c.codes_at_place-own.result.now) (slice_index ls 0)) c.loop-i.invariant.limits)
+    0 (views c.codes.result.now c.codes-in-loop-i.result.now c.codes-in-loop-i-2.result.now c.codes-in-loop-i-3.result.now)
+    c.four_within.ensures c.loop-i.invariant.limits refl
 
 pub meet-by_b-requires-clause-far : goal.meet-by_b-requires-clause-far
 meet-by_b-requires-clause-far g c =
-    far_for_view g.R.Rows.collection c.args.asked.now
-    {n = c.code_blocks-blocks.result} {codes = c.args.codes.now}
-    (record {
-      inside = omega arith;
-      blocks = c.code_blocks-blocks.ensures.count
-          ∙ ap (λ (q : Question). block_count (coded_points q.collection)) c.requires.swept.first.chosen.question;
-      lent = c.requires.codes;
-      taken = c.codes_at_place-own.ensures;
-    })
+    far_of_several g.R.Rows.collection c.args.asked.now (there g (goal.at.meet-by_b-requires-clause-far g c).After-codes_at_place-own)
     c.loop-i.self.b c.loop-i.invariant.swept.second c.args.self.now.b.chosen c.loop-i.invariant.b c.codes-in-loop-i.result.now c.codes-in-loop-i.ensures.codes
-    (slice_index_or c.four_within.result 1 false)
-    (ap (λ (bs : List Bool). slice_index_or bs 1 false) c.four_within.ensures
-    ∙ ap (λ (ls : List ℕ). leb (code_bound c.codes-in-loop-i.result.now c.codes_at_place-own.result.now) (slice_index ls 1)) c.loop-i.invariant.limits)
+    1 (views c.codes.result.now c.codes-in-loop-i.result.now c.codes-in-loop-i-2.result.now c.codes-in-loop-i-3.result.now)
+    c.four_within.ensures c.loop-i.invariant.limits refl
 
 pub meet-by_c-requires-clause-far : goal.meet-by_c-requires-clause-far
 meet-by_c-requires-clause-far g c =
-    far_for_view g.R.Rows.collection c.args.asked.now
-    {n = c.code_blocks-blocks.result} {codes = c.args.codes.now}
-    (record {
-      inside = omega arith;
-      blocks = c.code_blocks-blocks.ensures.count
-          ∙ ap (λ (q : Question). block_count (coded_points q.collection)) c.requires.swept.first.chosen.question;
-      lent = c.requires.codes;
-      taken = c.codes_at_place-own.ensures;
-    })
+    far_of_several g.R.Rows.collection c.args.asked.now (there g (goal.at.meet-by_c-requires-clause-far g c).After-codes_at_place-own)
     c.loop-i.self.c c.loop-i.invariant.swept.third c.args.self.now.c.chosen c.loop-i.invariant.c c.codes-in-loop-i-2.result.now c.codes-in-loop-i-2.ensures.codes
-    (slice_index_or c.four_within.result 2 false)
-    (ap (λ (bs : List Bool). slice_index_or bs 2 false) c.four_within.ensures
-    ∙ ap (λ (ls : List ℕ). leb (code_bound c.codes-in-loop-i-2.result.now c.codes_at_place-own.result.now) (slice_index ls 2)) c.loop-i.invariant.limits)
+    2 (views c.codes.result.now c.codes-in-loop-i.result.now c.codes-in-loop-i-2.result.now c.codes-in-loop-i-3.result.now)
+    c.four_within.ensures c.loop-i.invariant.limits refl
 
 pub meet-by_d-requires-clause-far : goal.meet-by_d-requires-clause-far
 meet-by_d-requires-clause-far g c =
-    far_for_view g.R.Rows.collection c.args.asked.now
-    {n = c.code_blocks-blocks.result} {codes = c.args.codes.now}
-    (record {
-      inside = omega arith;
-      blocks = c.code_blocks-blocks.ensures.count
-          ∙ ap (λ (q : Question). block_count (coded_points q.collection)) c.requires.swept.first.chosen.question;
-      lent = c.requires.codes;
-      taken = c.codes_at_place-own.ensures;
-    })
+    far_of_several g.R.Rows.collection c.args.asked.now (there g (goal.at.meet-by_d-requires-clause-far g c).After-codes_at_place-own)
     c.loop-i.self.d c.loop-i.invariant.swept.fourth c.args.self.now.d.chosen c.loop-i.invariant.d c.codes-in-loop-i-3.result.now c.codes-in-loop-i-3.ensures.codes
-    (slice_index_or c.four_within.result 3 false)
-    (ap (λ (bs : List Bool). slice_index_or bs 3 false) c.four_within.ensures
-    ∙ ap (λ (ls : List ℕ). leb (code_bound c.codes-in-loop-i-3.result.now c.codes_at_place-own.result.now) (slice_index ls 3)) c.loop-i.invariant.limits)
+    3 (views c.codes.result.now c.codes-in-loop-i.result.now c.codes-in-loop-i-2.result.now c.codes-in-loop-i-3.result.now)
+    c.four_within.ensures c.loop-i.invariant.limits refl
 
 pub loop-i-preserved : goal.loop-i-preserved
 loop-i-preserved g c = record {

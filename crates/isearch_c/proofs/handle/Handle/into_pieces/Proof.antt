@@ -1,14 +1,13 @@
 -- `into_pieces` moves the pointer and the allocator out of a handle that has a value, with what they own.
-use Rattle.std.proofs.Common.{rules, ◌≡◌, List, [], ◌∷◌, ◌++◌, refl, sym, subst}
+use Rattle.std.proofs.Common.{rules, ◌≡◌, [], ◌∷◌, refl, subst}
 use Rattle.std.specs.Prelude.{Option, Some, None}
 use mir.Val.{Val, vptr}
 use mir.Raw.{raw as bare}
-use base.Logic.{SProp, ent, emp, id⊢, never, fst∗}
+use base.Logic.{emp, never, fst∗}
 use base.Fml.{ftrue}
-use prog.Wp.{WpFn}
 use types.Logic.{sem}
-use types.Kit.{‵, raw, ◌⊛◌, ◌$◌, ◌∵◌, !, qed, by, move, keep, split, fsplit, fjoin, suffices, use0, rewrite}
-use types.Run.{stop, fld, of_opd, no_more, and_then, returns, enter}
+use types.Kit.{‵, raw, ◌⊛◌, ◌$◌, ◌∵◌, !, qed, by, move, keep, split, fsplit, fjoin, use0, rewrite}
+use types.Run.{stop, fld, of_opd, no_more, and_then, returns}
 use types.ByLocal.{alloc_all, pass_all, free_all, look_at, get, get_in, sets}
 use types.Part.{agg, sub, whole}
 use contract.Monad.{fact, fact_i}
@@ -28,6 +27,7 @@ use Rattle.std_heap.proofs.Global.TheLaws as heap_laws
 use Rattle.isearch_c.specs.contracts.held.Held as held
 use Rattle.isearch_c.specs.declared.held.Held.{Held}
 use Rattle.isearch_c.specs.Handles.{IsFull, held_at}
+use Rattle.isearch_c.proofs.Entering.{enters}
 use Rattle.isearch_c.proofs.PieceValues.{two, pieces_fit, pieces_in}
 use Rattle.isearch_c.proofs.HandleValues.{Z, Handle, handle_out}
 use Rattle.isearch_c.specs.contracts.handle.Handle.into_pieces.{ended, clauses}
@@ -45,18 +45,12 @@ into_pieces_spec 𝓤 𝓛 𝓜 𝓡 wired =
     let 𝓣 = tables 𝓤 𝓛.H 𝓜 𝓡 𝓡.env in
     let R : RattleType = held.the_row in
     let LZ = heap_laws.the_row_laws in
-    let fn = code.function in
     let En = ended in
     let c = clauses 𝓛 𝓜.mem 𝓡.returns in
-    let gone = plain (λ _. Handle) in
-    let stays : Stays En.signature.params En.kept = (stay_dropped gone yes, tt) in
-    let blank = Goes-blank 𝓛 0 gone yes (λ κs x f. tt) in
-    proved_at 𝓛 En stays c 𝓜 𝓡 (blank, tt) #self fn (code.unfolded 𝓤 𝓛.H 𝓜 𝓡 wired) (λ z are.
-    let κs = z.0.0 in
+    let stays : Stays En.signature.params En.kept = (stay_dropped (plain (λ _. Handle)) yes, tt) in
+    proved_at 𝓛 En stays c 𝓜 𝓡 (Goes-blank 𝓛 0 (plain (λ _. Handle)) yes (λ κs x f. tt), tt) #self code.function (code.unfolded 𝓤 𝓛.H 𝓜 𝓡 wired) (λ z are.
     let v = z.0.3.0 in
-    let Ends : Val → SProp 𝓤 = (walk_of 𝓛 En stays c).post z in
-    let Runs : List Val → SProp 𝓤 = λ words. WpFn 𝓤 𝓛.H 𝓣.C 𝓣.Λ fn words Ends in
-    qed 𝓛 ((‵ ftrue ⊛ ‵ (owns (types_at En.signature.params κs) z.0.3 z.0.4)) ∷ raw (fact 𝓤 (IsFull v.held)) ∷ [])
+    qed 𝓛 ((‵ ftrue ⊛ ‵ (owns (types_at En.signature.params z.0.0) z.0.3 z.0.4)) ∷ raw (fact 𝓤 (IsFull v.held)) ∷ [])
     -- the handle as it comes: there is a value, and the pointer is that of its box
     ∵ move ! (1 ∷ []) $ heard ! (IsFull v.held) (λ full.
     let had = some_of v.held full in
@@ -68,9 +62,7 @@ into_pieces_spec 𝓤 𝓛 𝓜 𝓡 wired =
     let both : Val = two (vptr b o) h in
     let typed = pieces_fit R Z LZ ghosts b o h fits in
     let are : z.0.4.0 ≡ both ∷ [] = subst (λ (p : Ptr). z.0.4.0 ≡ two (ptr_val p) h ∷ []) e words in
-    suffices ! (Runs (both ∷ []))
-    (subst (λ (us : List Val). ent 𝓤 (Runs (both ∷ [])) (Runs us)) (sym (λ i. are i ++ [])) (id⊢ 𝓤 (Runs (both ∷ []))))
-    $ enter ! 𝓣.C 𝓣.Λ fn (both ∷ []) Ends $ alloc_all ! (λ l. pass_all ! refl (typed, tt)
+    enters ! 𝓣.C 𝓣.Λ code.function both ((walk_of 𝓛 En stays c).post z) are $ alloc_all ! (λ l. pass_all ! refl (typed, tt)
     $ sets ! (of_opd ! (get_in ! (fld ! refl (stop !)) (sub ! 0 refl (whole !)))) refl (tt, tt)
     $ sets ! (of_opd ! (get_in ! (fld ! refl (stop !)) (sub ! 1 refl (whole !)))) refl fits
     $ sets ! (of_opd ! (get ! refl)) refl (tt, tt)

@@ -2,7 +2,7 @@
 use Rattle.std.proofs.Common.{subst, sym}
 use Rattle.search_task.specs.Questions.{Question}
 use Rattle.subtree_build.specs.Fits.{Fits}
-use Rattle.live_collection.proofs.Fitting.{Fits-had}
+use Rattle.nearest_answer.proofs.Fitting.{Fits-had}
 use Rattle.live_collection.proofs.batch.Batch.nearest.Goals as goal
 
 pub one_worker_answer-requires : goal.one_worker_answer-requires

@@ -1,4 +1,4 @@
--- That an index fits its series can be shown in one way alone, so a batch's fact is had in full (`Fits-had`).
+-- That an index fits its series can be shown in one way alone, so what is kept of it is had in full (`Fits-had`).
 use Rattle.std.proofs.Props.{props}
 use mathlib.Core.Logic.{∥∥₁_elim}
 use Rattle.std.specs.Option.{MatchOption-prop}

@@ -5,7 +5,7 @@ use Rattle.search_task.specs.Questions.{ground_of}
 use Rattle.nearest_answer.specs.NearLeaves.{leaves_in}
 use Rattle.nearest_answer.proofs.LeavesLeft.{Scans}
 use Rattle.nearest_answer.proofs.ListedLeaves.{cut_out}
-use Rattle.nearest_answer.proofs.listed.scan_drawn.Goals as goal
+use Rattle.nearest_answer.proofs.listed.scan_listed.Goals as goal
 
 pub returns-clause-met : goal.returns-clause-met
 returns-clause-met g c =
