@@ -8,7 +8,7 @@ ghost use Rattle.best_word.specs.declared.rule.Event.TheVariants.{Read, Offer};
 
 use crate::floor::{Floor, Told};
 use crate::pass::WordPass;
-use crate::rule::{Falling, Gather, Load, Min, Opening, Part, Terms, View};
+use crate::rule::{Divide, Falling, Gather, Load, Min, Opening, Terms, View};
 use atomic_table::{Seat, Table};
 use outside::NoMemory;
 use search_limits::MOST_WORKERS;
@@ -57,7 +57,7 @@ fn deal<K: Told, T: Floor>(
 {
     table.shared.load::<Opening<K>>(&mut root, 0);
     for made in 0..callers {
-        let seat = table.shared.split_seat::<Part>(&mut root);
+        let seat = table.shared.split_seat::<Divide>(&mut root);
         passes.push_reserved(WordPass::of(seat));
     }
 }

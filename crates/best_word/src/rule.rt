@@ -69,9 +69,9 @@ impl Play<u8, View> for Min {
 }
 
 /// A split: one pass more out of a seat that has read and offered nothing.
-pub struct Part;
+pub struct Divide;
 
-impl Split<View> for Part {
+impl Split<View> for Divide {
     ghost use Rattle.best_word.specs.Rule.{less, one};
 
     ghost left = { less };

@@ -4,7 +4,7 @@ ghost use Rattle.std.specs.Prelude.{IfOk, IfSome, IfNone, replicate, vec_len};
 ghost use Rattle.claim_word.specs.Passes.{fresh_pass, drew, pass_of, EachDrawnOnce};
 
 use crate::pass::ClaimPass;
-use crate::rule::{Counted, Draw, Gather, Part, Terms, View};
+use crate::rule::{Counted, Divide, Draw, Gather, Terms, View};
 use atomic_table::Table;
 use outside::NoMemory;
 use search_limits::MOST_WORKERS;
@@ -53,7 +53,7 @@ impl Claims {
         };
         let (table, mut root) = Counter::of_words(alloc, &[0], &terms)?;
         for made in 0..parts {
-            let seat = table.shared.split_seat::<Part>(&mut root);
+            let seat = table.shared.split_seat::<Divide>(&mut root);
             passes.push_reserved(ClaimPass::of(seat));
         }
         let claims = Claims {

@@ -42,9 +42,9 @@ impl Play<u8, View> for Draw {
 }
 
 /// A split: one pass more out of a seat that has drawn nothing.
-pub struct Part;
+pub struct Divide;
 
-impl Split<View> for Part {
+impl Split<View> for Divide {
     ghost use Rattle.claim_word.specs.Rule.{less, one};
 
     ghost left = { less };

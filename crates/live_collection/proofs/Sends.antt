@@ -15,7 +15,7 @@ use denote.Param.SendFields.{declared_send, declared_sync}
 use Rattle.std.proofs.Crossing.{crosses}
 use Rattle.subtree_build.proofs.node.Node.TheLaws.TheKnot as knot
 use Rattle.live_collection.specs.contracts.object.LiveObject.{the_row}
-use Rattle.live_collection.specs.contracts.part.Part.{the_row as part_row}
+use Rattle.live_collection.specs.contracts.part.BatchPart.{the_row as part_row}
 use Rattle.live_collection.specs.contracts.calls.Reply.{the_row as reply_row}
 use Rattle.live_collection.specs.contracts.calls.Call.{the_row as call_row}
 use Rattle.live_collection.specs.contracts.live.LiveCollection.{the_row as collection_row, the_type as collection_type}

@@ -6,7 +6,7 @@ ghost use Rattle.live_collection.specs.Steps.{Appends};
 use crate::batch::Batch;
 use crate::calls::{Append, Call, Reply};
 use crate::live::{AppendError, LiveCollection, Writer};
-use crate::part::Part;
+use crate::part::BatchPart;
 use series_core::Flat;
 use std::alloc::Global;
 use std::sync::Wait;
@@ -29,7 +29,7 @@ impl LiveCollection {
     {
         let batch = Batch::of_series(rt, alloc, batch, &self.settings)?;
         // this part outlives the call, so a batch that is refused is freed here and not under the lock
-        let own = Part::new(alloc, batch)?;
+        let own = BatchPart::new(alloc, batch)?;
         let call = Append::of_part(alloc, own.another()?, self.readers)?;
         match self.lock.call(rt, &mut writer.pass, Call::Append(call)) {
             Reply::Stands(count) => Ok(count),

@@ -1,7 +1,7 @@
 //! What is asked of the shared object, and what it replies.
 ghost use Rattle.std.specs.Prelude.{◌≡◌, [], ◌∷◌, length, All, IfOk};
 
-use crate::part::{Part, PartList};
+use crate::part::{BatchPart, PartList};
 use outside::NoMemory;
 use std::alloc::Global;
 use std::marker::Model;
@@ -9,7 +9,7 @@ use std::marker::Model;
 /// An append of one batch, with a list of one part for each reader.
 #[derive(Drop)]
 pub struct Append {
-    own: Part,
+    own: BatchPart,
     parts: Vec<PartList>,
 }
 
@@ -30,7 +30,7 @@ impl Model for Append {
 
 impl Append {
     /// An append of the part's batch to this many readers. All that it needs is taken here.
-    pub fn of_part(alloc: Global, own: Part, readers: u32) -> Result<Append, NoMemory>
+    pub fn of_part(alloc: Global, own: BatchPart, readers: u32) -> Result<Append, NoMemory>
         ensures batch { IfOk result (λ a. a.batch ≡ own) }
         ensures parts { IfOk result (λ a. a.parts ≡ readers) }
     {
@@ -42,7 +42,7 @@ impl Append {
     }
 
     /// The batch.
-    pub fn own(&self) -> &Part
+    pub fn own(&self) -> &BatchPart
         ensures { result.now ≡ self.now.batch }
     {
         &self.own

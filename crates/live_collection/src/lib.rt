@@ -18,4 +18,4 @@ pub use batch::Batch;
 pub use calls::{Append, Call, Reply};
 pub use live::{AppendError, LiveCollection, LiveReply, Reader, Writer};
 pub use object::{LiveObject, MAX_BATCHES};
-pub use part::Part;
+pub use part::BatchPart;

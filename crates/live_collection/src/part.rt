@@ -10,11 +10,11 @@ use std::sync::Arc;
 
 /// A hold on a batch. A clause sees the batch.
 #[derive(Drop)]
-pub struct Part {
+pub struct BatchPart {
     batch: Arc<Batch, Global>,
 }
 
-impl Model for Part {
+impl Model for BatchPart {
     ghost use Rattle.std.specs.Arc.{arc_value};
     ghost use Rattle.live_collection.specs.declared.batch.Batch.{Batch};
     ghost use Rattle.std.specs.Coded.{codes};
@@ -28,25 +28,25 @@ impl Model for Part {
 }
 
 /// Parts, each in a block of its own with its link to the next.
-pub type PartList = LinkedList<Part, Global>;
+pub type PartList = LinkedList<BatchPart, Global>;
 
-impl Part {
+impl BatchPart {
     /// The first part of a batch.
-    pub fn new(alloc: Global, batch: Batch) -> Result<Part, NoMemory>
+    pub fn new(alloc: Global, batch: Batch) -> Result<BatchPart, NoMemory>
         ensures { IfOk result (λ p. p ≡ batch) }
     {
         match Arc::new(alloc, batch) {
-            Ok(batch) => Ok(Part { batch }),
+            Ok(batch) => Ok(BatchPart { batch }),
             Err(_) => Err(NoMemory),
         }
     }
 
     /// One more part of the same batch.
-    pub fn another(&self) -> Result<Part, NoMemory>
+    pub fn another(&self) -> Result<BatchPart, NoMemory>
         ensures { IfOk result (λ p. p ≡ self.now) }
     {
         let batch = Arc::try_clone(&self.batch)?;
-        Ok(Part { batch })
+        Ok(BatchPart { batch })
     }
 
     /// A list of one more part of the same batch.

@@ -15,7 +15,7 @@ use Rattle.subtree_build.specs.declared.leaf.TreeLeaf.{TreeLeaf}
 use Rattle.subtree_build.specs.Grown.{cut_leaves, members_in}
 use Rattle.subtree_build.specs.Places.{tree_firsts}
 use Rattle.subtree_build.proofs.Growing.{length-cut, cut_both}
-use Rattle.subtree_build.specs.declared.part.Part.{Part}
+use Rattle.subtree_build.specs.declared.part.RootPart.{RootPart}
 use Rattle.subtree_build.specs.declared.settings.Settings.{Settings}
 use Rattle.subtree_build.specs.declared.splicing.RootLists.{RootLists}
 use Rattle.subtree_build.specs.Tree.{Tree, leaves_of, numbered, all_numbered, IsBuilt}
@@ -39,17 +39,17 @@ child_is settings c found i h inside =
     (root_ascends c settings.layout r) (root_differs c settings.layout r) (h.members i inside))
 
 -- a part was built as the tree of its place
-abbrev pub BuiltAs : (ℕ → Tree TreeLeaf) → Part → Type 0
+abbrev pub BuiltAs : (ℕ → Tree TreeLeaf) → RootPart → Type 0
 BuiltAs T p = IsBuilt (T p.place) [] (outline p.node) (leaves_of_part p)
 
 -- a part has as many leaves as its tree
-leaves_of_built : (T : ℕ → Tree TreeLeaf) (p : Part) → BuiltAs T p → leaves_in p ≡ length (leaves_of (T p.place))
+leaves_of_built : (T : ℕ → Tree TreeLeaf) (p : RootPart) → BuiltAs T p → leaves_in p ≡ length (leaves_of (T p.place))
 leaves_of_built T p built =
     sym (length-cut p.leaves.items p.members.items) ∙ ap (λ (ls : List TreeLeaf). length ls) built.leaves_are
 
 -- parts put together are the trees of their places, numbered on
-joined_is : (T : ℕ → Tree TreeLeaf) (first : ℕ) (parts : List Part) → All (BuiltAs T) parts
-    → joined_nodes first parts ≡ all_numbered first (map (λ (p : Part). T p.place) parts)
+joined_is : (T : ℕ → Tree TreeLeaf) (first : ℕ) (parts : List RootPart) → All (BuiltAs T) parts
+    → joined_nodes first parts ≡ all_numbered first (map (λ (p : RootPart). T p.place) parts)
 joined_is T first [] built = refl
 joined_is T first (p ∷ parts) built =
     let here = All-head (BuiltAs T) p parts built in
@@ -59,24 +59,24 @@ joined_is T first (p ∷ parts) built =
     ∙ ap (λ k. numbered k (T p.place)) (zero-add first))
     ∙ ap (λ ts. numbered first (T p.place) ∷ ts)
     (joined_is T (first + leaves_in p) parts (All-tail (BuiltAs T) p parts built)
-    ∙ ap (λ k. all_numbered (first + k) (map (λ (q : Part). T q.place) parts)) long)
+    ∙ ap (λ k. all_numbered (first + k) (map (λ (q : RootPart). T q.place) parts)) long)
 
 -- the numbers of their first leaves are those of the trees
-firsts_of : (T : ℕ → Tree TreeLeaf) (first : ℕ) (parts : List Part) → All (BuiltAs T) parts
-    → part_firsts first parts ≡ tree_firsts first (map (λ (p : Part). T p.place) parts)
+firsts_of : (T : ℕ → Tree TreeLeaf) (first : ℕ) (parts : List RootPart) → All (BuiltAs T) parts
+    → part_firsts first parts ≡ tree_firsts first (map (λ (p : RootPart). T p.place) parts)
 firsts_of T first [] built = refl
 firsts_of T first (p ∷ parts) built =
     ap (λ ns. first ∷ ns)
     (firsts_of T (first + leaves_in p) parts (All-tail (BuiltAs T) p parts built)
-    ∙ ap (λ k. tree_firsts (first + k) (map (λ (q : Part). T q.place) parts))
+    ∙ ap (λ k. tree_firsts (first + k) (map (λ (q : RootPart). T q.place) parts))
     (leaves_of_built T p (All-head (BuiltAs T) p parts built)))
 
 -- all members of a part lie in its leaves
-abbrev IsWhole : Part → Type 0
+abbrev IsWhole : RootPart → Type 0
 IsWhole p = members_in p.leaves.items ≡ length p.members.items
 
 -- so do those of all parts
-whole_of : (parts : List Part) → All IsWhole parts → members_in (part_leaves parts) ≡ length (part_members parts)
+whole_of : (parts : List RootPart) → All IsWhole parts → members_in (part_leaves parts) ≡ length (part_members parts)
 whole_of [] whole = refl
 whole_of (p ∷ parts) whole =
     omega (
@@ -88,9 +88,9 @@ whole_of (p ∷ parts) whole =
     )
 
 -- their leaves are those of the trees
-leaves_are_of : (T : ℕ → Tree TreeLeaf) (parts : List Part) → All (BuiltAs T) parts → All IsWhole parts
+leaves_are_of : (T : ℕ → Tree TreeLeaf) (parts : List RootPart) → All (BuiltAs T) parts → All IsWhole parts
     → cut_leaves (part_leaves parts) (part_members parts)
-    ≡ flat_map (λ (t : Tree TreeLeaf). leaves_of t) (map (λ (p : Part). T p.place) parts)
+    ≡ flat_map (λ (t : Tree TreeLeaf). leaves_of t) (map (λ (p : RootPart). T p.place) parts)
 leaves_are_of T [] built whole = refl
 leaves_are_of T (p ∷ parts) built whole =
     let here = All-head (BuiltAs T) p parts built in
@@ -101,8 +101,8 @@ leaves_are_of T (p ∷ parts) built whole =
     (leaves_are_of T parts (All-tail (BuiltAs T) p parts built) (All-tail IsWhole p parts whole))
 
 -- the trees of the parts are those of their places
-trees_of_places : (T : ℕ → Tree TreeLeaf) (parts : List Part)
-    → map (λ (p : Part). T p.place) parts ≡ map T (places_of parts)
+trees_of_places : (T : ℕ → Tree TreeLeaf) (parts : List RootPart)
+    → map (λ (p : RootPart). T p.place) parts ≡ map T (places_of parts)
 trees_of_places T [] = refl
 trees_of_places T (p ∷ parts) = ap (λ ts. T p.place ∷ ts) (trees_of_places T parts)
 
@@ -121,10 +121,10 @@ trees_in_order T f a (r ∷ roots) same =
     next a i = omega arith
 
 -- the trees of all parts are the tree of the collection
-trees_are : (settings : Settings) (c : Collection) (found : RootLists) (parts : List Part)
+trees_are : (settings : Settings) (c : Collection) (found : RootLists) (parts : List RootPart)
     → HoldsRoots settings.layout c found
     → places_of parts ≡ range_with_len 0 (length found.roots.items)
-    → map (λ (p : Part). child_at settings found p.place) parts ≡ tree c settings.layout settings.leaf_size
+    → map (λ (p : RootPart). child_at settings found p.place) parts ≡ tree c settings.layout settings.leaf_size
 unfolding tree
 trees_are settings c found parts h places =
     let T = child_at settings found in
@@ -136,21 +136,21 @@ trees_are settings c found parts h places =
     ∙ ap (map f) h.roots
 
 -- parts at their places were built as the trees of their places
-built_as : (settings : Settings) (found : RootLists) (parts : List Part)
+built_as : (settings : Settings) (found : RootLists) (parts : List RootPart)
     → All (IsPartAt settings found) parts → All (BuiltAs (child_at settings found)) parts
 built_as settings found parts built k d inside = (built k d inside).built
 
 -- all members of parts at their places lie in their leaves
-whole_each : (settings : Settings) (found : RootLists) (parts : List Part)
+whole_each : (settings : Settings) (found : RootLists) (parts : List RootPart)
     → All (IsPartAt settings found) parts → All IsWhole parts
 whole_each settings found parts built k d inside = (built k d inside).whole
 
 -- all members of all parts lie in their leaves
-pub whole_all : (settings : Settings) (found : RootLists) (parts : List Part)
+pub whole_all : (settings : Settings) (found : RootLists) (parts : List RootPart)
     → All (IsPartAt settings found) parts → members_in (part_leaves parts) ≡ length (part_members parts)
 whole_all settings found parts built = whole_of parts (whole_each settings found parts built)
 
-module _ (settings : Settings) (c : Collection) (found : RootLists) (parts : List Part)
+module _ (settings : Settings) (c : Collection) (found : RootLists) (parts : List RootPart)
     (h : HoldsRoots settings.layout c found) (places : places_of parts ≡ range_with_len 0 (length found.roots.items))
     (built : All (IsPartAt settings found) parts) where
   -- the nodes of all parts are those of the tree
@@ -185,7 +185,7 @@ module _ (settings : Settings) (c : Collection) (found : RootLists) (parts : Lis
       )
 
 -- each part has the numbers of its own leaves
-pub within_all : (settings : Settings) (found : RootLists) (parts : List Part)
+pub within_all : (settings : Settings) (found : RootLists) (parts : List RootPart)
     → All (IsPartAt settings found) parts → All NumbersWithin parts
 within_all settings found parts built k d inside =
     let p = get_or parts k d in

@@ -8,7 +8,7 @@ use Rattle.worker_team.proofs.Hiring.{All-middle}
 use Rattle.subtree_build.specs.declared.leaf.TreeLeaf.{TreeLeaf}
 use Rattle.isax_word.specs.declared.member.Member.{Member}
 use Rattle.subtree_build.specs.declared.leaf.GrownLeaf.{GrownLeaf}
-use Rattle.subtree_build.specs.declared.part.Part.{Part}
+use Rattle.subtree_build.specs.declared.part.RootPart.{RootPart}
 use Rattle.subtree_build.specs.Building.{leaves_of_part}
 use Rattle.subtree_build.proofs.Growing.{length-cut}
 use Rattle.subtree_build.specs.Tree.{Tree, absent, leaf, split, leaves_of, numbered, IsBuilt}
@@ -16,15 +16,15 @@ use Rattle.subtree_build.specs.Outline.{outline, moved_up, AllLeaves}
 use Rattle.subtree_build.specs.Parts.{leaves_in, joined_nodes, part_firsts, NumbersWithin}
 
 -- the leaves of parts, one part after another
-abbrev pub part_leaves : List Part → List GrownLeaf
+abbrev pub part_leaves : List RootPart → List GrownLeaf
 part_leaves parts = flat_map (λ p. p.leaves.items) parts
 
 -- the members of parts, one part after another
-abbrev pub part_members : List Part → List Member
+abbrev pub part_members : List RootPart → List Member
 part_members parts = flat_map (λ p. p.members.items) parts
 
 -- one part more
-pub joined_nodes_push : (first : ℕ) (parts : List Part) (p : Part)
+pub joined_nodes_push : (first : ℕ) (parts : List RootPart) (p : RootPart)
     → joined_nodes first (parts ++ p ∷ [])
     ≡ joined_nodes first parts ++ moved_up (first + total leaves_in parts) (outline p.node) ∷ []
 joined_nodes_push first [] p =
@@ -36,7 +36,7 @@ joined_nodes_push first (q ∷ parts) p =
     (add_assoc first (leaves_in q) (total leaves_in parts)))
 
 -- the number behind the leaves of one part more
-pub part_firsts_push : (first : ℕ) (parts : List Part) (p : Part)
+pub part_firsts_push : (first : ℕ) (parts : List RootPart) (p : RootPart)
     → part_firsts first (parts ++ p ∷ [])
     ≡ part_firsts first parts ++ (first + (total leaves_in parts + leaves_in p)) ∷ []
 part_firsts_push first [] p = ap (λ n. first ∷ n ∷ []) (omega arith)
@@ -46,21 +46,21 @@ part_firsts_push first (q ∷ parts) p =
     ∙ ap (λ n. part_firsts (first + leaves_in q) parts ++ n ∷ []) (omega arith))
 
 -- the leaves of all parts are as many as those of each together
-pub length-part_leaves : (parts : List Part) → length (part_leaves parts) ≡ total leaves_in parts
+pub length-part_leaves : (parts : List RootPart) → length (part_leaves parts) ≡ total leaves_in parts
 length-part_leaves [] = refl
 length-part_leaves (p ∷ parts) =
     let rest = length-part_leaves parts in
     length-append p.leaves.items (part_leaves parts) ∙ ap (λ n. leaves_in p + n) rest
 
 -- the leaves of one part more
-pub part_leaves_push : (parts : List Part) (p : Part)
+pub part_leaves_push : (parts : List RootPart) (p : RootPart)
     → part_leaves (parts ++ p ∷ []) ≡ part_leaves parts ++ p.leaves.items
-part_leaves_push parts p = sym (flat_map_more (λ (q : Part). q.leaves.items) [] parts p)
+part_leaves_push parts p = sym (flat_map_more (λ (q : RootPart). q.leaves.items) [] parts p)
 
 -- the members of one part more
-pub part_members_push : (parts : List Part) (p : Part)
+pub part_members_push : (parts : List RootPart) (p : RootPart)
     → part_members (parts ++ p ∷ []) ≡ part_members parts ++ p.members.items
-part_members_push parts p = sym (flat_map_more (λ (q : Part). q.members.items) [] parts p)
+part_members_push parts p = sym (flat_map_more (λ (q : RootPart). q.members.items) [] parts p)
 
 -- leaf numbers below a count, moved up, fit where the count does
 pub moved_fits : (t : Tree ℕ) (count by room : ℕ) → AllLeaves (λ l. l < count) t → count + by ≤ room
@@ -104,7 +104,7 @@ numbered_within (split j low high) first =
     less (split j low high) a b le all = (less low a b le all.0, less high a b le all.1)
 
 -- a part that was built has the numbers of its own leaves
-pub built_within : (t : Tree TreeLeaf) (p : Part) → IsBuilt t [] (outline p.node) (leaves_of_part p)
+pub built_within : (t : Tree TreeLeaf) (p : RootPart) → IsBuilt t [] (outline p.node) (leaves_of_part p)
     → NumbersWithin p
 built_within t p built =
     let P : Tree ℕ → Type 0 = λ n. AllLeaves (λ l. l < leaves_in p) n in
@@ -114,7 +114,7 @@ built_within t p built =
     subst P (sym built.node_is)
     (subst Q (sym long) (subst Q (zero-add (length (leaves_of t))) (numbered_within t 0)))
 
-module _ (all done left rest : List Part) (p : Part) (next : left ≡ p ∷ rest) (whole : done ++ left ≡ all) where
+module _ (all done left rest : List RootPart) (p : RootPart) (next : left ≡ p ∷ rest) (whole : done ++ left ≡ all) where
   -- the next part stands behind the parts before it
   pub next_is_whole : done ++ p ∷ rest ≡ all
   next_is_whole = ap (λ xs. done ++ xs) (sym next) ∙ whole
@@ -128,7 +128,7 @@ module _ (all done left rest : List Part) (p : Part) (next : left ≡ p ∷ rest
       omega arith
 
   -- and it has what each part has
-  pub next_has : (P : Part → Type 0) → All P all → P p
+  pub next_has : (P : RootPart → Type 0) → All P all → P p
   next_has P each =
-      let Q : List Part → Type 0 = λ ps. All P ps in
+      let Q : List RootPart → Type 0 = λ ps. All P ps in
       All-middle P done rest p (subst Q (sym next_is_whole) each)

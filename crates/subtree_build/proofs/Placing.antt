@@ -16,41 +16,41 @@ use Rattle.worker_team.proofs.Deeds.{passes_have}
 use Rattle.claim_word.proofs.Draws.{all_draws, all_drawn, times_all}
 use Rattle.std.specs.declared.vec.Vec.{Vec}
 use Rattle.std.specs.declared.alloc.Global.{Global}
-use Rattle.subtree_build.specs.declared.part.Part.{Part}
+use Rattle.subtree_build.specs.declared.part.RootPart.{RootPart}
 use Rattle.subtree_build.specs.declared.settings.Settings.{Settings}
 use Rattle.subtree_build.specs.declared.splicing.RootLists.{RootLists}
 use Rattle.subtree_build.specs.Building.{HasBuilt, IsPartAt, places_of}
 use Rattle.subtree_build.proofs.ByNumber.{sum_by_is_total}
 
 -- how parts were made with a pass
-abbrev Made : Settings → RootLists → Pass → Vec Part Global → Type 0
+abbrev Made : Settings → RootLists → Pass → Vec RootPart Global → Type 0
 Made settings found pass parts = HasBuilt settings found pass parts.items
 
 -- the passes of workers that built have ended
-builders_ended : (settings : Settings) (found : RootLists) (passes : List Pass) (made : List (Vec Part Global))
+builders_ended : (settings : Settings) (found : RootLists) (passes : List Pass) (made : List (Vec RootPart Global))
     → EachDid (Made settings found) passes made → All (λ (p : Pass). p.ended ≡ true) passes
 builders_ended settings found passes made did =
     passes_have (Made settings found) (λ (p : Pass). p.ended ≡ true) (λ p m d. d.ended) passes made did
 
 -- what workers made are root children at their places
-pub builders_made : (settings : Settings) (found : RootLists) (passes : List Pass) (made : List (Vec Part Global))
+pub builders_made : (settings : Settings) (found : RootLists) (passes : List Pass) (made : List (Vec RootPart Global))
     → EachDid (Made settings found) passes made → All (IsPartAt settings found) (flat_map (λ own. own.items) made)
 builders_made settings found passes [] did = All-nil (IsPartAt settings found)
 builders_made settings found [] (m ∷ made) did = absurd did
 builders_made settings found (p ∷ passes) (m ∷ made) did =
-    All-append (IsPartAt settings found) m.items (flat_map (λ (own : Vec Part Global). own.items) made)
+    All-append (IsPartAt settings found) m.items (flat_map (λ (own : Vec RootPart Global). own.items) made)
     did.0.made (builders_made settings found passes made did.1)
 
 -- the places of what workers made are what their passes drew
-places_drawn : (settings : Settings) (found : RootLists) (passes : List Pass) (made : List (Vec Part Global))
+places_drawn : (settings : Settings) (found : RootLists) (passes : List Pass) (made : List (Vec RootPart Global))
     → EachDid (Made settings found) passes made
     → places_of (flat_map (λ own. own.items) made) ≡ all_draws passes
 places_drawn settings found [] [] did = refl
 places_drawn settings found [] (m ∷ made) did = absurd did
 places_drawn settings found (p ∷ passes) [] did = absurd did
 places_drawn settings found (p ∷ passes) (m ∷ made) did =
-    let rest = flat_map (λ (own : Vec Part Global). own.items) made in
-    map-append (λ (q : Part). q.place) m.items rest
+    let rest = flat_map (λ (own : Vec RootPart Global). own.items) made in
+    map-append (λ (q : RootPart). q.place) m.items rest
     ∙ ap (λ l. l ++ places_of rest) did.0.drawn
     ∙ ap (λ l. p.draws ++ l) (places_drawn settings found passes made did.1)
 
@@ -60,8 +60,8 @@ UpFrom a [] = Unit {0}
 UpFrom a (x ∷ xs) = (a ≤ x) × UpFrom x xs
 
 -- places that do not fall
-up_from_sort : (a : ℕ) (ps : List Part) → ((d : Part) → 0 < length ps → a ≤ (get_or ps 0 d).place)
-    → IsNonDecreasingBy (λ (p : Part). p.place) ps → UpFrom a (places_of ps)
+up_from_sort : (a : ℕ) (ps : List RootPart) → ((d : RootPart) → 0 < length ps → a ≤ (get_or ps 0 d).place)
+    → IsNonDecreasingBy (λ (p : RootPart). p.place) ps → UpFrom a (places_of ps)
 up_from_sort a [] first up = tt
 up_from_sort a (p ∷ ps) first up = (
   first p (omega arith),
@@ -135,22 +135,22 @@ ordered_range a (suc n) (y ∷ ys) up once =
     end a n = omega arith
 
 -- a permutation has each place as often
-times_permuted : (ps qs : List Part) (x : ℕ) → IsPermutation ps qs
+times_permuted : (ps qs : List RootPart) (x : ℕ) → IsPermutation ps qs
     → times x (places_of qs) ≡ times x (places_of ps)
 times_permuted ps qs x moved =
-    let one : Part → ℕ = λ p. one_if_same x p.place in
-    total_map (one_if_same x) (λ (p : Part). p.place) qs
+    let one : RootPart → ℕ = λ p. one_if_same x p.place in
+    total_map (one_if_same x) (λ (p : RootPart). p.place) qs
     ∙ sym (sum_by_is_total one qs)
     ∙ sum_by-IsPermutation one ps qs moved
     ∙ sum_by_is_total one ps
-    ∙ sym (total_map (one_if_same x) (λ (p : Part). p.place) ps)
+    ∙ sym (total_map (one_if_same x) (λ (p : RootPart). p.place) ps)
 
 -- where workers drew all places, each once, their parts in order have the places in order
 pub places_are : (settings : Settings) (found : RootLists) (count : ℕ) (passes : List Pass)
-    (made : List (Vec Part Global)) (parts sorted : List Part)
+    (made : List (Vec RootPart Global)) (parts sorted : List RootPart)
     → EachDid (Made settings found) passes made → parts ≡ flat_map (λ own. own.items) made
     → 0 < length passes → EachDrawnOnce count passes → IsPermutation parts sorted
-    → IsNonDecreasingBy (λ (p : Part). p.place) sorted
+    → IsNonDecreasingBy (λ (p : RootPart). p.place) sorted
     → places_of sorted ≡ range_with_len 0 count
 places_are settings found count passes made parts sorted did is_parts some drawn moved up =
     let all : drawn.drawn ≡ count
@@ -158,7 +158,7 @@ places_are settings found count passes made parts sorted did is_parts some drawn
     ordered_range 0 count (places_of sorted) (up_from_sort 0 sorted (λ d some. omega arith) up)
     (λ x low.
     times_permuted parts sorted x moved
-    ∙ ap (λ (ps : List Part). times x (places_of ps)) is_parts
+    ∙ ap (λ (ps : List RootPart). times x (places_of ps)) is_parts
     ∙ ap (times x) (places_drawn settings found passes made did)
     ∙ times_all x passes
     ∙ drawn.once x

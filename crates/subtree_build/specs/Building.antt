@@ -10,7 +10,7 @@ use Rattle.isax_word.specs.declared.member.Member.{Member}
 use Rattle.summary_phase.specs.Members.{members_of}
 use Rattle.summary_phase.specs.Roots.{of_root}
 use Rattle.subtree_build.specs.declared.leaf.TreeLeaf.{TreeLeaf}
-use Rattle.subtree_build.specs.declared.part.Part.{Part}
+use Rattle.subtree_build.specs.declared.part.RootPart.{RootPart}
 use Rattle.subtree_build.specs.declared.settings.Settings.{Settings}
 use Rattle.subtree_build.specs.declared.splicing.RootLists.{RootLists}
 use Rattle.subtree_build.specs.Division.{node_of, roots_of}
@@ -48,21 +48,21 @@ child_at settings found i =
     (by_number (list_at found i))
 
 -- the leaves of a part with their members
-abbrev pub leaves_of_part : Part → List TreeLeaf
+abbrev pub leaves_of_part : RootPart → List TreeLeaf
 leaves_of_part p = cut_leaves p.leaves.items p.members.items
 
 -- a part is the root child at its place, and each of its members lies in one of its leaves
-pub record IsPartAt (settings : Settings) (found : RootLists) (p : Part) : Type 0 where
+pub record IsPartAt (settings : Settings) (found : RootLists) (p : RootPart) : Type 0 where
   pub placed : p.place < length found.roots.items
   pub built : IsBuilt (child_at settings found p.place) [] (outline p.node) (leaves_of_part p)
   pub whole : members_in p.leaves.items ≡ length p.members.items
 
 -- the places of parts
-abbrev pub places_of : List Part → List ℕ
+abbrev pub places_of : List RootPart → List ℕ
 places_of parts = map (λ p. p.place) parts
 
 -- with this pass, which has ended, a worker made the root child of each place that it drew
-pub record HasBuilt (settings : Settings) (found : RootLists) (pass : Pass) (parts : List Part) : Type 0 where
+pub record HasBuilt (settings : Settings) (found : RootLists) (pass : Pass) (parts : List RootPart) : Type 0 where
   pub ended : pass.ended ≡ true
   pub drawn : places_of parts ≡ pass.draws
   pub made : All (IsPartAt settings found) parts

@@ -7,7 +7,7 @@ ghost use Rattle.subtree_build.specs.Places.{IsPlace};
 
 use crate::leaf::LeafPlace;
 use crate::node::Node;
-use crate::part::{Part, join_parts, placed};
+use crate::part::{RootPart, join_parts, placed};
 use crate::settings::Settings;
 use crate::splicing::RootLists;
 use isax_word::Member;
@@ -34,7 +34,7 @@ impl BareTree {
         rows: &R,
         settings: &Settings,
         found: RootLists,
-        parts: Vec<Part>,
+        parts: Vec<RootPart>,
     ) -> Result<BareTree, NoMemory>
         requires roots { HoldsRoots settings.now.layout (R.collection rows.now) found }
         requires places { map (λ p. p.place) parts.items ≡ range_with_len 0 (length found.roots.items) }

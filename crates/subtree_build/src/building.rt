@@ -5,7 +5,7 @@ ghost use Rattle.std.specs.List.Sorted.{IsNonDecreasingBy};
 ghost use Rattle.claim_word.specs.Passes.{fresh_pass};
 ghost use Rattle.subtree_build.specs.Building.{CanBuild, HasBuilt, IsPartAt};
 
-use crate::part::Part;
+use crate::part::RootPart;
 use crate::settings::Settings;
 use crate::splicing::RootLists;
 use claim_word::Claims;
@@ -22,8 +22,8 @@ fn built<G: Gate>(
     found: &RootLists,
     claims: &Claims,
     gate: &G,
-    worker: &mut TeamWorker<Vec<Part>>,
-) -> Result<Vec<Part>, NoMemory>
+    worker: &mut TeamWorker<Vec<RootPart>>,
+) -> Result<Vec<RootPart>, NoMemory>
     requires count { claims.now.count ≡ length found.now.roots.items }
     requires found { CanBuild settings.now found.now }
     requires fresh { worker.old.pass ≡ fresh_pass claims.now }
@@ -37,7 +37,7 @@ fn built<G: Gate>(
         let Some(place) = claims.draw(&mut worker.pass) else {
             return Ok(parts);
         };
-        let part = Part::of_place(alloc, settings, found, place)?;
+        let part = RootPart::of_place(alloc, settings, found, place)?;
         parts.push(part)?;
     }
 }
@@ -50,7 +50,7 @@ fn run<H: Threads + Sync, G: Gate + Sync>(
     found: &RootLists,
     claims: &Claims,
     gate: &G,
-    team: &mut Vec<TeamWorker<Vec<Part>>>,
+    team: &mut Vec<TeamWorker<Vec<RootPart>>>,
 )
     requires count { claims.now.count ≡ length found.now.roots.items }
     requires found { CanBuild settings.now found.now }
@@ -68,7 +68,7 @@ fn run<H: Threads + Sync, G: Gate + Sync>(
 }
 
 /// The parts in the order of their places.
-fn in_order(mut parts: Vec<Part>) -> Vec<Part>
+fn in_order(mut parts: Vec<RootPart>) -> Vec<RootPart>
     ensures moved { IsPermutation parts.items result.items }
     ensures ordered { IsNonDecreasingBy (λ p. p.place) result.items }
 {
@@ -81,7 +81,7 @@ fn begin(
     alloc: Global,
     found: &RootLists,
     turns: &[u64],
-) -> Result<(Claims, Vec<TeamWorker<Vec<Part>>>), NoMemory>
+) -> Result<(Claims, Vec<TeamWorker<Vec<RootPart>>>), NoMemory>
     requires few { length found.now.roots.items ≤ 65536 }
     requires workers { (1 ≤ length turns.now) × (length turns.now ≤ MOST_WORKERS) }
     ensures count { IfOk result (λ r. r.0.count ≡ length found.now.roots.items) }
@@ -100,8 +100,8 @@ fn end(
     settings: &Settings,
     found: &RootLists,
     claims: Claims,
-    team: Vec<TeamWorker<Vec<Part>>>,
-) -> Result<Vec<Part>, NoMemory>
+    team: Vec<TeamWorker<Vec<RootPart>>>,
+) -> Result<Vec<RootPart>, NoMemory>
     requires count { claims.count ≡ length found.now.roots.items }
     requires all { vec_len team ≡ claims.callers }
     requires some { 0 < vec_len team }
@@ -127,7 +127,7 @@ pub(crate) fn build_parts<H: Threads + Sync, G: Gate + Sync>(
     found: &RootLists,
     turns: &[u64],
     gate: &G,
-) -> Result<Vec<Part>, NoMemory>
+) -> Result<Vec<RootPart>, NoMemory>
     requires found { CanBuild settings.now found.now }
     requires few { length found.now.roots.items ≤ 65536 }
     requires workers { (1 ≤ length turns.now) × (length turns.now ≤ MOST_WORKERS) }
@@ -145,7 +145,7 @@ pub(crate) fn build_parts_alone(
     alloc: Global,
     settings: &Settings,
     found: &RootLists,
-) -> Result<Vec<Part>, NoMemory>
+) -> Result<Vec<RootPart>, NoMemory>
     requires found { CanBuild settings.now found.now }
     requires few { length found.now.roots.items ≤ 65536 }
     ensures places { IfOk result (λ parts. map (λ p. p.place) parts.items

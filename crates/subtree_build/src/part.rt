@@ -21,7 +21,7 @@ use std::alloc::Global;
 /// A root child: its place among the root children, its node, whose leaves are numbered from 0, these leaves, and the
 /// members of all of them in a row.
 #[derive(Drop)]
-pub(crate) struct Part {
+pub(crate) struct RootPart {
     pub(crate) place: u64,
     pub(crate) node: Node,
     pub(crate) leaves: Vec<GrownLeaf>,
@@ -67,14 +67,14 @@ fn sort_members(members: &mut Vec<Member>)
     members.sort_unstable_by_key(|member| member.number);
 }
 
-impl Part {
+impl RootPart {
     /// The root child at a place, from its members in any order.
     pub(crate) fn of_place(
         alloc: Global,
         settings: &Settings,
         found: &RootLists,
         place: u64,
-    ) -> Result<Part, NoMemory>
+    ) -> Result<RootPart, NoMemory>
         requires place { place < length found.now.roots.items }
         requires found { CanBuild settings.now found.now }
         ensures part { IfOk result (IsPartAt settings.now found.now) }
@@ -95,7 +95,7 @@ impl Part {
             scratch.as_mut_slice(),
             &mut leaves,
         )?;
-        Ok(Part {
+        Ok(RootPart {
             place,
             node,
             leaves,
@@ -124,7 +124,11 @@ fn renumber(node: &mut Node, by: u32)
 
 /// The parts in one: leaves are numbered on from part to part, and the members of all parts, of which there are `count`,
 /// lie behind one another.
-pub(crate) fn join_parts(alloc: Global, parts: Vec<Part>, count: u32) -> Result<Joined, NoMemory>
+pub(crate) fn join_parts(
+    alloc: Global,
+    parts: Vec<RootPart>,
+    count: u32,
+) -> Result<Joined, NoMemory>
     requires within { All NumbersWithin parts.items }
     requires few { total leaves_in parts.items < 2 ^ 32 }
     ensures nodes { IfOk result (λ r. map outline r.nodes.items ≡ joined_nodes 0 parts.items) }
@@ -138,7 +142,7 @@ pub(crate) fn join_parts(alloc: Global, parts: Vec<Part>, count: u32) -> Result<
     let mut leaves = Vec::new(alloc);
     let mut members = Vec::with_capacity(alloc, count as usize)?;
     for part in parts {
-        let Part {
+        let RootPart {
             mut node,
             leaves: mut own,
             members: mut own_members,

@@ -3,7 +3,7 @@ use Rattle.std.proofs.Common.{◌∷◌, [], ◌++◌, List, All, sym, ap, ◌�
 use Rattle.std.proofs.lemmas.List.{map-append}
 use Rattle.std.proofs.lemmas.List.Elements.{All-push}
 use Rattle.claim_word.specs.Passes.{Pass}
-use Rattle.subtree_build.specs.declared.part.Part.{Part}
+use Rattle.subtree_build.specs.declared.part.RootPart.{RootPart}
 use Rattle.subtree_build.specs.Building.{IsPartAt, places_of}
 use Rattle.subtree_build.proofs.building.built.Goals as goal
 
@@ -22,11 +22,11 @@ loop-place-preserved g c =
     let drawn = c.in-Some.ensures.drawn in
     let items = c.in_ok-push.ensures.items in
     let are = IsPartAt c.args.settings.now c.args.found.now in
-    let P : List Part → Type 0 = λ ps. All are ps in (
+    let P : List RootPart → Type 0 = λ ps. All are ps in (
       ap (λ (p : Pass). p.claims) drawn ∙ was.0,
       ap (λ (p : Pass). p.ended) drawn ∙ was.1,
       ap places_of items
-          ∙ map-append (λ (p : Part). p.place) parts (part ∷ [])
+          ∙ map-append (λ (p : RootPart). p.place) parts (part ∷ [])
           ∙ ap (λ ns. ns ++ part.place ∷ []) was.2
           ∙ ap (λ n. c.loop-place.worker.pass.draws ++ n ∷ []) c.in_ok-part.ensures.place
           ∙ sym (ap (λ (p : Pass). p.draws) drawn),

@@ -4,7 +4,7 @@ use Rattle.std.proofs.lemmas.List.Sorted.{All-permutation}
 use Rattle.claim_word.specs.Passes.{EachDrawnOnce}
 use Rattle.worker_team.proofs.Deeds.{each_did}
 use Rattle.subtree_build.proofs.Passed.{passes_own, some_passes}
-use Rattle.subtree_build.specs.declared.part.Part.{Part}
+use Rattle.subtree_build.specs.declared.part.RootPart.{RootPart}
 use Rattle.subtree_build.specs.Building.{HasBuilt, IsPartAt}
 use Rattle.subtree_build.proofs.Placing.{builders_made, places_are}
 use Rattle.subtree_build.proofs.building.end.Goals as goal
@@ -32,7 +32,7 @@ returns-clause-built c =
     let found = c.args.found.now in
     let made = IsPartAt c.args.settings.now found in
     let passes = c.in_ok-passes.passes.items in
-    let P : List Part → Type 0 = λ ps. All made ps in
+    let P : List RootPart → Type 0 = λ ps. All made ps in
     All-permutation made c.in_ok-parts.parts.items c.in_order.result.items c.in_order.ensures.moved
     (subst P (sym c.in_ok-parts.ensures)
     (builders_made c.args.settings.now found passes c.in_ok-passes.made.items

@@ -5,7 +5,7 @@ use Rattle.series_core.specs.Collection.{Collection}
 use Rattle.isax_word.specs.declared.member.Member.{Member}
 use Rattle.subtree_build.specs.declared.leaf.GrownLeaf.{GrownLeaf}
 use Rattle.subtree_build.specs.declared.part.Joined.{Joined}
-use Rattle.subtree_build.specs.declared.part.Part.{Part}
+use Rattle.subtree_build.specs.declared.part.RootPart.{RootPart}
 use Rattle.subtree_build.specs.declared.settings.Settings.{Settings}
 use Rattle.subtree_build.specs.declared.splicing.RootLists.{RootLists}
 use Rattle.subtree_build.specs.Building.{HoldsRoots, IsPartAt}
@@ -31,8 +31,8 @@ join_parts-requires-clause-few g c =
     c.requires.places c.requires.built
 
 -- parts put together are those of the tree
-is_joined : (settings : Settings) (rows : Collection) (found : RootLists) (parts : List Part) (joined : Joined)
-    → HoldsRoots settings.layout rows found → map (λ (p : Part). p.place) parts ≡ range_with_len 0 (length found.roots.items)
+is_joined : (settings : Settings) (rows : Collection) (found : RootLists) (parts : List RootPart) (joined : Joined)
+    → HoldsRoots settings.layout rows found → map (λ (p : RootPart). p.place) parts ≡ range_with_len 0 (length found.roots.items)
     → All (IsPartAt settings found) parts
     → map outline joined.nodes.items ≡ joined_nodes 0 parts → joined.firsts.items ≡ part_firsts 0 parts
     → joined.leaves.items ≡ part_leaves parts → joined.members.items ≡ part_members parts

@@ -5,7 +5,7 @@ use Rattle.std.proofs.lemmas.List.Sorted.{All-permutation, length_permutation}
 use Rattle.isax_word.proofs.Roots.{length-one_bit_word}
 use Rattle.isax_word.specs.declared.member.Member.{Member}
 use Rattle.subtree_build.specs.Members.{HaveSegments}
-use Rattle.subtree_build.proofs.part.Part.of_place.Goals as goal
+use Rattle.subtree_build.proofs.part.RootPart.of_place.Goals as goal
 
 -- members that were put in order are as many as before
 as_many : (listed members sorted shown : List Member) → members ≡ listed → IsPermutation members sorted → shown ≡ sorted
