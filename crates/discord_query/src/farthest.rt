@@ -8,7 +8,7 @@ ghost use Rattle.discord_query.specs.Searches.{IsReady, AreSeries};
 use crate::discords::{Discord, DiscordList};
 use crate::groups::{group_count, group_size};
 use crate::homes::homes_of;
-use crate::search::Search;
+use crate::search::DiscordSearch;
 use crate::team::draw_together;
 use best_word::BestWord;
 use claim_word::Claims;
@@ -41,7 +41,7 @@ pub fn discord<T: Threads + Sync, R: Rows + Sync, G: Gate + Sync>(
     ensures { IfOk result (λ ds. ds ≡ discords (R.collection rows.now) k) }
 {
     let homes = homes_of(alloc, index, rows.count())?;
-    let search = Search {
+    let search = DiscordSearch {
         rows,
         index,
         layout,
@@ -57,7 +57,7 @@ pub fn discord<T: Threads + Sync, R: Rows + Sync, G: Gate + Sync>(
 fn by_team<T: Threads + Sync, R: Rows + Sync, G: Gate + Sync>(
     rt: &T,
     alloc: Global,
-    search: &Search<'_, R>,
+    search: &DiscordSearch<'_, R>,
     workers: u32,
     gate: &G,
 ) -> Result<KBest, NoMemory>
@@ -77,7 +77,7 @@ fn by_team<T: Threads + Sync, R: Rows + Sync, G: Gate + Sync>(
 /// Each of these series with its nearest other.
 fn named<R: Rows>(
     alloc: Global,
-    search: &Search<'_, R>,
+    search: &DiscordSearch<'_, R>,
     farthest: &[Pair],
 ) -> Result<DiscordList, NoMemory>
     requires ready { IsReady R.collection search.now }

@@ -3,7 +3,7 @@ ghost use Rattle.std.specs.Prelude.{◌≤◌, length};
 ghost use Rattle.discord_query.specs.Groups.{IsCut};
 ghost use Rattle.discord_query.specs.Searches.{IsReady};
 
-use crate::search::Search;
+use crate::search::DiscordSearch;
 use crate::tuning::{GROUPS_OF_WORKER, SERIES_OF_GROUP};
 use search_limits::MOST_WORKERS;
 use series_core::Rows;
@@ -17,7 +17,7 @@ pub(crate) fn group_size(count: u32, workers: u32) -> u32
 }
 
 /// How many groups there are.
-pub(crate) fn group_count<R: Rows>(search: &Search<'_, R>) -> u32
+pub(crate) fn group_count<R: Rows>(search: &DiscordSearch<'_, R>) -> u32
     requires ready { IsReady R.collection search.now }
     ensures { IsCut search.now.size (length (R.collection search.now.rows.now).series) result }
 {

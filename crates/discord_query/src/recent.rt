@@ -1,9 +1,9 @@
-//! The series that were near others last, which are tried first. Nobody believes them: each is measured again.
+//! The series that were near others last, which are tried first. None is believed: each is measured again.
 use crate::tuning::RECENT_SERIES;
 use mean_bound::Means;
 
 /// A number that no series has.
-const NOBODY: u32 = u32::MAX;
+const NO_SERIES: u32 = u32::MAX;
 
 /// A series that was near another, with its means, so that one that is far is seen by a bound.
 #[derive(Clone, Copy)]
@@ -14,9 +14,9 @@ pub(crate) struct Known {
 
 impl Known {
     /// No series.
-    pub fn nobody() -> Known {
+    pub fn none() -> Known {
         Known {
-            number: NOBODY,
+            number: NO_SERIES,
             means: Means::zeros(),
         }
     }
@@ -32,13 +32,13 @@ impl Recent {
     /// Nothing is remembered yet.
     pub fn new() -> Recent {
         Recent {
-            series: [Known::nobody(); RECENT_SERIES],
+            series: [Known::none(); RECENT_SERIES],
         }
     }
 
     /// The series at a place, below `RECENT_SERIES`; none where nothing is remembered there.
     pub fn at(&self, place: usize) -> Known {
-        self.series.get(place).copied().unwrap_or(Known::nobody())
+        self.series.get(place).copied().unwrap_or(Known::none())
     }
 
     /// Puts a series first; those before this place, below `RECENT_SERIES`, move back by one.

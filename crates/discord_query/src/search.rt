@@ -20,7 +20,7 @@ use subtree_build::Index;
 /// What all workers search: rows, their index, the leaf of each series, how many discords are wanted, and how many series a worker takes
 /// at a time.
 #[derive(Drop)]
-pub(crate) struct Search<'a, R> {
+pub(crate) struct DiscordSearch<'a, R> {
     pub rows: &'a R,
     pub index: &'a Index,
     pub layout: &'a Layout,
@@ -30,7 +30,7 @@ pub(crate) struct Search<'a, R> {
 }
 
 /// `NONE` less the distance of the k-th discord, or `NONE` where there are fewer: no limit falls below it.
-impl<'a, R: Rows> Floor for Search<'a, R> {
+impl<'a, R: Rows> Floor for DiscordSearch<'a, R> {
     ghost floor = { λ s. least_farness (R.collection s.rows.now) s.k };
 }
 
@@ -62,7 +62,7 @@ fn is_far(view: &MeanView, own: Option<&MeanBox>, radius: u64) -> bool {
     }
 }
 
-impl<'a, R: Rows> Search<'a, R> {
+impl<'a, R: Rows> DiscordSearch<'a, R> {
     /// The nearest other of a series: of two as near, the one with the smaller number. None where there is no other.
     pub fn other(&self, alloc: Global, number: u32) -> Result<Option<Pair>, NoMemory>
         requires ready { IsReady R.collection self.now }
@@ -106,7 +106,7 @@ impl<'a, R: Rows> Search<'a, R> {
         requires ready { IsReady R.collection self.now }
     {
         if number >= self.rows.count() {
-            return Known::nobody();
+            return Known::none();
         }
         let means = Means::of(&self.layout.cuts, self.rows.row(number));
         Known { number, means }

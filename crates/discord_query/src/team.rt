@@ -8,7 +8,7 @@ ghost use Rattle.discord_query.specs.Done.{IsDone, IsPart, Weighed};
 ghost use Rattle.discord_query.specs.Groups.{IsCut, IsOfGroup};
 
 use crate::recent::Recent;
-use crate::search::Search;
+use crate::search::DiscordSearch;
 use best_word::{BestWord, WordPass};
 use claim_word::Claims;
 use list_team::{Searcher, offer_last};
@@ -21,7 +21,7 @@ use worker_team::for_each_mut;
 /// Takes one series in: gives it up, or finds its nearest other and keeps it among the k farthest.
 fn weigh<R: Rows>(
     alloc: Global,
-    search: &Search<'_, R>,
+    search: &DiscordSearch<'_, R>,
     best: &BestWord,
     word: &mut WordPass,
     list: &mut KBest,
@@ -55,7 +55,7 @@ fn weigh<R: Rows>(
 /// Takes in the series of a group, one after another.
 fn weigh_group<R: Rows>(
     alloc: Global,
-    search: &Search<'_, R>,
+    search: &DiscordSearch<'_, R>,
     best: &BestWord,
     word: &mut WordPass,
     list: &mut KBest,
@@ -82,7 +82,7 @@ fn weigh_group<R: Rows>(
 /// Draws groups of series until none is left, and takes in each.
 fn draw_all<R: Rows, G: Gate>(
     alloc: Global,
-    search: &Search<'_, R>,
+    search: &DiscordSearch<'_, R>,
     claims: &Claims,
     best: &BestWord,
     gate: &G,
@@ -118,7 +118,7 @@ fn draw_all<R: Rows, G: Gate>(
 /// Lets a worker draw to the end, and notes whether it came there.
 fn work<R: Rows, G: Gate>(
     alloc: Global,
-    search: &Search<'_, R>,
+    search: &DiscordSearch<'_, R>,
     claims: &Claims,
     best: &BestWord,
     gate: &G,
@@ -139,7 +139,7 @@ fn work<R: Rows, G: Gate>(
 pub(crate) fn draw_together<T: Threads + Sync, R: Rows + Sync, G: Gate + Sync>(
     rt: &T,
     alloc: Global,
-    search: &Search<'_, R>,
+    search: &DiscordSearch<'_, R>,
     claims: &Claims,
     best: &BestWord,
     gate: &G,

@@ -5,11 +5,11 @@ use Rattle.series_core.specs.declared.best.TheConstants.{MAX_BEST}
 use Rattle.subtree_build.specs.Fits.{Fits}
 use Rattle.window_rows.specs.Choice.{enough}
 use Rattle.isearch_c.specs.declared.answers.Asked.{Asked}
-use Rattle.isearch_c.specs.declared.answers.Ground.{Ground}
+use Rattle.isearch_c.specs.declared.answers.IndexedRows.{IndexedRows}
 use Rattle.search_limits.specs.declared.numbers.TheConstants.{MOST_APART}
 
 -- the index fits the rows, which are as long as the layout says
-pub record IsGround {R : Type 0} (collection : R → Collection) (g : Ground R) : Type 0 where
+pub record AreIndexed {R : Type 0} (collection : R → Collection) (g : IndexedRows R) : Type 0 where
   pub fits : Fits (collection g.rows.now) g.layout.now g.index.now
   pub length : (collection g.rows.now).points ≡ g.layout.now.cuts.row_length
 

@@ -3,7 +3,7 @@
 ghost use Rattle.std.specs.Prelude.{◌≡◌, ◌<◌, ◌≤◌, ◌*◌, ◌/◌, ◌++◌, None, Some, IfOk, OnOk, length};
 ghost use Rattle.series_core.specs.Answer.{answer};
 ghost use Rattle.window_rows.specs.Choice.{chosen_apart};
-ghost use Rattle.isearch_c.specs.Asking.{AreWhole, CanAsk, CanChoose, CanWant, IsGround};
+ghost use Rattle.isearch_c.specs.Asking.{AreWhole, CanAsk, CanChoose, CanWant, AreIndexed};
 ghost use Rattle.isearch_c.specs.Faults.{count_fits, places_fit, queries_fit};
 ghost use Rattle.isearch_c.specs.Found.{Hold, answers, filled, queries_in, wanted_of};
 
@@ -33,7 +33,7 @@ pub struct Asked {
 
 /// Rows with an index that fits them, as one call searches them.
 #[derive(Drop)]
-pub struct Ground<'a, R> {
+pub struct IndexedRows<'a, R> {
     /// The rows.
     pub rows: &'a R,
     /// How they become words.
@@ -65,7 +65,7 @@ pub fn places_fit(queries: usize, k: u32, distances: usize, numbers: usize) -> b
     distances as u128 == wanted && numbers as u128 == wanted
 }
 
-impl<'a, R: Rows> Ground<'a, R> {
+impl<'a, R: Rows> IndexedRows<'a, R> {
     /// The k nearest rows to a query whose numbers lie so far apart. So many of the nearest are found as are always enough to choose from.
     fn nearest_apart(
         &self,
@@ -74,7 +74,7 @@ impl<'a, R: Rows> Ground<'a, R> {
         apart: u32,
         query: &[i16],
     ) -> Result<PairList, NoMemory>
-        requires ground { IsGround R.collection self.now }
+        requires indexed { AreIndexed R.collection self.now }
         requires query { length query.now ≡ (R.collection self.now.rows.now).points }
         requires k { 1 ≤ k }
         requires apart { CanChoose k apart }
@@ -90,7 +90,7 @@ impl<'a, R: Rows> Ground<'a, R> {
 
     /// The k nearest rows to a query.
     fn nearest(&self, alloc: Global, k: u32, query: &[i16]) -> Result<PairList, NoMemory>
-        requires ground { IsGround R.collection self.now }
+        requires indexed { AreIndexed R.collection self.now }
         requires query { length query.now ≡ (R.collection self.now.rows.now).points }
         requires k { CanWant k }
         ensures { IfOk result (λ found. found ≡ answer (R.collection self.now.rows.now) query.now k) }
@@ -101,7 +101,7 @@ impl<'a, R: Rows> Ground<'a, R> {
 
     /// What is wanted of one query.
     fn wanted(&self, alloc: Global, asked: Asked, query: &[i16]) -> Result<PairList, NoMemory>
-        requires ground { IsGround R.collection self.now }
+        requires indexed { AreIndexed R.collection self.now }
         requires query { length query.now ≡ (R.collection self.now.rows.now).points }
         requires asked { CanAsk asked }
         ensures { IfOk result (λ pairs. pairs ≡ wanted_of asked (R.collection self.now.rows.now) query.now) }
@@ -119,7 +119,7 @@ impl<'a, R: Rows> Ground<'a, R> {
         asked: Asked,
         queries: &[i16],
     ) -> Result<Vec<Pair>, NoMemory>
-        requires ground { IsGround R.collection self.now }
+        requires indexed { AreIndexed R.collection self.now }
         requires whole { AreWhole (R.collection self.now.rows.now).points queries.now }
         requires asked { CanAsk asked }
         ensures { let c = R.collection self.now.rows.now in

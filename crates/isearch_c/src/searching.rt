@@ -6,7 +6,7 @@ ghost use Rattle.isearch_c.specs.Found.{Hold, HoldFirst, all_nearest};
 ghost use Rattle.isearch_c.specs.Kept.{near_in, searched};
 ghost use Rattle.isearch_c.specs.Statuses.{EndsBy, code, ended};
 
-use crate::answers::{Ground, count_fits, places_fit, queries_fit, write};
+use crate::answers::{IndexedRows, count_fits, places_fit, queries_fit, write};
 use crate::held::Searchable;
 use crate::slot::IsearchIndex;
 use crate::status::Status;
@@ -150,12 +150,12 @@ fn nearest(
     if !places_fit(count, k, places.0, places.1) {
         return Err(Status::WrongPlaces);
     }
-    let ground = Ground {
+    let indexed = IndexedRows {
         rows: &searchable.rows,
         layout: &searchable.settings.layout,
         index: &searchable.index,
     };
-    match ground.nearest_to_all(alloc, k, queries) {
+    match indexed.nearest_to_all(alloc, k, queries) {
         Ok(pairs) => Ok(pairs),
         Err(NoMemory) => Err(Status::NoMemory),
     }

@@ -7,7 +7,7 @@ ghost use Rattle.isearch_c.specs.Asking.{AreWhole, CanAsk};
 ghost use Rattle.isearch_c.specs.Found.{Hold, all_apart, answers, queries_in};
 ghost use Rattle.isearch_c.specs.Statuses.{EndsBy};
 
-use crate::answers::{Asked, Ground, places_fit, queries_fit, write};
+use crate::answers::{Asked, IndexedRows, places_fit, queries_fit, write};
 use crate::settings::IsearchSettings;
 use crate::status::Status;
 use outside::NoMemory;
@@ -103,10 +103,10 @@ fn found(
     let rows = Windows::new(series, settings.length, 1);
     let settings = settings.settings();
     let index = build_alone(alloc, &rows, &settings)?;
-    let ground = Ground {
+    let indexed = IndexedRows {
         rows: &rows,
         layout: &settings.layout,
         index: &index,
     };
-    ground.answers(alloc, asked, queries)
+    indexed.answers(alloc, asked, queries)
 }

@@ -4,7 +4,7 @@ ghost use Rattle.series_core.specs.Answer.{within};
 ghost use Rattle.subtree_build.specs.Fits.{Fits};
 
 use crate::team::{begin, draw_alone, draw_together, end};
-use crate::walk::Search;
+use crate::walk::RadiusSearch;
 use isax_word::Layout;
 use lower_bound::QueryView;
 use mean_bound::MeanView;
@@ -38,7 +38,7 @@ pub fn within<T: Threads + Sync, R: Rows + Sync, G: Gate + Sync>(
 {
     let view = QueryView::new(layout, query);
     let means = MeanView::new(&layout.cuts, query);
-    let search = Search::new(rows, index, &view, &means, query, radius, workers);
+    let search = RadiusSearch::new(rows, index, &view, &means, query, radius, workers);
     let (claims, mut team) = begin(alloc, &search, workers)?;
     draw_together(rt, alloc, &search, &claims, gate, &mut team);
     end(alloc, &search, claims, team)
@@ -60,7 +60,7 @@ pub fn within_alone<R: Rows>(
 {
     let view = QueryView::new(layout, query);
     let means = MeanView::new(&layout.cuts, query);
-    let search = Search::new(rows, index, &view, &means, query, radius, 1);
+    let search = RadiusSearch::new(rows, index, &view, &means, query, radius, 1);
     let (claims, mut team) = begin(alloc, &search, 1)?;
     draw_alone(alloc, &search, &claims, &mut team);
     end(alloc, &search, claims, team)

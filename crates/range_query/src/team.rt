@@ -7,7 +7,7 @@ ghost use Rattle.range_query.specs.Near.{group_count, near_group};
 ghost use Rattle.series_core.specs.Answer.{within};
 
 use crate::tuning::MOST_ROOTS_A_GROUP;
-use crate::walk::Search;
+use crate::walk::RadiusSearch;
 use claim_word::Claims;
 use outside::{Gate, NoGate, NoMemory};
 use search_limits::MOST_WORKERS;
@@ -18,7 +18,7 @@ use worker_team::{TeamWorker, dismiss, for_each_mut, hire, joined};
 
 /// Finds the pairs within the radius below the root children of a group.
 fn search_group<R: Rows>(
-    search: &Search<'_, R>,
+    search: &RadiusSearch<'_, R>,
     group: u64,
     found: &mut Vec<Pair>,
 ) -> Result<(), NoMemory>
@@ -40,7 +40,7 @@ fn search_group<R: Rows>(
 /// suffice, it stops and keeps nothing.
 fn draw_all<R: Rows, G: Gate>(
     alloc: Global,
-    search: &Search<'_, R>,
+    search: &RadiusSearch<'_, R>,
     claims: &Claims,
     gate: &G,
     worker: &mut TeamWorker<Vec<Pair>>,
@@ -71,7 +71,7 @@ fn draw_all<R: Rows, G: Gate>(
 pub(crate) fn draw_together<T: Threads + Sync, R: Rows + Sync, G: Gate + Sync>(
     rt: &T,
     alloc: Global,
-    search: &Search<'_, R>,
+    search: &RadiusSearch<'_, R>,
     claims: &Claims,
     gate: &G,
     team: &mut Vec<TeamWorker<Vec<Pair>>>,
@@ -95,7 +95,7 @@ pub(crate) fn draw_together<T: Threads + Sync, R: Rows + Sync, G: Gate + Sync>(
 /// Lets a worker alone draw, in this thread.
 pub(crate) fn draw_alone<R: Rows>(
     alloc: Global,
-    search: &Search<'_, R>,
+    search: &RadiusSearch<'_, R>,
     claims: &Claims,
     team: &mut Vec<TeamWorker<Vec<Pair>>>,
 )
@@ -114,7 +114,7 @@ pub(crate) fn draw_alone<R: Rows>(
 /// The counter over the groups of root children, and a team whose workers are to draw them.
 pub(crate) fn begin<R: Rows>(
     alloc: Global,
-    search: &Search<'_, R>,
+    search: &RadiusSearch<'_, R>,
     workers: u32,
 ) -> Result<(Claims, Vec<TeamWorker<Vec<Pair>>>), NoMemory>
     requires workers { (1 ≤ workers) × (workers ≤ MOST_WORKERS) }
@@ -143,7 +143,7 @@ fn groups(roots: u32, size: u32) -> u64
 /// Ends the drawing: what all workers found, in order, is all that is near.
 pub(crate) fn end<R: Rows>(
     alloc: Global,
-    search: &Search<'_, R>,
+    search: &RadiusSearch<'_, R>,
     claims: Claims,
     team: Vec<TeamWorker<Vec<Pair>>>,
 ) -> Result<Vec<Pair>, NoMemory>

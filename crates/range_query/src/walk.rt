@@ -23,7 +23,7 @@ use subtree_build::Index;
 /// One query over one index: all pairs with a distance of at most the radius are sought, by workers that take `size` root
 /// children at a time.
 #[derive(Drop)]
-pub(crate) struct Search<'a, R> {
+pub(crate) struct RadiusSearch<'a, R> {
     pub rows: &'a R,
     pub index: &'a Index,
     pub view: &'a QueryView,
@@ -65,7 +65,7 @@ fn search_law<R: Rows>(rows: &R, index: &Index, view: &QueryView, query: &[i16],
     values_fit(query);
 }
 
-impl<'a, R: Rows> Search<'a, R> {
+impl<'a, R: Rows> RadiusSearch<'a, R> {
     /// The search for all pairs within a radius of a query that is seen so, by so many workers.
     pub fn new(
         rows: &'a R,
@@ -75,7 +75,7 @@ impl<'a, R: Rows> Search<'a, R> {
         query: &'a [i16],
         radius: u64,
         workers: u32,
-    ) -> Search<'a, R>
+    ) -> RadiusSearch<'a, R>
         requires fits { Fits (R.collection rows.now) view.now.layout index.now }
         requires length { (R.collection rows.now).points ≡ view.now.layout.cuts.row_length }
         requires query { length query.now ≡ view.now.layout.cuts.row_length }
@@ -87,7 +87,7 @@ impl<'a, R: Rows> Search<'a, R> {
         ensures size { (1 ≤ result.size) × (result.size ≤ MOST_ROOTS_A_GROUP) }
     {
         search_law(rows, index, view, query, radius);
-        Search {
+        RadiusSearch {
             rows,
             index,
             view,

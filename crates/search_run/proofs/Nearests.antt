@@ -10,12 +10,12 @@ use Rattle.series_file.specs.declared.error.Loaded.{Loaded}
 use Rattle.subtree_build.specs.declared.settings.Settings.{Settings}
 use Rattle.search_task.specs.Questions.{CanBeSearched, Question}
 use Rattle.certificate.specs.Printed.{IsCertificate}
-use Rattle.search_run.specs.Finding.{IsGround}
+use Rattle.search_run.specs.Finding.{IsSearchBase}
 use Rattle.search_run.specs.Nearests.{IsCertifiedPiece, question_of}
 use Rattle.search_run.specs.Texts.{IsAnswerPiece, query_text}
 use Rattle.search_run.proofs.Certifying.{certificate_exists}
 use Rattle.search_run.proofs.Searching.{HasPieces}
-use Rattle.search_run.specs.declared.commands.search.Ground.{Ground}
+use Rattle.search_run.specs.declared.commands.search.SearchBase.{SearchBase}
 
 -- there is a piece of whatever is found
 pub answers_exist : (o : Options) (found : Loaded → List ℤ → List Pair)
@@ -23,12 +23,12 @@ pub answers_exist : (o : Options) (found : Loaded → List ℤ → List Pair)
 answers_exist o found base over sound i q asked = (query_text base.series.labels i (found base.series q), refl)
 
 -- the question by the settings of a tree
-abbrev pub asked_by : Ground → Options → Settings → List ℤ → Question
+abbrev pub asked_by : SearchBase → Options → Settings → List ℤ → Question
 asked_by base o settings q =
     record { collection = base.series.rows; query = q; k = o.k; layout = settings.layout }
 
 -- the tree can be searched for it
-pub can_be_searched : (o : Options) → OptionsKeepLimits o → (base : Ground) → IsGround o base
+pub can_be_searched : (o : Options) → OptionsKeepLimits o → (base : SearchBase) → IsSearchBase o base
     → IsCollection base.series.rows → (q : List ℤ) → IsSeries base.series.rows.points q
     → CanBeSearched (asked_by base o base.tree.settings q) base.tree.index
 can_be_searched o limits base over sound q asked = record {
@@ -46,7 +46,7 @@ can_be_searched o limits base over sound q asked = record {
 }
 
 -- what certifies by the settings of the tree certifies by those of the options
-pub by_options : (o : Options) (base : Ground) → IsGround o base → (q : List ℤ) (lines : List ℕ)
+pub by_options : (o : Options) (base : SearchBase) → IsSearchBase o base → (q : List ℤ) (lines : List ℕ)
     → IsCertificate (asked_by base o base.tree.settings q) base.tree.settings.leaf_size o.queues lines
     → IsCertificate (question_of base.series o q) o.leaf o.queues lines
 by_options o base over q lines =

@@ -15,7 +15,7 @@ use Rattle.subtree_build.specs.Index.{IsIndex}
 use Rattle.search_run.specs.Commands.{pieces_plan, pieces_rest}
 use Rattle.std.specs.Io.KnownBytes.{append_known}
 use Rattle.search_run.specs.Ends.{Concludes, WroteNothing}
-use Rattle.search_run.specs.Finding.{EndsMaking, IsBuiltOf, IsGround, IsMadeOver, IsTreeFor, begun_plan, made_plan}
+use Rattle.search_run.specs.Finding.{EndsMaking, IsBuiltOf, IsSearchBase, IsMadeOver, IsTreeFor, begun_plan, made_plan}
 use Rattle.search_run.specs.Layouts.{settings_of}
 use Rattle.search_run.specs.Loads.{form_of}
 use Rattle.search_run.specs.Pairs.{Fit, files_plan}
@@ -27,19 +27,19 @@ use Rattle.search_run.proofs.Both.{files_refused}
 use Rattle.search_run.proofs.Concluding.{concludes_map, refusal_concludes}
 use Rattle.search_run.proofs.Pieces.{text_finish, text_map}
 use Rattle.search_run.proofs.Stops.{by_stop}
-use Rattle.search_run.specs.declared.commands.search.Ground.{Ground}
+use Rattle.search_run.specs.declared.commands.search.SearchBase.{SearchBase}
 use Rattle.search_run.specs.declared.status.Status.{Status}
 use Rattle.search_run.specs.declared.status.Status.TheVariants.{Done}
 
 -- a tree that was built of the series is one that a search under these options goes over
-pub is_ground : (o : Options) (base : Ground) → IsTreeFor base.series.rows base.tree → IsBuiltOf base.series.rows base.tree
+pub is_search_base : (o : Options) (base : SearchBase) → IsTreeFor base.series.rows base.tree → IsBuiltOf base.series.rows base.tree
     → base.tree.settings ≡ settings_of base.series.rows.points o → IsIndex base.tree.index
-    → IsDivision base.tree.settings.layout.cuts → IsGround o base
-is_ground o base fits built settings index cuts =
+    → IsDivision base.tree.settings.layout.cuts → IsSearchBase o base
+is_search_base o base fits built settings index cuts =
     record { searched = fits; built = built; settings = settings; index = index; cuts = cuts }
 
 -- a search whose files were refused ends so
-pub search_refused : (Gives : Call Ground) (reading : Reading) (writing : Writing) (series queries : List ℕ)
+pub search_refused : (Gives : Call SearchBase) (reading : Reading) (writing : Writing) (series queries : List ℕ)
     (o : Options) (status : Status) → Refuses reading (files_plan series queries o) status → WroteNothing writing
     → EndsMaking Gives reading writing series queries o status
 search_refused Gives reading writing series queries o status refused nothing = record {
@@ -49,8 +49,8 @@ search_refused Gives reading writing series queries o status refused nothing = r
 }
 
 -- a search of these files, whose pieces were not written to the end, ends so
-pub search_stopped : (Gives : Call Ground) (reading : Reading) (writing : Writing) (series queries : List ℕ)
-    (o : Options) (base : Ground) → IsGround o base → (y : Loaded) → Fit reading.held series queries o base.series y
+pub search_stopped : (Gives : Call SearchBase) (reading : Reading) (writing : Writing) (series queries : List ℕ)
+    (o : Options) (base : SearchBase) → IsSearchBase o base → (y : Loaded) → Fit reading.held series queries o base.series y
     → (stop : Status) → Stops (IsMade Gives base) y.rows.series writing stop
     → EndsMaking Gives reading writing series queries o stop
 search_stopped Gives reading writing series queries o base over y fit =
@@ -64,8 +64,8 @@ search_stopped Gives reading writing series queries o base over y fit =
         (base.series, fit.hold.first, (y, fit.hold.second, (fit.lengths, (fit.segments, (n, (base, over, refl, is))))))
 
 -- a search of these files, whose pieces were all written, is done
-pub search_done : (Gives : Call Ground) (reading : Reading) (writing : Writing) (series queries : List ℕ)
-    (o : Options) (base : Ground) → IsGround o base → (y : Loaded) → Fit reading.held series queries o base.series y
+pub search_done : (Gives : Call SearchBase) (reading : Reading) (writing : Writing) (series queries : List ℕ)
+    (o : Options) (base : SearchBase) → IsSearchBase o base → (y : Loaded) → Fit reading.held series queries o base.series y
     → (text : List ℕ) → IsTextOf (IsMade Gives base) y.rows.series text
     → writing.now ≡ append_known writing.before text
     → EndsMaking Gives reading writing series queries o Done
@@ -82,28 +82,28 @@ abbrev pub PieceOver : Type 1
 PieceOver = Loaded → ℕ → List ℤ → List ℕ → Type 0
 
 -- what each call gives is such a piece
-abbrev pub GivesPieces : Call Ground → PieceOver → Type 0
-GivesPieces Gives IsPiece = (at : Bor Ground) (i : ℕ) (q : Bor (List ℤ)) (made : Result (Vec ℕ) NoMemoryLeft)
+abbrev pub GivesPieces : Call SearchBase → PieceOver → Type 0
+GivesPieces Gives IsPiece = (at : Bor SearchBase) (i : ℕ) (q : Bor (List ℤ)) (made : Result (Vec ℕ) NoMemoryLeft)
     → Gives at i q made → IfOk made (λ text. IsPiece at.now.series i q.now text.items)
 
 -- there is such a piece for each query, over whatever is searched
 abbrev pub HasPieces : Options → PieceOver → Type 0
-HasPieces o IsPiece = (base : Ground) → IsGround o base → IsCollection base.series.rows
+HasPieces o IsPiece = (base : SearchBase) → IsSearchBase o base → IsCollection base.series.rows
     → (i : ℕ) (q : List ℤ) → IsSeries base.series.rows.points q → (piece : List ℕ) × IsPiece base.series i q piece
 
 -- a piece that such a call made is one
-piece_has : (Gives : Call Ground) (IsPiece : PieceOver) → GivesPieces Gives IsPiece
-    → (base : Ground) (x : Loaded) → base.series ≡ x → (i : ℕ) (query : List ℤ) (piece : List ℕ)
+piece_has : (Gives : Call SearchBase) (IsPiece : PieceOver) → GivesPieces Gives IsPiece
+    → (base : SearchBase) (x : Loaded) → base.series ≡ x → (i : ℕ) (query : List ℤ) (piece : List ℕ)
     → IsMade Gives base i query piece → IsPiece x i query piece
 piece_has Gives IsPiece each base x over i query piece made =
     subst (λ (p : List ℕ). IsPiece x i query p) made.6
     (subst (λ (q : List ℤ). IsPiece x i q made.2.items) made.5
     (subst (λ (l : Loaded). IsPiece l i made.1.now made.2.items) over
-    (subst (λ (g : Ground). IsPiece g.series i made.1.now made.2.items) made.4
+    (subst (λ (g : SearchBase). IsPiece g.series i made.1.now made.2.items) made.4
     (each made.0 i made.1 (Ok made.2) made.3))))
 
 -- and so has a text that such calls made
-text_has : (Gives : Call Ground) (IsPiece : PieceOver) → GivesPieces Gives IsPiece → (o : Options)
+text_has : (Gives : Call SearchBase) (IsPiece : PieceOver) → GivesPieces Gives IsPiece → (o : Options)
     → (x : Loaded) (queries : List (List ℤ)) (text : List ℕ) → IsMadeOver Gives o x queries text
     → IsTextOf (IsPiece x) queries text
 text_has Gives IsPiece each o x queries text made =
@@ -115,7 +115,7 @@ all_asked : (form : Form) (y : Loaded) (points : ℕ) → HasText form y.rows y.
 all_asked form y points formed same = subst (λ n. All (IsSeries n) y.rows.series) (sym same) formed.sound.each
 
 -- so a search that such calls made ends as one with such pieces
-pub search_concludes : (Gives : Call Ground) (IsPiece : PieceOver)
+pub search_concludes : (Gives : Call SearchBase) (IsPiece : PieceOver)
     (reading : Reading) (writing : Writing) (status : Status) (series queries : List ℕ) (o : Options)
     → EndsMaking Gives reading writing series queries o status → GivesPieces Gives IsPiece → HasPieces o IsPiece
     → Concludes (Writes reading.held (pieces_plan series queries o IsPiece))

@@ -6,7 +6,7 @@ use Rattle.command_words.specs.declared.options.Options.{Options}
 use Rattle.search_run.specs.Ends.{Follows, ended}
 use Rattle.search_run.specs.Plans.{Plan}
 use Rattle.search_run.specs.Traffic.{read_from, wrote_to}
-use Rattle.search_run.specs.declared.input.pair.Search.{Search}
+use Rattle.search_run.specs.declared.input.pair.SearchFiles.{SearchFiles}
 use Rattle.search_run.specs.declared.status.Status.{Status}
 use Rattle.search_run.specs.declared.status.Status.TheVariants.{ReadFault}
 use Rattle.search_run.specs.declared.status.Which.{Which}
@@ -20,5 +20,5 @@ pub record Serves {F S : Type 0} (files : FilesOf F) (sink : SinkOf S) (plan : P
   pub reliable : files.reliable old → (w : Which) → given ≢ Err (ReadFault w)
 
 -- the plan of a search over two files, under its options
-abbrev pub plan_by : (List ℕ → List ℕ → Options → Plan) → Search → Plan
+abbrev pub plan_by : (List ℕ → List ℕ → Options → Plan) → SearchFiles → Plan
 plan_by plan s = plan s.series.now s.queries.now s.options.now

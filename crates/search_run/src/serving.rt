@@ -15,7 +15,7 @@ use crate::commands::verify::answer_verify;
 use crate::commands::windows::answer_windows;
 use crate::crew::Crew;
 use crate::finding::{Asking, locked, sealed};
-use crate::input::pair::Search;
+use crate::input::pair::SearchFiles;
 use crate::status::Status;
 use crate::tree::Tree;
 use command_words::Command;
@@ -100,7 +100,7 @@ fn answer<
             queries,
             options,
         } => {
-            let search = Search {
+            let search = SearchFiles {
                 series,
                 queries,
                 options,
@@ -113,7 +113,7 @@ fn answer<
             radius,
             options,
         } => {
-            let search = Search {
+            let search = SearchFiles {
                 series,
                 queries,
                 options,
@@ -126,7 +126,7 @@ fn answer<
             certificate,
             options,
         } => {
-            let search = Search {
+            let search = SearchFiles {
                 series,
                 queries,
                 options,
@@ -148,7 +148,7 @@ fn answer<
             step,
             options,
         } => {
-            let search = Search {
+            let search = SearchFiles {
                 series,
                 queries,
                 options,

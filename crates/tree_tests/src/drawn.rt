@@ -56,7 +56,7 @@ fn plain_symbols(alloc: Global, table: Table, row: &[i16], w: usize) -> Result<V
 
 /// A node of the plain division: for each segment a prefix and its number of bits, and the numbers of its members.
 #[derive(Drop)]
-struct Part {
+struct PlainNode {
     word: Vec<(u8, u8)>,
     members: Vec<u32>,
 }
@@ -74,7 +74,7 @@ fn is_high(symbols: &[Vec<u8>], number: u32, j: usize, bits: u8) -> bool {
 }
 
 /// The segment in which a part is split: the evenest, of these the one of fewest bits, of these the first.
-fn plain_segment(part: &Part, symbols: &[Vec<u8>]) -> Option<usize> {
+fn plain_segment(part: &PlainNode, symbols: &[Vec<u8>]) -> Option<usize> {
     let mut best: Option<(u64, u8, usize)> = None;
     for (j, (_, bits)) in part.word.iter().enumerate() {
         if *bits >= 8 {
@@ -103,11 +103,11 @@ fn plain_segment(part: &Part, symbols: &[Vec<u8>]) -> Option<usize> {
 /// One half of a part that is split in segment `j`.
 fn plain_child(
     alloc: Global,
-    part: &Part,
+    part: &PlainNode,
     symbols: &[Vec<u8>],
     j: usize,
     high: bool,
-) -> Result<Part, Fail> {
+) -> Result<PlainNode, Fail> {
     let mut word = Vec::new(alloc);
     let mut split = 8u8;
     for (i, (prefix, bits)) in part.word.iter().enumerate() {
@@ -125,7 +125,7 @@ fn plain_child(
             members.push(*number)?;
         }
     }
-    Ok(Part { word, members })
+    Ok(PlainNode { word, members })
 }
 
 /// The number that the first bits of some symbols make.
@@ -154,7 +154,7 @@ fn next_root(symbols: &[Vec<u8>], least: u32) -> Option<u32> {
 }
 
 /// The part of a root number: its one-bit word, and the series whose first bits make that number.
-fn root_part(alloc: Global, symbols: &[Vec<u8>], root: u32, w: u32) -> Result<Part, Fail> {
+fn root_part(alloc: Global, symbols: &[Vec<u8>], root: u32, w: u32) -> Result<PlainNode, Fail> {
     let mut word = Vec::new(alloc);
     for j in 0..w {
         let bit = root.wrapping_shr(w.wrapping_sub(1).wrapping_sub(j)) & 1;
@@ -166,14 +166,14 @@ fn root_part(alloc: Global, symbols: &[Vec<u8>], root: u32, w: u32) -> Result<Pa
             members.push(u32::try_from(number).unwrap_or(0))?;
         }
     }
-    Ok(Part { word, members })
+    Ok(PlainNode { word, members })
 }
 
 /// Compares the leaves below a part with those of the index from number `l` on, and tells the number behind them.
 fn compare_below(
     alloc: Global,
     index: &Index,
-    root: Part,
+    root: PlainNode,
     symbols: &[Vec<u8>],
     leaf_size: usize,
     l: u32,

@@ -5,7 +5,7 @@ ghost use Rattle.std.specs.Prelude.{◌≡◌, ◌≤◌, true, false, length, I
 ghost use Rattle.command_words.specs.Limits.{OptionsKeepLimits};
 ghost use Rattle.search_run.specs.Batches.{IsTeam};
 ghost use Rattle.search_run.specs.Commands.{indexed_plan, nearest_plan, pieces_by};
-ghost use Rattle.search_run.specs.Finding.{IsGround, IsTreeFor};
+ghost use Rattle.search_run.specs.Finding.{IsSearchBase, IsTreeFor};
 ghost use Rattle.search_run.specs.Nearests.{IsCertifiedPiece, IsNearestPiece};
 ghost use Rattle.search_run.specs.Serves.{Serves, plan_by};
 ghost use Rattle.search_run.specs.Stops.{Stops};
@@ -14,12 +14,12 @@ ghost use Rattle.search_run.specs.Traffic.{wrote_to};
 
 use crate::answers::{Telling, write_answers};
 use crate::batch::Batch;
-use crate::commands::search::{Ground, answer_search};
+use crate::commands::search::{SearchBase, answer_search};
 use crate::crew::Crew;
 use crate::finding::{Asking, asking_of};
 use crate::growing::tree_of;
 use crate::input::index_file::load_index;
-use crate::input::pair::{Both, Search, read_alike, read_both};
+use crate::input::pair::{Both, SearchFiles, read_alike, read_both};
 use crate::output::text::query_text;
 use crate::status::Status;
 use crate::tree::Tree;
@@ -39,7 +39,7 @@ struct Nearest<'a, T, G, P> {
     // How all workers search one query for a certificate.
     team: &'a P,
     // The two files and the options.
-    search: &'a Search<'a>,
+    search: &'a SearchFiles<'a>,
 }
 
 /// Answers `nearest`: a search whose pieces have for each query its k nearest, and their certificate where it is asked for.
@@ -52,7 +52,7 @@ pub fn answer_nearest<
 >(
     crew: &Crew<'_, T, G>,
     team: &P,
-    search: &Search<'_>,
+    search: &SearchFiles<'_>,
     files: &mut F,
     out: &mut S,
 ) -> Result<(), Status>
@@ -134,8 +134,8 @@ impl<
         let alloc = self.crew.alloc;
         let team = self.team;
         let options = self.search.options;
-        let piece_of = |base: &Ground, i: u32, query: &[i16]| -> Result<Vec<u8>, NoMemory>
-            requires { IsTeam (λ rows. rows) (P.pre team.now) (P.post team.now) × IsGround options.now base.now × OptionsKeepLimits options.now
+        let piece_of = |base: &SearchBase, i: u32, query: &[i16]| -> Result<Vec<u8>, NoMemory>
+            requires { IsTeam (λ rows. rows) (P.pre team.now) (P.post team.now) × IsSearchBase options.now base.now × OptionsKeepLimits options.now
                 × (length query.now ≡ base.now.series.rows.points) }
             ensures { IfOk result (λ text. IsCertifiedPiece options.entry.now base.now.series i query.now text.items) }
         { certified_piece(alloc, team, options, base, i, query) };
@@ -148,12 +148,12 @@ fn certified_piece<P: Fn(&Flat, &Tree, &[i16], Asking) -> Result<Outcome, NoMemo
     alloc: Global,
     team: &P,
     options: &Options,
-    base: &Ground,
+    base: &SearchBase,
     i: u32,
     query: &[i16],
 ) -> Result<Vec<u8>, NoMemory>
     requires team { IsTeam (λ rows. rows) (P.pre team.now) (P.post team.now) }
-    requires base { IsGround options.now base.now }
+    requires base { IsSearchBase options.now base.now }
     requires limits { OptionsKeepLimits options.now }
     requires length { length query.now ≡ base.now.series.rows.points }
     ensures { IfOk result (λ text. IsCertifiedPiece options.now base.now.series i query.now text.items) }

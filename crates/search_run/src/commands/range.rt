@@ -9,10 +9,10 @@ ghost use Rattle.search_run.specs.Finding.{IsTreeFor};
 ghost use Rattle.search_run.specs.Serves.{Serves, plan_by};
 ghost use Rattle.search_run.specs.Texts.{query_text};
 
-use crate::commands::search::{Ground, answer_search};
+use crate::commands::search::{SearchBase, answer_search};
 use crate::crew::Crew;
 use crate::finding::near;
-use crate::input::pair::Search;
+use crate::input::pair::SearchFiles;
 use crate::output::text::query_text;
 use crate::status::Status;
 use outside::{Files, Gate, NoMemory, Sink};
@@ -21,7 +21,7 @@ use std::thread::Threads;
 /// Answers `range`: a search whose pieces have for each query all series within the radius.
 pub fn answer_range<T: Threads + Sync, F: Files, S: Sink, G: Gate + Sync>(
     crew: &Crew<'_, T, G>,
-    search: &Search<'_>,
+    search: &SearchFiles<'_>,
     radius: u64,
     files: &mut F,
     out: &mut S,
@@ -31,7 +31,7 @@ pub fn answer_range<T: Threads + Sync, F: Files, S: Sink, G: Gate + Sync>(
         files.old files.new out.old out.new result }
 {
     let options = search.options;
-    let piece_of = |base: &Ground, i: u32, query: &[i16]| -> Result<Vec<u8>, NoMemory>
+    let piece_of = |base: &SearchBase, i: u32, query: &[i16]| -> Result<Vec<u8>, NoMemory>
         requires { IsSync T.row × IsSync G.row × IsTreeFor base.now.series.rows base.now.tree
             × (length query.now ≡ base.now.series.rows.points) × OptionsKeepLimits options.now }
         ensures { IfOk result (λ text. text.items

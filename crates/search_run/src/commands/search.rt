@@ -10,7 +10,7 @@ ghost use Rattle.search_run.specs.declared.status.Which.{Which};
 
 use crate::crew::Crew;
 use crate::growing::tree_of;
-use crate::input::pair::{Search, read_both};
+use crate::input::pair::{SearchFiles, read_both};
 use crate::output::pieces::write_pieces;
 use crate::status::{Status, Which};
 use crate::tree::Tree;
@@ -20,14 +20,14 @@ use std::thread::Threads;
 
 /// What a search goes over.
 #[derive(Drop)]
-pub struct Ground {
+pub struct SearchBase {
     /// The series, with their labels.
     pub series: Loaded,
     /// Their tree.
     pub tree: Tree,
 }
 
-ghost use Rattle.search_run.specs.Finding.{EndsMaking, IsGround};
+ghost use Rattle.search_run.specs.Finding.{EndsMaking, IsSearchBase};
 
 /// Reads both files, builds the tree, and writes for each query the piece that `piece_of` makes of it.
 pub fn answer_search<
@@ -35,16 +35,16 @@ pub fn answer_search<
     F: Files,
     S: Sink,
     G: Gate + Sync,
-    P: Fn(&Ground, u32, &[i16]) -> Result<Vec<u8>, NoMemory>,
+    P: Fn(&SearchBase, u32, &[i16]) -> Result<Vec<u8>, NoMemory>,
 >(
     crew: &Crew<'_, T, G>,
-    search: &Search<'_>,
+    search: &SearchFiles<'_>,
     piece_of: &P,
     files: &mut F,
     out: &mut S,
 ) -> Result<(), Status>
     requires limits { OptionsKeepLimits search.now.options.now }
-    requires callable { (base : _) (i : ℕ) (q : _) → IsGround search.now.options.now base.now
+    requires callable { (base : _) (i : ℕ) (q : _) → IsSearchBase search.now.options.now base.now
         → length q.now ≡ base.now.series.rows.points → P.pre piece_of.now base i q }
     ensures answers { EndsMaking (P.post piece_of.now)
         (read_from F.Files files.old files.new)
@@ -55,7 +55,7 @@ pub fn answer_search<
 {
     let both = read_both(crew.alloc, files, search)?;
     let tree = tree_of(crew, &both.series.rows, search.options)?;
-    let base = Ground {
+    let base = SearchBase {
         series: both.series,
         tree,
     };

@@ -6,7 +6,7 @@ ghost use Rattle.search_run.specs.Commands.{verify_plan};
 ghost use Rattle.search_run.specs.Serves.{Serves, plan_by};
 
 use crate::input::certificate_file::check_certificate;
-use crate::input::pair::{Search, read_both};
+use crate::input::pair::{SearchFiles, read_both};
 use crate::status::Status;
 use command_words::Text;
 use outside::{Files, Sink, write_whole};
@@ -15,7 +15,7 @@ use std::alloc::Global;
 /// Answers `verify`: reads both series files and the certificate, checks it, and writes that it holds.
 pub fn answer_verify<F: Files, S: Sink>(
     alloc: Global,
-    search: &Search<'_>,
+    search: &SearchFiles<'_>,
     certificate: &Text,
     files: &mut F,
     out: &mut S,

@@ -20,7 +20,7 @@ use crate::crew::Crew;
 use crate::growing::tree_of;
 use crate::input::file::{form_of, load};
 use crate::input::lengths::check_segments;
-use crate::input::pair::{Both, Search};
+use crate::input::pair::{Both, SearchFiles};
 use crate::status::{Status, Which};
 use outside::{Files, Gate, Sink};
 use series_core::Rows;
@@ -33,7 +33,7 @@ use window_rows::Windows;
 /// which begin a whole number of `step` values from the front.
 pub fn answer_windows<T: Threads + Sync, F: Files, S: Sink, G: Gate + Sync>(
     crew: &Crew<'_, T, G>,
-    search: &Search<'_>,
+    search: &SearchFiles<'_>,
     step: u32,
     files: &mut F,
     out: &mut S,
@@ -57,7 +57,11 @@ pub fn answer_windows<T: Threads + Sync, F: Files, S: Sink, G: Gate + Sync>(
 
 // Reads the file of the long series, whose values stand alone, and then that of the queries, and compares the length of a
 // window, which is that of the queries, with the asked segments.
-fn read_long<F: Files>(alloc: Global, files: &mut F, search: &Search<'_>) -> Result<Both, Status>
+fn read_long<F: Files>(
+    alloc: Global,
+    files: &mut F,
+    search: &SearchFiles<'_>,
+) -> Result<Both, Status>
     requires { IsForm (form_of search.now.options.now.raw) }
     ensures found { IfOk result (λ both. FitLong (F.held files.old) search.now.series.now search.now.queries.now
         search.now.options.now both.series both.queries) }

@@ -20,7 +20,7 @@ use std::alloc::Global;
 
 /// The names of the two files of a search, and its options.
 #[derive(Drop)]
-pub struct Search<'a> {
+pub struct SearchFiles<'a> {
     /// The file of the series.
     pub series: &'a Text,
     /// The file of the queries.
@@ -43,7 +43,7 @@ pub struct Both {
 pub fn read_both<F: Files>(
     alloc: Global,
     files: &mut F,
-    search: &Search<'_>,
+    search: &SearchFiles<'_>,
 ) -> Result<Both, Status>
     requires { IsForm (form_of search.now.options.now.raw) }
     ensures found { IfOk result (λ both. Fit (F.held files.old) search.now.series.now search.now.queries.now
@@ -63,7 +63,7 @@ pub fn read_both<F: Files>(
 pub fn read_alike<F: Files>(
     alloc: Global,
     files: &mut F,
-    search: &Search<'_>,
+    search: &SearchFiles<'_>,
 ) -> Result<Both, Status>
     requires { IsForm (form_of search.now.options.now.raw) }
     ensures found { IfOk result (λ both. Alike (F.held files.old) search.now.series.now search.now.queries.now

@@ -48,9 +48,9 @@ fn values_of(alloc: Global, kind: Kind, count: u32) -> Result<Vec<i16>, NoMemory
     Ok(values)
 }
 
-/// Who searches.
+/// How many series are sought, in a tree of what leaves, by what tells members apart, by how many workers, and with tables or without.
 #[derive(Clone, Copy, Debug)]
-struct Search {
+struct SearchCase {
     k: u32,
     leaf: u32,
     by: Option<ApartBy>,
@@ -63,9 +63,9 @@ fn agree<T: Threads + Sync>(
     rt: &T,
     alloc: Global,
     values: Vec<i16>,
-    search: Search,
+    search: SearchCase,
 ) -> Result<bool, NoMemory> {
-    let Search {
+    let SearchCase {
         k,
         leaf,
         by,
@@ -119,7 +119,7 @@ fn claim<T: Threads + Sync + Abort>(
     alloc: Global,
     kind: Kind,
     count: u32,
-    search: Search,
+    search: SearchCase,
 ) -> Result<(), Fail> {
     let same = agree(rt, alloc, values_of(alloc, kind, count)?, search)?;
     assert_same!(rt; same, true, "{count} series, {kind:?}, {search:?}");
@@ -136,7 +136,7 @@ fn claim_each_way<T: Threads + Sync + Abort>(
 ) -> Result<(), Fail> {
     for workers in WORKERS {
         for by in WAYS {
-            let search = Search {
+            let search = SearchCase {
                 k,
                 leaf: 5,
                 by,
@@ -181,7 +181,7 @@ const SHARED: [(u32, u32, u32); 11] = [
 fn what_is_great_enough_is_shared(rt: HostRuntime) -> Result<(), Fail> {
     for kind in KINDS {
         for (count, k, workers) in SHARED {
-            let search = Search {
+            let search = SearchCase {
                 k,
                 leaf: 100,
                 by: None,

@@ -4,8 +4,8 @@ use Rattle.nearest_answer.proofs.Fitting.{Fits-had}
 use Rattle.isearch_c.proofs.Filling.{found_fill}
 use Rattle.isearch_c.proofs.searching.nearest.Goals as goal
 
-pub nearest_to_all-requires-clause-ground : goal.nearest_to_all-requires-clause-ground
-nearest_to_all-requires-clause-ground c =
+pub nearest_to_all-requires-clause-indexed : goal.nearest_to_all-requires-clause-indexed
+nearest_to_all-requires-clause-indexed c =
     let kept = c.args.searchable.now in
     record { fits = Fits-had kept.rows kept.settings.layout kept.index kept.fits; length = kept.points }
 

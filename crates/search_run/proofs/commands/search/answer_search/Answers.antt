@@ -1,7 +1,7 @@
 use Rattle.std.proofs.Common.{refl}
 use Rattle.std.proofs.lemmas.Result.{err_from_is_err_and}
-use Rattle.search_run.specs.declared.commands.search.Ground.{Ground}
-use Rattle.search_run.proofs.Searching.{is_ground, search_done, search_refused, search_stopped}
+use Rattle.search_run.specs.declared.commands.search.SearchBase.{SearchBase}
+use Rattle.search_run.proofs.Searching.{is_search_base, search_done, search_refused, search_stopped}
 use Rattle.search_run.proofs.Stopped.{stop_reads_nothing}
 use Rattle.search_run.proofs.commands.search.answer_search.Goals as goal
 
@@ -12,9 +12,9 @@ returns-in_err-both-clause-answers g c =
 
 pub returns-in_err-write_pieces-clause-answers : goal.returns-in_err-write_pieces-clause-answers
 returns-in_err-write_pieces-clause-answers g c =
-    let base : Ground = record { series = c.in_ok-both.both.series; tree = c.in_ok-tree.tree } in
+    let base : SearchBase = record { series = c.in_ok-both.both.series; tree = c.in_ok-tree.tree } in
     let made = c.in_ok-tree.ensures in
-    let over = is_ground c.args.search.now.options.now base made.fits made.built made.settings made.index made.cuts in
+    let over = is_search_base c.args.search.now.options.now base made.fits made.built made.settings made.index made.cuts in
     let told = err_from_is_err_and c.from_residual-in_err-write_pieces.result
     c.from_residual-in_err-write_pieces.ensures.1 in
     rw (told.1, told.2)
@@ -23,9 +23,9 @@ returns-in_err-write_pieces-clause-answers g c =
 
 pub returns-clause-answers : goal.returns-clause-answers
 returns-clause-answers g c =
-    let base : Ground = record { series = c.in_ok-both.both.series; tree = c.in_ok-tree.tree } in
+    let base : SearchBase = record { series = c.in_ok-both.both.series; tree = c.in_ok-tree.tree } in
     let made = c.in_ok-tree.ensures in
-    let over = is_ground c.args.search.now.options.now base made.fits made.built made.settings made.index made.cuts in
+    let over = is_search_base c.args.search.now.options.now base made.fits made.built made.settings made.index made.cuts in
     let wrote = c.in_ok-write_pieces.ensures.ok in
     search_done _ _ _ _ _ _ base over c.in_ok-both.both.queries c.in_ok-both.ensures.found wrote.0 wrote.1 wrote.2
 
