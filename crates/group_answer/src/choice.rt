@@ -3,11 +3,11 @@
 ghost use Rattle.std.specs.Prelude.{◌<◌, ◌≤◌, IfOk, IfSome, IsSome, length};
 ghost use Rattle.search_task.specs.Questions.{last_of, leaf_series};
 
-use crate::first_limit::first_limit;
 use crate::tuning::{
     CLOSER_MEMBERS, CLOSER_PART, FIRST_MEMBERS, LEAST_VALUES, MOST_RANKS, SAMPLE_LEAVES,
     SAMPLE_MEMBERS, SHARE_BY_TREE, SHARE_OF, SHARE_TO_SWEEP,
 };
+use nearest_answer::first_limit;
 use outside::NoMemory;
 use row_codes::CodeLimit;
 use search_task::Search;

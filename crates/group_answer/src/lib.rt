@@ -6,7 +6,6 @@
 mod asked;
 mod choice;
 mod chosen;
-mod first_limit;
 mod four;
 mod in_order;
 mod sweep;

@@ -11,8 +11,8 @@ use series_core::{KBest, NONE, Rows};
 use std::alloc::Global;
 
 /// A limit that is not below the last distance: that of the k-th pair of the first leaf's members, and where these are fewer
-/// than k or than `least`, of those of the next leaves too; `NONE` where k is above 256.
-pub(crate) fn first_limit<R: Rows>(
+/// than k or than `least`, of those of the next leaves too; `NONE` where k is above 256 or all members are fewer than k.
+pub fn first_limit<R: Rows>(
     alloc: Global,
     search: &Search<'_, R>,
     least: usize,
