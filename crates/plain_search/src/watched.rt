@@ -5,7 +5,7 @@ use series_core::{Flat, Rows};
 use std::sync::atomic::{AtomicU64, Ordering};
 
 /// How often one hold looks for the other.
-const LOOKS: u64 = 100_000_000_000;
+const LOOKS: u64 = 20_000_000_000;
 
 /// Rows that are watched: how often any is asked for, and how often each of the first three.
 #[derive(Drop)]

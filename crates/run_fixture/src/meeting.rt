@@ -42,7 +42,7 @@ impl Gate for Meeting {
             (second, first)
         };
         let count = mine.fetch_add(1, Ordering::SeqCst).wrapping_add(1);
-        for _ in 0..1_000_000_000u32 {
+        for _ in 0..20_000_000_000u64 {
             if other.load(Ordering::SeqCst) >= count {
                 return;
             }

@@ -13,7 +13,7 @@ use std::thread::Threads;
 use subtree_build::{Index, Settings, build, build_alone};
 
 /// How often a thread looks for another before it gives up.
-const LOOKS: u64 = 100_000_000_000;
+const LOOKS: u64 = 20_000_000_000;
 
 /// A tree that is known: its name, its collection, its settings, its leaves and where a query starts.
 #[derive(Drop)]

@@ -9,7 +9,7 @@ use std::sync::atomic::{AtomicU64, Ordering};
 use std::test::*;
 
 /// How often one hold looks for the other worker.
-const LOOKS: u64 = 100_000_000_000;
+const LOOKS: u64 = 20_000_000_000;
 
 /// A gate of two workers that counts the turns of each, and holds each at its first turn until the other has come.
 #[derive(Drop)]

@@ -12,7 +12,7 @@ use std::sync::atomic::{AtomicU64, Ordering};
 use std::test::*;
 
 /// How often a held worker looks for the other.
-const LOOKS: u64 = 100_000_000_000;
+const LOOKS: u64 = 20_000_000_000;
 
 /// A worker is held before this turn of its own until the other has come to that turn.
 #[derive(Clone, Copy, Debug)]
