@@ -30,3 +30,6 @@ pub fn queries_of_draw(share: u32) -> u32
         MOST_QUERIES_OF_DRAW
     }
 }
+
+/// How many searches pay for the means and codes beside a tree, at least. To make them takes as long as to build the tree.
+pub const LEAST_SEARCHES_FOR_TABLES: u32 = 8;

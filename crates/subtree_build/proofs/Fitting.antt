@@ -1,5 +1,5 @@
 -- An index that is the tree of a collection fits it (`tree_fits`), as does one whose tree fits, with the means and the codes of its
--- members' series beside it (`with_tables_fits`) or with none (`bare_fits`, `tree_alone_fits`).
+-- members' series beside it (`with_tables_fits`) or with none (`bare_fits`, `tree_alone_fits`, `built_alone_fits`).
 use Rattle.std.proofs.Common.{◌≡◌, ℕ, ◌+◌, ◌^◌, List, [], ◌∷◌, ◌++◌, length, map, refl, sym, ap, ◌∙◌, subst, All}
 use Rattle.std.specs.Prelude.{IfSome, None, Option, Some, flat_map}
 use Rattle.std.proofs.lemmas.List.Elements.{All-nil, All-append, All-filter}
@@ -166,7 +166,12 @@ tree_alone_fits ix c layout fits =
     bare_fits c layout (record ix { means = None; codes = None })
     (record { segments = fits.segments; each_once = fits.each_once; own_words = fits.own_words; contained = fits.contained }) refl refl
 
--- an index that is the tree of a collection fits it
+-- an index that is the tree of a collection fits it with nothing beside it
+pub built_alone_fits : (c : Collection) (layout : Layout) (size : ℕ) (ix : IndexParts) → IsDivision layout.cuts
+    → IsTreeOf c layout size ix → ix.means ≡ None → ix.codes ≡ None → Fits c layout ix
+built_alone_fits c layout size ix is tree_is = bare_fits c layout ix (built_fits c layout size ix is tree_is)
+
+-- and with the tables of its members beside it
 pub tree_fits : (c : Collection) (layout : Layout) (size : ℕ) (ix : IndexParts) → IsDivision layout.cuts
     → IsTreeOf c layout size ix → ix.means ≡ Some (map (leaf_means c layout) ix.leaves)
     → ix.codes ≡ Some (map (leaf_codes c) ix.leaves) → Fits c layout ix

@@ -1,5 +1,5 @@
 -- What an index holds, and the facts that every index keeps.
-use Rattle.std.specs.Prelude.{◌≡◌, ℕ, ◌^◌, ◌<◌, ◌≤◌, List, [], length, IsSome, Option, Some, slice_get, slice_index, slice_index_or, true, ◌&&◌, false}
+use Rattle.std.specs.Prelude.{◌≡◌, ℕ, ◌^◌, ◌<◌, ◌≤◌, List, [], length, IsSome, None, Option, Some, slice_get, slice_index, slice_index_or, true, ◌&&◌, false}
 use Rattle.std.specs.List.{All, range_with_len, flat_map}
 use Rattle.std.specs.List.Sorted.{IsStrictlyIncreasing}
 use Rattle.isax_word.specs.declared.word.Part.{Part}
@@ -24,6 +24,11 @@ pub record IndexParts : Type 0 where
 pub record HasTables (ix : IndexParts) : Type 0 where
   pub means : IsSome ix.means
   pub codes : IsSome ix.codes
+
+-- an index with nothing beside its tree
+pub record IsTreeAlone (ix : IndexParts) : Type 0 where
+  pub no_means : ix.means ≡ None
+  pub no_codes : ix.codes ≡ None
 
 -- the leaf that stands past the end
 abbrev pub no_leaf : TreeLeaf

@@ -4,9 +4,9 @@ ghost use Rattle.std.specs.Prelude.{◌≡◌, [], ◌*◌, ◌<◌, ◌≤◌, 
 ghost use Rattle.std.specs.List.{flat_map};
 ghost use Rattle.mean_bound.specs.Boxes.{box_of, box_of_boxes};
 ghost use Rattle.subtree_build.specs.Assembly.{HasMeansOf, IsOfParts, MakeIndex};
-ghost use Rattle.subtree_build.specs.BareTree.{HasSeries, IsBare, IsBareTreeOf, bare_parts};
+ghost use Rattle.subtree_build.specs.BareTree.{HasSeries, IsBare, IsBareTreeOf, IsTreeBuilt, bare_parts};
 ghost use Rattle.subtree_build.specs.Fits.{Fits, FitsByTree, IsTreeOf};
-ghost use Rattle.subtree_build.specs.Index.{HasTables, IsIndex, leaf_at, root_word_at};
+ghost use Rattle.subtree_build.specs.Index.{HasTables, IsIndex, IsTreeAlone, leaf_at, root_word_at};
 ghost use Rattle.subtree_build.specs.Means.{codes_at, means_at};
 ghost use Rattle.subtree_build.specs.Places.{AreTablesOf, IsPlace, IsRange};
 ghost use Rattle.subtree_build.specs.Start.{node_at};
@@ -90,6 +90,23 @@ impl Index {
         // for the fact that the cuts divide a series
         let _segments = settings.layout.cuts.segments();
         Index::of_bare(rows, &settings.layout, bare, tables)
+    }
+
+    /// The index of a tree that was built of the rows, with nothing beside it.
+    pub(crate) fn of_tree_alone<R: Rows>(rows: &R, settings: &Settings, bare: BareTree) -> Index
+        requires { IsTreeBuilt (R.collection rows.now) settings.now bare }
+        ensures tree { IsTreeOf (R.collection rows.now) settings.now.layout settings.now.leaf_size result }
+        ensures fits { Fits (R.collection rows.now) settings.now.layout result }
+        ensures alone { IsTreeAlone result }
+    {
+        let _ = rows;
+        // for the fact that the cuts divide a series
+        let _segments = settings.layout.cuts.segments();
+        Index {
+            tree: bare,
+            mean_table: None,
+            code_table: None,
+        }
     }
 
     /// The tree of this index, whose members are series of the rows, without its tables.

@@ -31,5 +31,5 @@ pub use laws::{bare_tree_fits, leaf_bound_is_below_distances, leaf_bound_is_no_l
 pub use leaf::{MemberList, TreeLeaf};
 pub use means::coded_length;
 pub use node::Node;
-pub use phases::{build, build_alone};
+pub use phases::{build, build_alone, build_bare};
 pub use settings::Settings;

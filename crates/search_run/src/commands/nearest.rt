@@ -79,7 +79,12 @@ impl<
         ensures { Serves F.Files S.Sink (plan_by (pieces_by false) self.now.search.now) files.old files.new out.old out.new result }
     {
         let both = read_both(self.crew.alloc, files, self.search)?;
-        let tree = tree_of(self.crew, &both.series.rows, self.search.options)?;
+        let tree = tree_of(
+            self.crew,
+            &both.series.rows,
+            self.search.options,
+            both.queries.rows.count(),
+        )?;
         self.write(&both, &tree, out)?;
         Ok(())
     }

@@ -81,7 +81,7 @@ impl FileText {
             }
             FileText::Discords => {
                 check_segments(options.segments, rows.length())?;
-                let tree = tree_of(crew, rows, options)?;
+                let tree = tree_of(crew, rows, options, rows.count())?;
                 let found = farthest(crew, rows, &tree, options)?;
                 Ok(discord_text(crew.alloc, &found)?)
             }

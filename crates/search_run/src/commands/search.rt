@@ -54,7 +54,12 @@ pub fn answer_search<
     ensures reliable { F.reliable files.old → (w : Which) → result ≢ Err (Status.ReadFault w) }
 {
     let both = read_both(crew.alloc, files, search)?;
-    let tree = tree_of(crew, &both.series.rows, search.options)?;
+    let tree = tree_of(
+        crew,
+        &both.series.rows,
+        search.options,
+        both.queries.rows.count(),
+    )?;
     let base = SearchBase {
         series: both.series,
         tree,

@@ -84,7 +84,7 @@ fn text_of<T: Threads + Sync, G: Gate + Sync>(
     let mut rng = generator(trial.seed);
     let series = walks(crew.alloc, &mut rng, trial.count, trial.length)?;
     let asked = walks(crew.alloc, &mut rng, trial.queries, trial.length)?;
-    let tree = tree_of(crew, &series, options)?;
+    let tree = tree_of(crew, &series, options, trial.queries)?;
     let batch = Batch::new(&series, &tree, &asked, options.k, options.workers);
     let summary = summary_of(crew, &batch)?;
     summary_text(

@@ -47,7 +47,7 @@ pub fn answer_windows<T: Threads + Sync, F: Files, S: Sink, G: Gate + Sync>(
     let options = search.options;
     let both = read_long(crew.alloc, files, search)?;
     let windows = Windows::new(both.series.rows.values(), both.queries.rows.length(), step);
-    let tree = tree_of(crew, &windows, options)?;
+    let tree = tree_of(crew, &windows, options, both.queries.rows.count())?;
     let needed = options.windows_needed();
     let batch = Batch::new(&windows, &tree, &both.queries.rows, needed, options.workers);
     let telling = Telling::Apart(options.apart, options.k);
