@@ -9,7 +9,7 @@ mod begun;
 mod by_leaves;
 mod crew;
 mod first_leaf;
-mod first_limit;
+mod limits;
 mod listed;
 mod near_leaves;
 mod sharing;
@@ -22,7 +22,7 @@ mod tuning;
 mod way;
 
 pub use answer::one_worker_answer;
-pub use first_limit::first_limit;
+pub use limits::first_limit;
 pub use search_task::{Search, Task};
 pub use team_answer::{answer_by_stretches, answer_by_team};
 pub use telling::ApartBy;

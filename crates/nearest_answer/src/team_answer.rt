@@ -11,7 +11,7 @@ use crate::answer::one_worker_answer;
 use crate::begun::Begun;
 use crate::by_leaves::{begin_by_leaves, finish_in_order, left_by_first, narrowed, split_closest};
 use crate::crew::Crew;
-use crate::first_limit::first_limit;
+use crate::limits::first_limit;
 use crate::sharing::{hired_for_leaves, hired_for_rows, is_little, shared_first, value_count};
 use crate::sweep::answer_by_codes;
 use crate::team::{Drawn, found_together, scan_together};

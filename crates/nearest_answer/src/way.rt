@@ -2,7 +2,7 @@
 ghost use Rattle.std.specs.Prelude.{◌≤◌, IfOk};
 ghost use Rattle.search_task.specs.Questions.{last_of};
 
-use crate::first_limit::{first_limit, limit_and_guess};
+use crate::limits::{first_limit, limit_and_guess};
 use crate::telling::{ApartBy, means_tell_little, what_tells};
 use crate::tuning::{
     CLOSER_MEMBERS, CLOSER_MEMBERS_EACH, CLOSER_PART, FIRST_MEMBERS, MOST_RANKS_BY_SAMPLE,

@@ -1,4 +1,5 @@
--- An index whose members weigh 1 for each series fits the collection, once it has the means of their series (`fits_by_weight`).
+-- The tree of an index whose members weigh 1 for each series fits the collection (`tree_by_weight`), and the index with the means of their
+-- series does (`fits_by_weight`).
 use Rattle.std.proofs.Common.{◌≡◌, ℕ, zero, suc, ◌+◌, ◌*◌, ◌<◌, ◌≤◌, Bool, true, false, List, [], ◌∷◌, length, map, get_or, eqb, None, Some, refl, sym, ap, ◌∙◌, subst, ⊎_elim, arith, All}
 use Rattle.std.specs.Prelude.{◌==◌, find, if◌then◌else◌}
 use Rattle.std.specs.List.{range_with_len}
@@ -15,7 +16,7 @@ use Rattle.isax_word.specs.declared.word.Part.{Part}
 use Rattle.isax_word.specs.Word.{word_contains}
 use Rattle.subtree_build.specs.declared.leaf.TreeLeaf.{TreeLeaf}
 use Rattle.subtree_build.specs.Assembly.{HasMeansOf}
-use Rattle.subtree_build.specs.Fits.{Fits, MembersAreSeries, WordContainsMembers, times_in}
+use Rattle.subtree_build.specs.Fits.{Fits, MembersAreSeries, TreeFits, WordContainsMembers, times_in}
 use Rattle.subtree_build.specs.Index.{IndexParts}
 use Rattle.subtree_build.specs.Means.{leaf_means, leaf_codes}
 use Rattle.subtree_build.specs.Members.{numbers_of}
@@ -140,6 +141,18 @@ module _ (n : ℕ) (leaves : List TreeLeaf) (below : All (λ (x : TreeLeaf). All
       contains true light = refl
       contains false light = absurd (omega (arith, light))
 
+-- the tree of such leaves fits
+pub tree_by_weight : (c : Collection) (layout : Layout) (ix : IndexParts) → ix.segments ≡ layout.cuts.segments
+    → All (MembersAreSeries c layout) ix.leaves
+    → All (λ (x : TreeLeaf). All (λ m. m.number < length c.series) x.members) ix.leaves
+    → first_unfit_of ix.leaves (length c.series) ≡ None → TreeFits c layout ix
+tree_by_weight c layout ix segments own below none = record {
+  segments = segments;
+  each_once = λ i. is_once (length c.series) ix.leaves below none i;
+  own_words = own;
+  contained = all_contained (length c.series) ix.leaves below none;
+}
+
 -- an index of such leaves fits, with the means of their members' series
 pub fits_by_weight : (c : Collection) (layout : Layout) (ix jx : IndexParts) → ix.segments ≡ layout.cuts.segments
     → All (MembersAreSeries c layout) ix.leaves
@@ -148,11 +161,12 @@ pub fits_by_weight : (c : Collection) (layout : Layout) (ix jx : IndexParts) →
 fits_by_weight c layout ix jx segments own below none means =
     let Own : List TreeLeaf → Type 0 = λ xs. All (MembersAreSeries c layout) xs in
     let Contained : List TreeLeaf → Type 0 = λ xs. All WordContainsMembers xs in
+    let tree = tree_by_weight c layout ix segments own below none in
     with_tables_fits c layout jx (record {
-      segments = means.segments ∙ segments;
-      each_once = λ i. ap (total (times_in i)) means.leaves ∙ is_once (length c.series) ix.leaves below none i;
-      own_words = subst Own (sym means.leaves) own;
-      contained = subst Contained (sym means.leaves) (all_contained (length c.series) ix.leaves below none);
+      segments = means.segments ∙ tree.segments;
+      each_once = λ i. ap (total (times_in i)) means.leaves ∙ tree.each_once i;
+      own_words = subst Own (sym means.leaves) tree.own_words;
+      contained = subst Contained (sym means.leaves) tree.contained;
     })
     (means.own_means ∙ ap (λ (ls : List TreeLeaf). Some (map (leaf_means c layout) ls)) (sym means.leaves))
     (means.own_codes ∙ ap (λ (ls : List TreeLeaf). Some (map (leaf_codes c) ls)) (sym means.leaves))

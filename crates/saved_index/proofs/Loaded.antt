@@ -1,8 +1,9 @@
 -- What was loaded of bytes that are the text of an index over series of a collection's length and count: the parts make an index
--- (`makes`), whose members are series with their own words (`series`, `words_long`), and which has the bytes as its text (`text`) and
--- fits (`fits`), and can be saved again (`saves`), or else they have that against it (`unfit`).
-use Rattle.std.proofs.Common.{◌≡◌, ℕ, ◌<◌, ◌≤◌, List, length, map, get_or, None, Some, refl, sym, ap, ◌∙◌, subst, arith, Fits as FitsIn, w8, All}
-use Rattle.std.specs.Prelude.{IsSome, flat_map, option_map, slice_index}
+-- (`makes`), whose members are series with their own words (`series`, `words_long`), and whose tree fits (`tree_is_fit`), with their means
+-- too (`with_means_fits`), or else the bytes have that against it (`unfit`). Whatever stands beside a tree that fits, it is an index for
+-- the collection (`is_for`), has the bytes as its text (`is_text_for`), and can be saved again (`saves`).
+use Rattle.std.proofs.Common.{◌≡◌, ℕ, ◌<◌, ◌≤◌, List, length, map, get_or, Bool, None, Some, refl, sym, ap, ◌∙◌, subst, arith, Fits as FitsIn, w8, All}
+use Rattle.std.specs.Prelude.{flat_map, option_map, slice_index}
 use Rattle.std.proofs.lemmas.List.{length-map}
 use Rattle.series_core.specs.Collection.{Collection}
 use Rattle.series_file.proofs.Numbers.{AreBytes}
@@ -18,16 +19,17 @@ use Rattle.subtree_build.specs.Members.{numbers_of}
 use Rattle.subtree_build.specs.Outline.{outline}
 use Rattle.subtree_build.specs.Tree.{Tree, all_numbered, leaves_of}
 use Rattle.subtree_build.proofs.Assembled.{other_means}
+use Rattle.subtree_build.proofs.Fitting.{bare_fits}
 use Rattle.saved_index.specs.declared.error.IndexFault.TheVariants.{Unfit}
 use Rattle.saved_index.specs.declared.reading.Spelled.{Spelled}
 use Rattle.saved_index.specs.Fields.{header_of}
 use Rattle.saved_index.specs.Faults.{first_unfit, index_fault, layout_for, saved_leaves}
 use Rattle.saved_index.specs.IndexText.{CanSave, HasSaved, IndexText, header_for}
-use Rattle.saved_index.specs.Loading.{IsIndexFor, IsSavedFor, IsTextFor}
+use Rattle.saved_index.specs.Loading.{IsLoadedFor, IsSavedFor, IsTextFor, StandsBeside}
 use Rattle.saved_index.specs.Membership.{first_unfit_of, members_in_lists, words_of}
 use Rattle.saved_index.specs.Saved.{AreNumbers, Header, IsHeader, IsTextOf}
 use Rattle.saved_index.proofs.Below.{AreBelow, all_below, all_numbers}
-use Rattle.saved_index.proofs.Fitted.{fits_by_weight}
+use Rattle.saved_index.proofs.Fitted.{fits_by_weight, tree_by_weight}
 use Rattle.saved_index.proofs.LeavesTold.{leaves_told, worded_leaf}
 use Rattle.saved_index.proofs.MakesIndex.{read_makes_index}
 use Rattle.saved_index.proofs.NoFault.{text_has_no_fault}
@@ -36,6 +38,13 @@ use Rattle.saved_index.proofs.SoundWhole.{saved_sound}
 use Rattle.saved_index.proofs.TextTold.{text_told}
 use Rattle.saved_index.proofs.Weights.{unfit_by_weight}
 use Rattle.saved_index.proofs.Wording.{are_series, each_leaf, have_segments, have_words, lists_back}
+
+-- an index has the tree of another
+pub record HasTreeOf (before after : IndexParts) : Type 0 where
+  pub segments : after.segments ≡ before.segments
+  pub roots : after.roots ≡ before.roots
+  pub nodes : after.nodes ≡ before.nodes
+  pub leaves : after.leaves ≡ before.leaves
 
 -- what is saved is over series of the collection's length and count
 module _ (c : Collection) (bytes : List ℕ) (r : Spelled) (each : (i : ℕ) → FitsIn w8 (slice_index bytes i))
@@ -134,26 +143,35 @@ module _ (c : Collection) (bytes : List ℕ) (r : Spelled) (each : (i : ℕ) →
         ∙ unfit_fault c s points many
         ∙ ap (option_map (λ i. Unfit i)) first
 
-    -- with the means of its members' series
-    module _ (jx : IndexParts) (means : HasMeansOf c settings.layout ix jx) (count : ℕ) (all : count ≡ length c.series)
-        (none : None ≡ first_unfit_of ix.leaves count) where
+    -- no series of the collection is found that does not fit
+    module _ (count : ℕ) (all : count ≡ length c.series) (none : None ≡ first_unfit_of ix.leaves count) where
+      none_unfit : first_unfit_of ix.leaves (length c.series) ≡ None
+      none_unfit = ap (first_unfit_of ix.leaves) (sym all) ∙ sym none
+
+      -- so its tree fits
+      pub tree_is_fit : Fits c settings.layout ix
+      tree_is_fit =
+          bare_fits c settings.layout ix (tree_by_weight c settings.layout ix parts.segments own series none_unfit) parts.no_means
+          parts.no_codes
+
+      -- and it does with the means of its members' series
+      pub with_means_fits : (jx : IndexParts) → HasMeansOf c settings.layout ix jx → Fits c settings.layout jx
+      with_means_fits jx means = fits_by_weight c settings.layout ix jx parts.segments own series none_unfit means
+
+    -- the same tree that fits, whatever stands beside it
+    module _ (jx : IndexParts) (tree : HasTreeOf ix jx) (fits : Fits c settings.layout jx) where
       js : IsIndex jx
       js = subst IsIndex same (other_means ix jx.means jx.codes is)
         where
           same : record ix { means = jx.means; codes = jx.codes } ≡ jx
           same i = record {
-            segments = sym means.segments i;
-            roots = sym means.roots i;
-            nodes = sym means.nodes i;
-            leaves = sym means.leaves i;
+            segments = sym tree.segments i;
+            roots = sym tree.roots i;
+            nodes = sym tree.nodes i;
+            leaves = sym tree.leaves i;
             means = jx.means;
             codes = jx.codes;
           }
-
-      fits : Fits c settings.layout jx
-      fits =
-          fits_by_weight c settings.layout ix jx parts.segments own series
-          (ap (first_unfit_of ix.leaves) (sym all) ∙ sym none) means
 
       length_is : c.points ≡ settings.layout.cuts.row_length
       length_is = sym points ∙ sym (ap (λ (l : Layout). l.cuts.row_length) layout_saved)
@@ -170,13 +188,13 @@ module _ (c : Collection) (bytes : List ℕ) (r : Spelled) (each : (i : ℕ) →
           })
 
       -- it is an index for the collection
-      pub is_for : IsIndexFor c (record { settings = settings; index = jx })
-      is_for = record {
+      pub is_for : (tables : Bool) → StandsBeside tables jx → IsLoadedFor tables c (record { settings = settings; index = jx })
+      is_for tables beside = record {
         fits = fits;
         length = length_is;
         cuts = cuts;
         is_index = js;
-        tables = record { means = subst IsSome (sym means.own_means) refl; codes = subst IsSome (sym means.own_codes) refl };
+        beside = beside;
         some_leaf_size = omega (arith, size_is, limits.some_leaf_size);
         leaf_size_limit = omega (arith, size_is, limits.leaf_size_limit);
       }
@@ -186,11 +204,11 @@ module _ (c : Collection) (bytes : List ℕ) (r : Spelled) (each : (i : ℕ) →
       saves =
           let P : List TreeLeaf → Type 0 = λ ls. All (HasSaved (length c.series)) ls in
           record {
-            segments = means.segments ∙ parts.segments;
+            segments = tree.segments ∙ parts.segments;
             count_limit = omega (arith, is_text.sound.header.count_limit, many);
             some_leaf_size = omega (arith, size_is, limits.some_leaf_size);
             leaf_size_limit = omega (arith, size_is, limits.leaf_size_limit);
-            leaves = subst P (sym means.leaves) saved_leaves_are;
+            leaves = subst P (sym tree.leaves) saved_leaves_are;
           }
 
       header_is : header_for settings (length c.series) ≡ read.read.saved.header
@@ -208,9 +226,9 @@ module _ (c : Collection) (bytes : List ℕ) (r : Spelled) (each : (i : ℕ) →
       text_is : IndexText bytes settings (length c.series) jx
       text_is =
           text_told bytes read.read.saved settings (length c.series) jx is_text header_is
-          (means.roots ∙ parts.roots ∙ sym read.read.roots)
-          (ap (λ (ns : List Node). map outline ns) means.nodes ∙ nodes_are)
-          (ap (map (λ (x : TreeLeaf). numbers_of x.members)) means.leaves ∙ numbers_are)
+          (tree.roots ∙ parts.roots ∙ sym read.read.roots)
+          (ap (λ (ns : List Node). map outline ns) tree.nodes ∙ nodes_are)
+          (ap (map (λ (x : TreeLeaf). numbers_of x.members)) tree.leaves ∙ numbers_are)
 
       -- whose text is the bytes
       pub is_text_for : length bytes ≤ 1073741824 → IsTextFor c (record { settings = settings; index = jx }) bytes

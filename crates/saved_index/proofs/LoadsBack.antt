@@ -34,7 +34,7 @@ pub loads_back : (c : Collection) (bytes : List ℕ) (settings : Settings) (ix :
     → settings.layout.cuts.row_length ≡ c.points → IndexText bytes settings (length c.series) ix → length bytes ≤ 1073741824
     → LoadsBack c bytes settings ix
 loads_back c bytes settings ix of points text short = record {
-  same = λ back is was.
+  same = λ tables back is was.
       let count = length c.series in
       same_index c settings back.settings count count ix back.index of
       (record { division = is.cuts; index = is.is_index; fits = is.fits })

@@ -1,16 +1,17 @@
--- What was tested over a collection has its length (`points_of`) and its series (`series_of`); with their means it is an index for it
--- (`index_for`), whose text is the bytes (`text_for`), and which can be saved again (`saves_for`).
-use Rattle.std.proofs.Common.{◌≡◌, ℕ, ◌<◌, ◌≤◌, All, List, length, refl, sym, ap, ◌∙◌, Fits as FitsIn, w8}
-use Rattle.std.specs.Prelude.{slice_index}
+-- What was tested over a collection has its length (`points_of`) and its series (`series_of`). As it is (`alone_for`), or with their means
+-- (`index_for`), it is an index for it, whose text is the bytes (`alone_text_for`, `text_for`), and which can be saved again (`saves_for`).
+use Rattle.std.proofs.Common.{◌≡◌, ℕ, ◌<◌, ◌≤◌, All, Bool, true, false, List, length, refl, sym, ap, subst, ◌∙◌, Fits as FitsIn, w8}
+use Rattle.std.specs.Prelude.{IsSome, slice_index}
 use Rattle.isax_word.specs.declared.layout.Layout.{Layout}
 use Rattle.series_core.specs.Collection.{Collection}
 use Rattle.subtree_build.specs.declared.leaf.TreeLeaf.{TreeLeaf}
 use Rattle.subtree_build.specs.Assembly.{HasMeansOf}
+use Rattle.subtree_build.specs.Fits.{Fits}
 use Rattle.subtree_build.specs.Index.{IndexParts}
 use Rattle.saved_index.specs.declared.loading.LoadedIndex.{LoadedIndex}
 use Rattle.saved_index.specs.IndexText.{CanSave}
-use Rattle.saved_index.specs.Loading.{IsIndexFor, IsTested, IsTextFor}
-use Rattle.saved_index.proofs.Loaded.{is_for, is_text_for, saves, series}
+use Rattle.saved_index.specs.Loading.{IsLoadedFor, IsTested, IsTextFor}
+use Rattle.saved_index.proofs.Loaded.{HasTreeOf, is_for, is_text_for, saves, series, tree_is_fit, with_means_fits}
 
 module _ (c : Collection) (bytes : List ℕ) (each : (i : ℕ) → FitsIn w8 (slice_index bytes i)) (loaded : LoadedIndex)
     (t : IsTested c bytes loaded) where
@@ -23,21 +24,48 @@ module _ (c : Collection) (bytes : List ℕ) (each : (i : ℕ) → FitsIn w8 (sl
   series_of =
       series c bytes t.spelled each t.saved loaded.settings t.layout t.leaf_size loaded.index t.is_index t.parts
 
+  same_tree : HasTreeOf loaded.index loaded.index
+  same_tree = record { segments = refl; roots = refl; nodes = refl; leaves = refl }
+
+  fit : Fits c loaded.settings.layout loaded.index
+  fit =
+      tree_is_fit c bytes t.spelled each t.saved loaded.settings t.layout t.leaf_size loaded.index t.is_index t.parts
+      (length c.series) refl t.none_unfit
+
+  -- with nothing beside its tree it is an index for the collection
+  pub alone_for : IsLoadedFor false c loaded
+  alone_for =
+      is_for c bytes t.spelled each t.saved loaded.settings t.layout t.leaf_size loaded.index t.is_index t.parts loaded.index
+      same_tree fit false (record { no_means = t.parts.no_means; no_codes = t.parts.no_codes })
+
+  -- and the bytes are its text
+  pub alone_text_for : length bytes ≤ 1073741824 → IsTextFor c loaded bytes
+  alone_text_for short =
+      is_text_for c bytes t.spelled each t.saved loaded.settings t.layout t.leaf_size loaded.index t.is_index t.parts
+      loaded.index same_tree fit short
+
   module _ (ix : IndexParts) (means : HasMeansOf c loaded.settings.layout loaded.index ix) where
+    tree : HasTreeOf loaded.index ix
+    tree = record { segments = means.segments; roots = means.roots; nodes = means.nodes; leaves = means.leaves }
+
+    fits : Fits c loaded.settings.layout ix
+    fits =
+        with_means_fits c bytes t.spelled each t.saved loaded.settings t.layout t.leaf_size loaded.index t.is_index t.parts
+        (length c.series) refl t.none_unfit ix means
+
     -- with their means it is an index for the collection
-    pub index_for : IsIndexFor c (record { settings = loaded.settings; index = ix })
+    pub index_for : IsLoadedFor true c (record { settings = loaded.settings; index = ix })
     index_for =
-        is_for c bytes t.spelled each t.saved loaded.settings t.layout t.leaf_size loaded.index t.is_index t.parts ix means
-        (length c.series) refl t.none_unfit
+        is_for c bytes t.spelled each t.saved loaded.settings t.layout t.leaf_size loaded.index t.is_index t.parts ix tree fits
+        true (record { means = subst IsSome (sym means.own_means) refl; codes = subst IsSome (sym means.own_codes) refl })
 
     -- and the bytes are its text
     pub text_for : length bytes ≤ 1073741824 → IsTextFor c (record { settings = loaded.settings; index = ix }) bytes
     text_for short =
-        is_text_for c bytes t.spelled each t.saved loaded.settings t.layout t.leaf_size loaded.index t.is_index t.parts ix means
-        (length c.series) refl t.none_unfit short
+        is_text_for c bytes t.spelled each t.saved loaded.settings t.layout t.leaf_size loaded.index t.is_index t.parts ix tree
+        fits short
 
     -- it can be saved again
     pub saves_for : CanSave loaded.settings (length c.series) ix
     saves_for =
-        saves c bytes t.spelled each t.saved loaded.settings t.layout t.leaf_size loaded.index t.is_index t.parts ix means
-        (length c.series) refl t.none_unfit
+        saves c bytes t.spelled each t.saved loaded.settings t.layout t.leaf_size loaded.index t.is_index t.parts ix tree fits

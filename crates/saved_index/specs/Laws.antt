@@ -1,5 +1,5 @@
 -- Laws of the texts of indexes.
-use Rattle.std.specs.Prelude.{◌≡◌, ℕ, ◌<◌, ◌≤◌, ◌↔◌, ◌⊎◌, List, length, map, Some, None}
+use Rattle.std.specs.Prelude.{◌≡◌, ℕ, ◌<◌, ◌≤◌, ◌↔◌, ◌⊎◌, List, length, map, Some, None, Bool}
 use Rattle.std.specs.List.{All}
 use Rattle.series_core.specs.Collection.{Collection, IsCollection}
 use Rattle.segment_sums.specs.Division.{IsDivision}
@@ -13,7 +13,7 @@ use Rattle.saved_index.specs.declared.error.IndexFault.TheVariants.{ReadFault, N
 use Rattle.saved_index.specs.declared.loading.LoadedIndex.{LoadedIndex}
 use Rattle.saved_index.specs.Faults.{index_fault}
 use Rattle.saved_index.specs.IndexText.{CanSave, IndexText}
-use Rattle.saved_index.specs.Loading.{Explains, IsIndexFor, IsTextFor}
+use Rattle.saved_index.specs.Loading.{Explains, IsLoadedFor, IsTextFor}
 use Rattle.saved_index.specs.Reading.{saved_in}
 use Rattle.saved_index.specs.Saved.{Saved, IsTextOf}
 use Rattle.search_limits.specs.declared.numbers.TheConstants.{MOST_TEXT_BYTES}
@@ -55,7 +55,8 @@ TextHasNoFault = (c : Collection) (bytes : List ℕ) (settings : Settings) (ix :
 -- Loading bytes over a collection ends with this index under these settings: whatever may be handed out is the same, and only a read that
 -- fails, or want of memory, keeps it from being handed out.
 pub record LoadsBack (c : Collection) (bytes : List ℕ) (settings : Settings) (ix : IndexParts) : Type 0 where
-  pub same : (back : LoadedIndex) → IsIndexFor c back → IsTextFor c back bytes → (settings ≡ back.settings) × AreSame ix back.index
+  pub same : (tables : Bool) (back : LoadedIndex) → IsLoadedFor tables c back → IsTextFor c back bytes
+      → (settings ≡ back.settings) × AreSame ix back.index
   pub refused : (e : IndexFault) → Explains c (Some bytes) e → (e ≡ ReadFault) ⊎ (e ≡ NoMemory)
 
 -- the text of an index that fits a collection is loaded back, where it is no longer than a saved index may be

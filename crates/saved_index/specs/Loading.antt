@@ -1,5 +1,5 @@
 -- What loading a saved index over a collection answers, what it leaves of the open file, and what else it does to the files.
-use Rattle.std.specs.Prelude.{◌≡◌, ◌≢◌, ℕ, ◌≤◌, ⊤, ◌⊎◌, List, drop, length, Option, Some, None, Result, Err, IfSome, IsErrOf}
+use Rattle.std.specs.Prelude.{◌≡◌, ◌≢◌, ℕ, ◌≤◌, ⊤, ◌⊎◌, Bool, true, false, List, drop, length, Option, Some, None, Result, Err, IfSome, IsErrOf}
 use Rattle.std.specs.Io.KnownBytes.{IsAtEnd}
 use Rattle.outside.specs.Count.{Rose}
 use Rattle.outside.specs.Files.{Held, Blames, TakesAtMost}
@@ -7,7 +7,7 @@ use Rattle.segment_sums.specs.Division.{IsDivision}
 use Rattle.series_core.specs.Collection.{Collection}
 use Rattle.subtree_build.specs.Assembly.{IsOfParts}
 use Rattle.subtree_build.specs.Fits.{Fits}
-use Rattle.subtree_build.specs.Index.{HasTables, IsIndex}
+use Rattle.subtree_build.specs.Index.{HasTables, IndexParts, IsIndex, IsTreeAlone}
 use Rattle.saved_index.specs.declared.error.IndexFault.{IndexFault}
 use Rattle.saved_index.specs.declared.error.IndexFault.TheVariants.{TooLong, ReadFault, NoMemory}
 use Rattle.saved_index.specs.declared.loading.LoadedIndex.{LoadedIndex}
@@ -18,16 +18,25 @@ use Rattle.saved_index.specs.IndexText.{IndexText}
 use Rattle.saved_index.specs.Membership.{first_unfit_of, members_in_lists, words_of}
 use Rattle.saved_index.specs.Parsed.{IsSavedRead}
 
+-- What stands beside the tree of an index: means and codes, or nothing.
+abbrev pub StandsBeside : Bool → IndexParts → Type 0
+StandsBeside true ix = HasTables ix
+StandsBeside false ix = IsTreeAlone ix
+
 -- An index by which a collection may be searched: it fits the collection under the layout of its settings, which is for series of the
--- collection's length, it has means and codes, and the leaf size is within its limits.
-pub record IsIndexFor (c : Collection) (loaded : LoadedIndex) : Type 0 where
+-- collection's length, tables stand beside its tree or not, and the leaf size is within its limits.
+pub record IsLoadedFor (tables : Bool) (c : Collection) (loaded : LoadedIndex) : Type 0 where
   pub fits : Fits c loaded.settings.layout loaded.index
   pub length : c.points ≡ loaded.settings.layout.cuts.row_length
   pub cuts : IsDivision loaded.settings.layout.cuts
   pub is_index : IsIndex loaded.index
-  pub tables : HasTables loaded.index
+  pub beside : StandsBeside tables loaded.index
   pub some_leaf_size : 1 ≤ loaded.settings.leaf_size
   pub leaf_size_limit : loaded.settings.leaf_size ≤ 65535
+
+-- The same with means and codes.
+abbrev pub IsIndexFor : Collection → LoadedIndex → Type 0
+IsIndexFor c loaded = IsLoadedFor true c loaded
 
 -- Bytes have no fault against a collection, and are the text of what was loaded.
 pub record IsTextFor (c : Collection) (loaded : LoadedIndex) (bytes : List ℕ) : Type 0 where

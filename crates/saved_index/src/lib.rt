@@ -19,6 +19,6 @@ pub use error::IndexFault;
 pub use laws::{
     loads_back_law, no_fault_law, one_text_law, reading_law, text_tells_index_law, tree_law,
 };
-pub use loading::{LoadedIndex, load, load_alone};
+pub use loading::{LoadedIndex, load, load_alone, load_with};
 pub use savable::can_save;
 pub use saving::save;

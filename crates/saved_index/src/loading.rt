@@ -4,7 +4,7 @@ ghost use Rattle.std.specs.Prelude.{◌≡◌, ◌≤◌, IfOk, IfErr, length};
 ghost use Rattle.saved_index.specs.Faults.{layout_for};
 ghost use Rattle.saved_index.specs.Fields.{header_of};
 ghost use Rattle.saved_index.specs.IndexText.{CanSave};
-ghost use Rattle.saved_index.specs.Loading.{Explains, IsIndexFor, IsSavedFor, IsTested, IsTextFor, Leaves, Loads, LoadsWhole, Refuses};
+ghost use Rattle.saved_index.specs.Loading.{Explains, IsIndexFor, IsLoadedFor, IsSavedFor, IsTested, IsTextFor, Leaves, Loads, LoadsWhole, Refuses};
 ghost use Rattle.saved_index.specs.Membership.{words_of};
 
 use crate::error::IndexFault;
@@ -46,13 +46,33 @@ pub fn load<H: Threads + Sync, F: Files, R: Rows + Sync>(
     ensures left { IfErr result (Leaves (F.left files.old) (F.left files.new)) }
     ensures files { Loads F.held F.at F.blamed F.faults F.misses F.reliable result files.old files.new }
 {
+    load_with(rt, alloc, files, rows, workers, true)
+}
+
+/// Loads as `load` does. Without `tables` nothing is made beside the tree: that takes less time, and a search measures each member of a leaf
+/// whose word does not lie far.
+pub fn load_with<H: Threads + Sync, F: Files, R: Rows + Sync>(
+    rt: &H,
+    alloc: Global,
+    files: &mut F,
+    rows: &R,
+    workers: u32,
+    tables: bool,
+) -> Result<LoadedIndex, IndexFault>
+    requires { 1 ≤ workers }
+    ensures fits { IfOk result (IsLoadedFor tables (R.collection rows.now)) }
+    ensures text { IfOk result (LoadsWhole (R.collection rows.now) (F.left files.old) (F.left files.new)) }
+    ensures refused { IfErr result (Explains (R.collection rows.now) (F.left files.old)) }
+    ensures left { IfErr result (Leaves (F.left files.old) (F.left files.new)) }
+    ensures files { Loads F.held F.at F.blamed F.faults F.misses F.reliable result files.old files.new }
+{
     let bytes = match read_all(alloc, files, MOST_TEXT_BYTES) {
         Ok(bytes) => bytes,
         Err(AllError::Longer) => return Err(IndexFault::TooLong),
         Err(AllError::ReadFault) => return Err(IndexFault::ReadFault),
         Err(AllError::NoMemory) => return Err(IndexFault::NoMemory),
     };
-    load_bytes(rt, alloc, bytes.as_slice(), rows, workers)
+    load_bytes(rt, alloc, bytes.as_slice(), rows, workers, tables)
 }
 
 /// Loads these bytes as a saved index over these rows, by one worker in the caller's thread: it wants no leave to start threads. It
@@ -82,17 +102,18 @@ pub fn load_alone<R: Rows>(alloc: Global, bytes: &[u8], rows: &R) -> Result<Load
     Ok(LoadedIndex { settings, index })
 }
 
-/// Loads these bytes as a saved index over these rows.
+/// Loads these bytes as a saved index over these rows, with tables beside its tree or with none.
 pub(crate) fn load_bytes<H: Threads + Sync, R: Rows + Sync>(
     rt: &H,
     alloc: Global,
     bytes: &[u8],
     rows: &R,
     workers: u32,
+    tables: bool,
 ) -> Result<LoadedIndex, IndexFault>
     requires short { length bytes.now ≤ MOST_TEXT_BYTES }
     requires some { 1 ≤ workers }
-    ensures fits { IfOk result (IsIndexFor (R.collection rows.now)) }
+    ensures fits { IfOk result (IsLoadedFor tables (R.collection rows.now)) }
     ensures text { IfOk result (λ loaded. IsTextFor (R.collection rows.now) loaded bytes.now) }
     ensures refused { IfErr result (Refuses (R.collection rows.now) bytes.now) }
 {
@@ -102,12 +123,16 @@ pub(crate) fn load_bytes<H: Threads + Sync, R: Rows + Sync>(
     };
     let settings = settings_of(bytes, rows, &read);
     let words = words_side_by_side(rt, alloc, rows, &settings.layout, 0, rows.count(), workers)?;
-    let LoadedIndex { settings, index } = match tested(alloc, bytes, rows, read, words) {
+    let loaded = match tested(alloc, bytes, rows, read, words) {
         Ok(loaded) => loaded,
         Err(e) => return Err(e),
     };
-    let index = index.with_means(rt, alloc, rows, &settings.layout, workers)?;
-    Ok(LoadedIndex { settings, index })
+    if tables {
+        let LoadedIndex { settings, index } = loaded;
+        let index = index.with_means(rt, alloc, rows, &settings.layout, workers)?;
+        return Ok(LoadedIndex { settings, index });
+    }
+    Ok(loaded)
 }
 
 /// The settings that what was read of the bytes was saved with, which are for series of the rows' length.

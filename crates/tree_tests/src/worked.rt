@@ -10,7 +10,7 @@ use std::alloc::Global;
 use std::sync::atomic::{AtomicBool, AtomicU64, Ordering};
 use std::test::Fail;
 use std::thread::Threads;
-use subtree_build::{Index, Settings, build, build_alone};
+use subtree_build::{Index, Settings, build, build_alone, build_bare};
 
 /// How often a thread looks for another before it gives up.
 const LOOKS: u64 = 20_000_000_000;
@@ -84,7 +84,8 @@ fn has_leaves(index: &Index, tree: &Known) -> bool {
     true
 }
 
-/// Whether a known tree that 1, 2 and 64 workers build, and one that wants no threads, has its leaves, and the query starts where it is to.
+/// Whether a known tree that 1, 2 and 64 workers build, with tables beside it and with none, and one that wants no threads, has its leaves,
+/// and the query starts where it is to.
 fn grows<H: Threads + Sync>(rt: &H, alloc: Global, tree: &Known) -> Result<bool, Fail> {
     let rows = collection(alloc, tree.length, tree.values)?;
     let some = 1 <= tree.segments && tree.segments <= 16 && tree.segments <= tree.length;
@@ -101,6 +102,12 @@ fn grows<H: Threads + Sync>(rt: &H, alloc: Global, tree: &Known) -> Result<bool,
             return Ok(false);
         }
         if index.segments() == tree.segments && index.start_leaf(&view) != Some(tree.start) {
+            return Ok(false);
+        }
+        let Ok(bare) = build_bare(rt, alloc, &rows, &settings, workers, &NoGate) else {
+            return Err(Fail::new("no memory for the bare tree"));
+        };
+        if !has_leaves(&bare, tree) || bare.has_means() || bare.has_codes() {
             return Ok(false);
         }
     }

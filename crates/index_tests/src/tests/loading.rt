@@ -41,8 +41,10 @@ fn the_first_refusal(rt: HostRuntime) -> Result<(), Fail> {
     ];
     for (name, rows, changes, want) in cases {
         let bytes = changed(alloc, 58, changes)?;
-        let found = loaded(&rt, alloc, rows, bytes.as_slice(), &[])?;
-        assert_same!(rt; found.err(), Some(want), "{name}");
+        for tables in [true, false] {
+            let found = loaded(&rt, alloc, rows, bytes.as_slice(), &[], tables)?;
+            assert_same!(rt; found.err(), Some(want), "{name}, tables: {tables}");
+        }
     }
     Ok(())
 }
@@ -88,7 +90,7 @@ fn each_beginning_and_more(rt: HostRuntime) -> Result<(), Fail> {
             } else {
                 None
             };
-            let found = loaded(&rt, alloc, &rows, bytes.as_slice(), &[listed])?;
+            let found = loaded(&rt, alloc, &rows, bytes.as_slice(), &[listed], true)?;
             assert_same!(rt; found.err(), want, "the first {size} bytes, read {listed} fails");
         }
     }
@@ -107,7 +109,25 @@ fn saved_again(alloc: Global, count: u32, loaded: &LoadedIndex) -> Result<Vec<u8
     }
 }
 
-/// Loads these bytes, which have no fault, and saves what was loaded.
+/// Loads these bytes, which have no fault, with tables or with none, and saves what was loaded.
+fn back_with<H: Threads + Sync>(
+    rt: &H,
+    alloc: Global,
+    rows: &Flat,
+    count: u32,
+    bytes: &[u8],
+    tables: bool,
+) -> Result<Vec<u8>, Fail> {
+    let Ok(found) = loaded(rt, alloc, rows, bytes, &[], tables)? else {
+        return Err(Fail::new("a text was refused"));
+    };
+    if found.index.has_means() != tables || found.index.has_codes() != tables {
+        return Err(Fail::new("other tables stand beside the tree"));
+    }
+    saved_again(alloc, count, &found)
+}
+
+/// What is saved of these bytes, which have no fault, once they are loaded: with tables and with none it is to be the same.
 fn back<H: Threads + Sync>(
     rt: &H,
     alloc: Global,
@@ -115,10 +135,12 @@ fn back<H: Threads + Sync>(
     count: u32,
     bytes: &[u8],
 ) -> Result<Vec<u8>, Fail> {
-    match loaded(rt, alloc, rows, bytes, &[])? {
-        Ok(found) => saved_again(alloc, count, &found),
-        Err(_) => Err(Fail::new("a text was refused")),
+    let beside = back_with(rt, alloc, rows, count, bytes, true)?;
+    let alone = back_with(rt, alloc, rows, count, bytes, false)?;
+    if alone.as_slice() != beside.as_slice() {
+        return Err(Fail::new("without tables another text is saved"));
     }
+    Ok(beside)
 }
 
 #[test]

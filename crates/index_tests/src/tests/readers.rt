@@ -4,25 +4,30 @@ use crate::tests::plain_fault::plain_fault;
 use crate::tests::plain_reader::plain_read;
 use breakpoints::Table;
 use outside::{Files, MemFiles};
-use saved_index::{IndexFault, LoadedIndex, load};
+use saved_index::{IndexFault, LoadedIndex, load, load_with};
 use series_core::{Flat, Rows};
 use std::alloc::Global;
 use std::test::Fail;
 use std::thread::Threads;
 use subtree_build::{Index, Node};
 
-/// Loads these bytes over rows, from pieces of 16 bytes of which the reads that are listed fail.
+/// Loads these bytes over rows, with tables or with none, from pieces of 16 bytes of which the reads that are listed fail.
 pub(crate) fn loaded<H: Threads + Sync>(
     rt: &H,
     alloc: Global,
     rows: &Flat,
     bytes: &[u8],
     fail_reads: &[u64],
+    tables: bool,
 ) -> Result<Result<LoadedIndex, IndexFault>, Fail> {
     let mut files = MemFiles::new(alloc, 16, Vec::new(alloc), fail_reads.to_vec(alloc)?);
     files.hold("index", bytes)?;
     files.open_file("index")?;
-    Ok(load(rt, alloc, &mut files, rows, 2))
+    if tables {
+        Ok(load(rt, alloc, &mut files, rows, 2))
+    } else {
+        Ok(load_with(rt, alloc, &mut files, rows, 2, false))
+    }
 }
 
 /// In what the two readers differ on a text over rows of these values, in series of 4; None where they agree.
@@ -34,7 +39,7 @@ pub(crate) fn difference<H: Threads + Sync>(
     bytes: &[u8],
 ) -> Result<Option<&'static str>, Fail> {
     let want = plain_fault(alloc, bytes, values, 4)?;
-    let found = match loaded(rt, alloc, rows, bytes, &[])? {
+    let found = match loaded(rt, alloc, rows, bytes, &[], true)? {
         Ok(found) => found,
         Err(fault) if want == Some(fault) => return Ok(None),
         Err(_) => return Ok(Some("another fault, or none, was wanted")),

@@ -107,6 +107,7 @@ impl<
             index.text.as_str(),
             &both.series.rows,
             workers,
+            both.queries.rows.count(),
         )?;
         self.write(&both, &tree, out)?;
         Ok(())

@@ -12,18 +12,21 @@ use crate::crew::Crew;
 use crate::input::file::open;
 use crate::status::{Status, Which};
 use crate::tree::Tree;
+use crate::tuning::LEAST_SEARCHES_FOR_TABLES;
 use outside::{Files, Gate};
-use saved_index::{IndexFault, load};
+use saved_index::{IndexFault, load_with};
 use series_core::Flat;
 use std::thread::Threads;
 
-/// Loads the saved index of this name over these series, by at least one worker.
+/// Loads the saved index of this name over these series, by at least one worker. Means and codes are made beside its tree where so many
+/// searches pay for them.
 pub fn load_index<T: Threads + Sync, F: Files, G: Gate + Sync>(
     crew: &Crew<'_, T, G>,
     files: &mut F,
     name: &str,
     rows: &Flat,
     workers: u32,
+    searches: u32,
 ) -> Result<Tree, Status>
     requires { 1 ≤ workers }
     ensures fits { IfOk result (IsTreeFor rows.now) }
@@ -34,7 +37,8 @@ pub fn load_index<T: Threads + Sync, F: Files, G: Gate + Sync>(
     ensures reliable { F.reliable files.old → (w : Which) → result ≢ Err (Status.ReadFault w) }
 {
     open(files, name, Which::Index)?;
-    match load(crew.rt, crew.alloc, files, rows, workers) {
+    let tables = searches >= LEAST_SEARCHES_FOR_TABLES;
+    match load_with(crew.rt, crew.alloc, files, rows, workers, tables) {
         Ok(loaded) => Ok(Tree {
             index: loaded.index,
             settings: loaded.settings,

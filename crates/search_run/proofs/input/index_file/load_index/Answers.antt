@@ -19,7 +19,7 @@ returns-in-Ok-clause-held g c =
 pub returns-in-Err-clause-refused : goal.returns-in-Err-clause-refused
 returns-in-Err-clause-refused g c =
     let reading = read_from g.F.Files c.args.files.now
-    c.load.new.files in
+    c.load_with.new.files in
     rw c.refusal.ensures
     (index_refused c.args.rows.now reading c.args.name.now (g.F.Files.at c.open.new.files)
     (g.F.Files.left c.open.new.files) c.in-Err.cause c.in_ok-open.ensures.opened c.in-Err.ensures.refused

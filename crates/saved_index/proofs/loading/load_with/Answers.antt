@@ -5,7 +5,7 @@ use Rattle.std.proofs.lemmas.Option.{IfSome_then}
 use Rattle.std.proofs.lemmas.Result.{IfErr-weaker}
 use Rattle.saved_index.specs.Loading.{Explains, Leaves, Refuses}
 use Rattle.saved_index.proofs.Refusals.{ends_read, explains_refused, leaves_refused}
-use Rattle.saved_index.proofs.loading.load.Goals as goal
+use Rattle.saved_index.proofs.loading.load_with.Goals as goal
 
 pub returns-clause-refused : goal.returns-clause-refused
 returns-clause-refused g c =

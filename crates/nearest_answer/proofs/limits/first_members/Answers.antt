@@ -11,7 +11,7 @@ use Rattle.search_task.specs.Questions.{ground_of, leaf_series}
 use Rattle.nearest_answer.proofs.Nearest.{next_scanned, worst_enough}
 use Rattle.nearest_answer.proofs.Ranges.{none_at_end, range_next}
 use Rattle.search_task.proofs.Grounds.{ground_fits, ground_last}
-use Rattle.nearest_answer.proofs.first_limit.first_members.Goals as goal
+use Rattle.nearest_answer.proofs.limits.first_members.Goals as goal
 
 pub returns-in_default-clause-limit : goal.returns-in_default-clause-limit
 returns-in_default-clause-limit g c =

@@ -3,7 +3,7 @@ use Rattle.std.proofs.Common.{◌≡◌, ◌-◌}
 use Rattle.std.specs.List.{range_with_len}
 use Rattle.search_machine.specs.Sound.{ListSound}
 use Rattle.search_task.specs.Questions.{ground_of}
-use Rattle.nearest_answer.proofs.first_limit.first_members.Given as goal
+use Rattle.nearest_answer.proofs.limits.first_members.Given as goal
 
 abbrev pub invariant-loop-leaf : goal.invariant-loop-leaf
 invariant-loop-leaf g l = record {
