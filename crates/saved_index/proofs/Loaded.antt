@@ -2,7 +2,7 @@
 -- (`makes`), whose members are series with their own words (`series`, `words_long`), and whose tree fits (`tree_is_fit`), with their means
 -- too (`with_means_fits`), or else the bytes have that against it (`unfit`). Whatever stands beside a tree that fits, it is an index for
 -- the collection (`is_for`), has the bytes as its text (`is_text_for`), and can be saved again (`saves`).
-use Rattle.std.proofs.Common.{◌≡◌, ℕ, ◌<◌, ◌≤◌, List, length, map, get_or, Bool, None, Some, refl, sym, ap, ◌∙◌, subst, arith, Fits as FitsIn, w8, All}
+use Rattle.std.proofs.Common.{◌≡◌, ℕ, ◌<◌, ◌≤◌, List, length, map, get_or, Bool, None, Some, sym, ap, ◌∙◌, subst, arith, Fits as FitsIn, w8, All}
 use Rattle.std.specs.Prelude.{flat_map, option_map, slice_index}
 use Rattle.std.proofs.lemmas.List.{length-map}
 use Rattle.series_core.specs.Collection.{Collection}

@@ -1,6 +1,6 @@
 -- What was tested over a collection has its length (`points_of`) and its series (`series_of`). As it is (`alone_for`), or with their means
 -- (`index_for`), it is an index for it, whose text is the bytes (`alone_text_for`, `text_for`), and which can be saved again (`saves_for`).
-use Rattle.std.proofs.Common.{◌≡◌, ℕ, ◌<◌, ◌≤◌, All, Bool, true, false, List, length, refl, sym, ap, subst, ◌∙◌, Fits as FitsIn, w8}
+use Rattle.std.proofs.Common.{◌≡◌, ℕ, ◌<◌, ◌≤◌, All, true, false, List, length, refl, sym, ap, subst, ◌∙◌, Fits as FitsIn, w8}
 use Rattle.std.specs.Prelude.{IsSome, slice_index}
 use Rattle.isax_word.specs.declared.layout.Layout.{Layout}
 use Rattle.series_core.specs.Collection.{Collection}
