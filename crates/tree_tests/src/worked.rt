@@ -84,8 +84,8 @@ fn has_leaves(index: &Index, tree: &Known) -> bool {
     true
 }
 
-/// Whether a known tree that 1, 2 and 64 workers build, with tables beside it and with none, and one that wants no threads, has its leaves,
-/// and the query starts where it is to.
+/// Whether a known tree that 1, 2 and 64 workers build, one with nothing beside it, and one that wants no threads, has its leaves, and the
+/// query starts where it is to.
 fn grows<H: Threads + Sync>(rt: &H, alloc: Global, tree: &Known) -> Result<bool, Fail> {
     let rows = collection(alloc, tree.length, tree.values)?;
     let some = 1 <= tree.segments && tree.segments <= 16 && tree.segments <= tree.length;
@@ -104,12 +104,12 @@ fn grows<H: Threads + Sync>(rt: &H, alloc: Global, tree: &Known) -> Result<bool,
         if index.segments() == tree.segments && index.start_leaf(&view) != Some(tree.start) {
             return Ok(false);
         }
-        let Ok(bare) = build_bare(rt, alloc, &rows, &settings, workers, &NoGate) else {
-            return Err(Fail::new("no memory for the bare tree"));
-        };
-        if !has_leaves(&bare, tree) || bare.has_means() || bare.has_codes() {
-            return Ok(false);
-        }
+    }
+    let Ok(bare) = build_bare(rt, alloc, &rows, &settings, 2, &NoGate) else {
+        return Err(Fail::new("no memory for the bare tree"));
+    };
+    if !has_leaves(&bare, tree) || bare.has_means() || bare.has_codes() {
+        return Ok(false);
     }
     let Ok(alone) = build_alone(alloc, &rows, &settings) else {
         return Err(Fail::new("no memory for the tree"));
