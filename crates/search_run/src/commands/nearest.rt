@@ -27,7 +27,7 @@ use certificate::print;
 use command_words::{Options, Text};
 use outside::{Files, Gate, NoMemory, Sink};
 use query_core::Outcome;
-use series_core::Flat;
+use series_core::{Flat, Rows};
 use std::alloc::Global;
 use std::thread::Threads;
 

@@ -15,6 +15,7 @@ use crate::output::pieces::write_pieces;
 use crate::status::{Status, Which};
 use crate::tree::Tree;
 use outside::{Files, Gate, NoMemory, Sink};
+use series_core::Rows;
 use series_file::Loaded;
 use std::thread::Threads;
 
