@@ -1,6 +1,6 @@
 //! Scanning a leaf: a member is passed over by its means, or else by the codes of its row, or else measured; and a whole leaf by the box
-//! of its means. A row that is passed over is not read. Of an index without these, a leaf is passed over by its word, or else each of its
-//! members is measured.
+//! of its means. Of an index without these, a leaf is passed over by its word, and a member by its full word, or else measured. A row that
+//! is passed over is not read.
 ghost use Rattle.std.specs.Prelude.{All, ◌≡◌, ◌+◌, ◌*◌, ◌<◌, ◌≤◌, false, length, take, drop, slice_index};
 ghost use Rattle.series_core.specs.Distance.{squared_distance};
 ghost use Rattle.subtree_build.specs.Means.{all_means, codes_of_member, means_of};
@@ -34,7 +34,7 @@ impl<'a, R: Rows> Search<'a, R> {
             let codes = index.leaf_codes(leaf);
             self.task.scan_members(members, means, codes, limit, list)
         } else {
-            self.task.measure_members(members, limit, list)
+            self.task.scan_by_words(members, limit, list)
         }
     }
 
@@ -136,6 +136,35 @@ impl<'a, R: Rows> Task<'a, R> {
             let own = codes_at_place(codes, blocks, i);
             let near = self.may_be_within(member, &means[i], own, &most);
             most = self.measure_near(near, member, limit, most, list);
+        }
+    }
+
+    // Scans members with this limit into a list: one is passed over by its full word, or else measured.
+    fn scan_by_words(&self, members: &[Member], limit: u64, list: &mut KBest)
+        requires members { All (IsMemberOf self.now) members.now }
+        requires k { list.old.k ≡ self.now.k }
+        ensures k { list.new.k ≡ self.now.k }
+        ensures pairs { AreScanned self.now limit (numbers_of members.now) list.old.pairs list.new.pairs }
+    {
+        let mut most = most_to_add(limit, list);
+        for position in 0..members.len() {
+            let member = &members[position];
+            most = self.measure_by_word(member, limit, most, list);
+        }
+    }
+
+    // Adds the member's pair where neither the bound of its full word nor its distance is above `most`, and tells what is then the most.
+    #[inline(always)]
+    fn measure_by_word(&self, member: &Member, limit: u64, most: u64, list: &mut KBest) -> u64
+        requires member { IsMemberOf self.now member.now }
+        requires list { MayAdd self.now limit list.old most }
+        ensures list { MayAdd self.now limit list.new result }
+        ensures pairs { IsScannedOne self.now limit member.now.number list.old.pairs list.new.pairs }
+    {
+        if self.view().bound_full(&member.full) <= most {
+            self.measure(member.number, limit, most, list)
+        } else {
+            most
         }
     }
 

@@ -37,8 +37,8 @@ returns-then-has_tables-clause-pairs g c =
     c.leaf_members-members.ensures
     c.scan_members.ensures.pairs)
 
-pub measure_members-requires-clause-members : goal.measure_members-requires-clause-members
-measure_members-requires-clause-members g c =
+pub scan_by_words-requires-clause-members : goal.scan_by_words-requires-clause-members
+scan_by_words-requires-clause-members g c =
     let a = c.self.inside.task.now in
     subst (λ (ms : List Member). All (IsMemberOf a) ms) (sym c.leaf_members-members.ensures)
     (leaf_is_members a c.self.inside.index.now c.args.leaf c.self.invariant
@@ -47,9 +47,9 @@ measure_members-requires-clause-members g c =
 pub returns-else-has_tables-clause-pairs : goal.returns-else-has_tables-clause-pairs
 returns-else-has_tables-clause-pairs g c =
     subst (λ (s : Searched). AreScanned s.question c.args.limit (leaf_series s.index c.args.leaf) c.args.list.now.pairs
-    c.measure_members.new.list.pairs)
+    c.scan_by_words.new.list.pairs)
     c.self.view_is
     (subst (λ (ms : List Member). AreScanned c.self.inside.task.now c.args.limit (numbers_of ms) c.args.list.now.pairs
-    c.measure_members.new.list.pairs)
+    c.scan_by_words.new.list.pairs)
     c.leaf_members-members.ensures
-    c.measure_members.ensures.pairs)
+    c.scan_by_words.ensures.pairs)
