@@ -40,3 +40,4 @@ pub mod Assembled
 pub mod MemberCodes
 pub mod LeafSteps
 pub mod BareTrees
+pub mod OwnWords

@@ -1,15 +1,18 @@
 -- Parts that make an index, and the index that they make.
-use Rattle.std.specs.Prelude.{◌≡◌, ℕ, ◌+◌, ◌^◌, ◌<◌, ◌≤◌, true, false, List, [], ◌∷◌, ◌++◌, length, map, Some, None, slice_get, slice_index}
+use Rattle.std.specs.Prelude.{◌≡◌, ℕ, ◌+◌, ◌^◌, ◌<◌, ◌≤◌, true, false, List, [], ◌∷◌, ◌++◌, length, map, take, drop, Some, None, slice_get, slice_index}
 use Rattle.std.specs.List.{All, range_with_len, flat_map}
 use Rattle.std.specs.List.Sorted.{IsStrictlyIncreasing}
+use Rattle.list_totals.specs.Totals.{total}
 use Rattle.series_core.specs.Collection.{Collection}
 use Rattle.isax_word.specs.declared.layout.Layout.{Layout}
 use Rattle.isax_word.specs.declared.member.Member.{Member}
 use Rattle.isax_word.specs.declared.word.Part.{Part}
 use Rattle.isax_word.specs.Word.{child_word, one_bit_word}
+use Rattle.subtree_build.specs.declared.leaf.GrownLeaf.{GrownLeaf}
 use Rattle.subtree_build.specs.declared.leaf.TreeLeaf.{TreeLeaf}
 use Rattle.subtree_build.specs.declared.node.Node.{Node}
 use Rattle.subtree_build.specs.Division.{leaf_with}
+use Rattle.subtree_build.specs.Grown.{grown_leaf}
 use Rattle.subtree_build.specs.Index.{IndexParts, IsSplit}
 use Rattle.subtree_build.specs.Means.{leaf_means, leaf_codes}
 use Rattle.subtree_build.specs.Outline.{outline, leaf_numbers}
@@ -76,6 +79,21 @@ abbrev pub leaves_with : List (List Part) → List (List Member) → List TreeLe
 leaves_with [] lists = []
 leaves_with (word ∷ words) [] = []
 leaves_with (word ∷ words) (members ∷ lists) = leaf_with word members ∷ leaves_with words lists
+
+-- leaves of words and numbers of members, one of each for each leaf
+abbrev pub counted_leaves : List (List Part) → List ℕ → List GrownLeaf
+counted_leaves [] counts = []
+counted_leaves (word ∷ words) [] = []
+counted_leaves (word ∷ words) (count ∷ counts) = grown_leaf word count ∷ counted_leaves words counts
+
+-- the members of each leaf, of members in a row and of how many of them each leaf has
+abbrev pub cut_lists : List ℕ → List Member → List (List Member)
+cut_lists [] members = []
+cut_lists (count ∷ counts) members = take count members ∷ cut_lists counts (drop count members)
+
+-- leaves that have so many members each have `members` together
+abbrev pub AddUp : List ℕ → ℕ → Type 0
+AddUp counts members = total (λ n. n) counts ≡ members
 
 -- the same tree, with the means and the codes of the series of a collection
 pub record HasMeansOf (c : Collection) (layout : Layout) (before after : IndexParts) : Type 0 where

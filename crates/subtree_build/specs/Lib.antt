@@ -7,6 +7,7 @@ pub mod NextBits
 pub mod Division
 pub mod Outline
 pub mod Index
+pub mod FullWords
 pub mod Means
 pub mod Fits
 pub mod Start

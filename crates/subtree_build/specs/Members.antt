@@ -2,11 +2,17 @@
 use Rattle.std.specs.Prelude.{◌≡◌, ℕ, ◌≤◌, ℤ, length, All, List, [], ◌∷◌, slice_index_or, nat_lt, cond, map}
 use Rattle.list_totals.specs.Totals.{times}
 use Rattle.series_core.specs.Collection.{Collection}
+use Rattle.isax_word.specs.declared.layout.Layout.{Layout}
 use Rattle.isax_word.specs.declared.member.Member.{Member}
+use Rattle.summary_phase.specs.Members.{member_of}
 
 -- the series of a number, and no values where the collection has none of that number
 abbrev pub series_at : Collection → ℕ → List ℤ
 series_at c i = slice_index_or c.series i []
+
+-- a member with the full word of its series
+abbrev pub with_own_word : Collection → Layout → Member → Member
+with_own_word c layout m = member_of layout m.number (series_at c m.number)
 
 -- the numbers of members
 abbrev pub numbers_of : List Member → List ℕ

@@ -3,7 +3,7 @@
 ghost use Rattle.std.specs.Prelude.{◌≡◌, [], ◌*◌, ◌<◌, ◌≤◌, ◌^◌, ◌↔◌, All, IfOk, IsTrue, OnOk, IsErrOf, is_some, length, map, option_copied, option_map, take, drop, None, Some, slice_get, slice_index, slice_index_or};
 ghost use Rattle.std.specs.List.{flat_map};
 ghost use Rattle.mean_bound.specs.Boxes.{box_of, box_of_boxes};
-ghost use Rattle.subtree_build.specs.Assembly.{HasMeansOf, IsOfParts, MakeIndex};
+ghost use Rattle.subtree_build.specs.Assembly.{AddUp, HasMeansOf, IsOfParts, MakeIndex, cut_lists};
 ghost use Rattle.subtree_build.specs.BareTree.{HasSeries, IsBare, IsBareTreeOf, IsTreeBuilt, bare_parts};
 ghost use Rattle.subtree_build.specs.Fits.{Fits, FitsByTree, IsTreeOf};
 ghost use Rattle.subtree_build.specs.Index.{HasTables, IsIndex, IsTreeAlone, leaf_at, root_word_at};
@@ -14,8 +14,7 @@ ghost use Rattle.subtree_build.specs.declared.assembly.Assembly.TheVariants.{Par
 
 use crate::assembly::{Assembly, make_index};
 use crate::bare_tree::BareTree;
-use crate::leaf::MemberList;
-use crate::leaf_row::{Gathered, LeafWords, gather_leaves, words_below};
+use crate::leaf_row::{LeafWords, add_up, counted_leaves, words_below};
 use crate::node::Node;
 use crate::part::placed;
 use crate::room::Room;
@@ -134,54 +133,62 @@ impl Index {
         }
     }
 
-    /// The index of these parts, whose leaves are words by their nodes. Parts where they make no index, and only there. Nothing stands
-    /// beside its tree: `with_means` puts the tables there.
+    /// The index of these parts: leaves are words by their nodes, and each has the next so many of the members, which lie in a row. Parts
+    /// where they make no index or the counts do not add up to the members, and only there. Nothing stands beside its tree: `with_means`
+    /// puts the tables there.
     pub fn assemble(
         alloc: Global,
         segments: u32,
         roots: Vec<u32>,
         nodes: Vec<Node>,
-        leaves: Vec<MemberList>,
+        counts: Vec<u32>,
+        members: Vec<Member>,
     ) -> Result<Index, Assembly>
         requires some_segments { 1 ≤ segments }
         requires few_segments { segments ≤ 16 }
-        requires few_leaves { length leaves.items < 2 ^ 32 }
-        ensures parts { IfOk result (IsOfParts segments roots.items nodes.items leaves.items) }
-        ensures made { OnOk result (MakeIndex segments roots.items nodes.items (length leaves.items)) }
-        ensures refused { IsErrOf result Parts → ¬ MakeIndex segments roots.items nodes.items (length leaves.items) }
+        requires few_leaves { length counts.items < 2 ^ 32 }
+        ensures parts { IfOk result (IsOfParts segments roots.items nodes.items (cut_lists counts.items members.items)) }
+        ensures made { OnOk result (MakeIndex segments roots.items nodes.items (length counts.items)) }
+        ensures whole { OnOk result (AddUp counts.items (length members.items)) }
+        ensures refused { IsErrOf result Parts → MakeIndex segments roots.items nodes.items (length counts.items)
+            → ¬ AddUp counts.items (length members.items) }
     {
-        let count = leaves.len() as u32;
+        let count = counts.len() as u32;
         if !make_index(segments, roots.as_slice(), nodes.as_slice(), count) {
             return Err(Assembly::Parts);
         }
-        Ok(Index::of_parts(alloc, segments, roots, nodes, leaves)?)
+        if !add_up(counts.as_slice(), members.len()) {
+            return Err(Assembly::Parts);
+        }
+        Ok(Index::of_parts(alloc, segments, roots, nodes, counts, members)?)
     }
 
-    /// The index of parts that make one.
+    /// The index of parts that make one. An index has room for fewer than 2^32 members: more are out of its memory.
     fn of_parts(
         alloc: Global,
         segments: u32,
         roots: Vec<u32>,
         nodes: Vec<Node>,
-        leaves: Vec<MemberList>,
+        counts: Vec<u32>,
+        members: Vec<Member>,
     ) -> Result<Index, NoMemory>
         requires some_segments { 1 ≤ segments }
         requires few_segments { segments ≤ 16 }
-        requires few_leaves { length leaves.items < 2 ^ 32 }
-        requires made { MakeIndex segments roots.items nodes.items (length leaves.items) }
-        ensures { IfOk result (IsOfParts segments roots.items nodes.items leaves.items) }
+        requires few_leaves { length counts.items < 2 ^ 32 }
+        requires made { MakeIndex segments roots.items nodes.items (length counts.items) }
+        requires whole { AddUp counts.items (length members.items) }
+        ensures { IfOk result (IsOfParts segments roots.items nodes.items (cut_lists counts.items members.items)) }
     {
+        if members.len() > u32::MAX as usize {
+            return Err(NoMemory);
+        }
         let LeafWords { words, firsts } = words_below(
             alloc,
             segments,
             roots.as_slice(),
             nodes.as_slice(),
         )?;
-        let Gathered {
-            leaves: own,
-            members,
-        } = gather_leaves(alloc, words.as_slice(), leaves.as_slice())?;
-        drop(leaves);
+        let own = counted_leaves(alloc, words.as_slice(), counts.as_slice())?;
         let leaves = placed(alloc, own.as_slice())?;
         Ok(Index {
             tree: BareTree {

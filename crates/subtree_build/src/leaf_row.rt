@@ -1,13 +1,12 @@
-//! The leaves of an index that is put together: their words, which the nodes say, and their members in one row.
-ghost use Rattle.std.specs.Prelude.{◌≡◌, ◌+◌, ◌++◌, ◌^◌, ◌<◌, ◌≤◌, All, IfOk, OnOk, length, map};
-ghost use Rattle.subtree_build.specs.Assembly.{AllStand, CanStand, all_words, leaf_words, leaves_with};
-ghost use Rattle.subtree_build.specs.Grown.{cut_leaves, members_in};
+//! The leaves of an index that is put together: their words, which the nodes say, and how many members each has of those in a row.
+ghost use Rattle.std.specs.Prelude.{◌≡◌, ◌++◌, ◌^◌, ◌<◌, ◌≤◌, ◌↔◌, All, IfOk, IsTrue, OnOk, length, map};
+ghost use Rattle.subtree_build.specs.Assembly.{AddUp, AllStand, CanStand, all_words, counted_leaves, leaf_words};
 ghost use Rattle.subtree_build.specs.Outline.{outline};
 ghost use Rattle.subtree_build.specs.Places.{tree_firsts};
 
-use crate::leaf::{GrownLeaf, MemberList};
+use crate::leaf::GrownLeaf;
 use crate::node::Node;
-use isax_word::{Member, Word, child};
+use isax_word::{Word, child};
 use outside::NoMemory;
 use std::alloc::Global;
 
@@ -16,13 +15,6 @@ use std::alloc::Global;
 pub(crate) struct LeafWords {
     pub(crate) words: Vec<Word>,
     pub(crate) firsts: Vec<u32>,
-}
-
-/// The leaves by their words and numbers of members, and the members of all of them in a row.
-#[derive(Drop)]
-pub(crate) struct Gathered {
-    pub(crate) leaves: Vec<GrownLeaf>,
-    pub(crate) members: Vec<Member>,
 }
 
 /// Puts the words of the leaves below a node behind the others.
@@ -75,30 +67,36 @@ pub(crate) fn words_below(
     Ok(LeafWords { words, firsts })
 }
 
-/// The leaves of words and lists of members. An index has room for fewer than 2^32 members: more are out of its memory.
-pub(crate) fn gather_leaves(
+/// The leaves of words and numbers of members.
+pub(crate) fn counted_leaves(
     alloc: Global,
     words: &[Word],
-    lists: &[MemberList],
-) -> Result<Gathered, NoMemory>
-    requires { length words.now ≡ length lists.now }
-    ensures leaves { IfOk result (λ r. cut_leaves r.leaves.items r.members.items ≡ leaves_with words.now lists.now) }
-    ensures whole { IfOk result (λ r. members_in r.leaves.items ≡ length r.members.items) }
-    ensures few { IfOk result (λ r. length r.members.items < 2 ^ 32) }
+    counts: &[u32],
+) -> Result<Vec<GrownLeaf>, NoMemory>
+    requires { length words.now ≡ length counts.now }
+    ensures { IfOk result (λ leaves. leaves.items ≡ counted_leaves words.now counts.now) }
 {
-    let mut leaves = Vec::with_capacity(alloc, lists.len())?;
-    let mut members = Vec::new(alloc);
-    for i in 0..lists.len() {
-        let list = &lists[i];
-        let own = list.items.as_slice();
-        if own.len() > u32::MAX as usize - members.len() {
-            return Err(NoMemory);
-        }
+    let mut leaves = Vec::with_capacity(alloc, counts.len())?;
+    for i in 0..counts.len() {
         leaves.push(GrownLeaf {
             word: words[i],
-            count: own.len() as u32,
+            count: counts[i],
         })?;
-        members.extend_from_slice(own)?;
     }
-    Ok(Gathered { leaves, members })
+    Ok(leaves)
+}
+
+/// Whether leaves that have so many members each have `members` together.
+pub(crate) fn add_up(counts: &[u32], members: usize) -> bool
+    ensures { IsTrue result ↔ AddUp counts.now members }
+{
+    let mut left = members;
+    for i in 0..counts.len() {
+        let own = counts[i] as usize;
+        if own > left {
+            return false;
+        }
+        left -= own;
+    }
+    left == 0
 }

@@ -46,8 +46,8 @@ pub fn build<H: Threads + Sync, R: Rows + Sync, G: Gate + Sync>(
     Ok(Index::of_tree(rows, settings, bare, tables))
 }
 
-/// Builds the same tree with nothing beside it. That takes about half the time, and a search of it measures each member of a leaf whose
-/// word does not lie far.
+/// Builds the same tree with nothing beside it. That takes about half the time, and a search of it goes by words alone: it measures each
+/// member whose full word does not lie far.
 pub fn build_bare<H: Threads + Sync, R: Rows + Sync, G: Gate + Sync>(
     rt: &H,
     alloc: Global,

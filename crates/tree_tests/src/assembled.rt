@@ -8,7 +8,7 @@ use isax_word::{Full, Layout, Member};
 use segment_sums::Cuts;
 use std::alloc::Global;
 use std::test::Fail;
-use subtree_build::{Assembly, Index, MemberList, Node};
+use subtree_build::{Assembly, Index, Node};
 
 /// The worked collection: four series of four values.
 const ROWS: [[i16; 4]; 4] = [
@@ -19,7 +19,7 @@ const ROWS: [[i16; 4]; 4] = [
 ];
 
 /// The series of these numbers as members by two segments.
-fn listed(alloc: Global, numbers: &[u32]) -> Result<MemberList, Fail> {
+fn listed(alloc: Global, numbers: &[u32]) -> Result<Vec<Member>, Fail> {
     let layout = Layout {
         cuts: Cuts::new(4, 2),
         table: Table::Flat,
@@ -34,21 +34,17 @@ fn listed(alloc: Global, numbers: &[u32]) -> Result<MemberList, Fail> {
             full: Full::of(&layout, row),
         })?;
     }
-    Ok(MemberList { items })
+    Ok(items)
 }
 
 #[test]
 fn the_worked_parts(rt: HostRuntime) -> Result<(), Fail> {
     let alloc = rt.alloc();
-    let mut leaves = Vec::new(alloc);
-    leaves.push(listed(alloc, &[2])?)?;
-    leaves.push(listed(alloc, &[0, 1, 3])?)?;
-    if leaves.len() > 2 {
-        return Err(Fail::new("two leaves were listed"));
-    }
+    let counts = vec![in alloc; 1, 3]?;
+    let members = listed(alloc, &[2, 0, 1, 3])?;
     let roots = vec![in alloc; 0, 3]?;
     let nodes = vec![in alloc; Node::Leaf(0), Node::Leaf(1)]?;
-    let Ok(index) = Index::assemble(alloc, 2, roots, nodes, leaves) else {
+    let Ok(index) = Index::assemble(alloc, 2, roots, nodes, counts, members) else {
         return Err(Fail::new("the parts make an index"));
     };
     assert_same!(rt; index.leaf_count(), 2, "leaves");
@@ -84,15 +80,15 @@ fn pair(alloc: Global, low: u32, high: u32) -> Result<Node, Fail> {
 
 /// Whether root numbers of two segments, nodes and `count` empty leaves are refused.
 fn are_refused(alloc: Global, roots: &[u32], nodes: Vec<Node>, count: u32) -> Result<bool, Fail> {
-    let mut leaves = Vec::new(alloc);
+    let mut counts = Vec::new(alloc);
     for _ in 0..count {
-        leaves.push(listed(alloc, &[])?)?;
+        counts.push(0)?;
     }
-    if leaves.len() > 10 {
+    if counts.len() > 10 {
         return Err(Fail::new("that many leaves are not tried"));
     }
     let roots = roots.to_vec(alloc)?;
-    match Index::assemble(alloc, 2, roots, nodes, leaves) {
+    match Index::assemble(alloc, 2, roots, nodes, counts, Vec::new(alloc)) {
         Ok(index) if index.leaf_count() == count => Ok(false),
         Ok(_) => Err(Fail::new("another number of leaves")),
         Err(Assembly::Parts) => Ok(true),
@@ -118,6 +114,27 @@ fn parts_that_make_an_index(rt: HostRuntime) -> Result<(), Fail> {
     assert_same!(rt; are_refused(alloc, &[3], deep, 1)?, false, "eight bits in a segment");
     let both = vec![in alloc; pair(alloc, 0, 1)?, Node::Leaf(2)]?;
     assert_same!(rt; are_refused(alloc, &[0, 2], both, 3)?, false, "two children and a leaf");
+    Ok(())
+}
+
+/// Whether a leaf that is said to have so many members is refused where there are three.
+fn three_are_refused(alloc: Global, count: u32) -> Result<bool, Fail> {
+    let roots = vec![in alloc; 3]?;
+    let nodes = vec![in alloc; Node::Leaf(0)]?;
+    let counts = vec![in alloc; count]?;
+    match Index::assemble(alloc, 2, roots, nodes, counts, listed(alloc, &[0, 1, 3])?) {
+        Ok(_) => Ok(false),
+        Err(Assembly::Parts) => Ok(true),
+        Err(Assembly::NoMemory) => Err(Fail::new("no memory for the index")),
+    }
+}
+
+#[test]
+fn counts_add_up_to_the_members(rt: HostRuntime) -> Result<(), Fail> {
+    let alloc = rt.alloc();
+    assert_same!(rt; three_are_refused(alloc, 3)?, false, "three of three");
+    assert_same!(rt; three_are_refused(alloc, 2)?, true, "two of three");
+    assert_same!(rt; three_are_refused(alloc, 4)?, true, "four of three");
     Ok(())
 }
 

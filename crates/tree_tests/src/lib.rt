@@ -9,4 +9,6 @@ mod claims;
 #[cfg(test)]
 mod drawn;
 #[cfg(test)]
+mod full_words;
+#[cfg(test)]
 mod worked;
