@@ -10,9 +10,11 @@ pub mod Ascents
 pub mod Below
 pub mod Wording
 pub mod Weights
-mod Stretches
 pub mod Fitted
 pub mod Marks
+mod Stretches
+mod MemberRows
+mod Contained
 pub mod Loaded
 pub mod Refusals
 pub mod MakesIndex

@@ -78,6 +78,12 @@ module _ (c : Collection) (bytes : List ℕ) (r : Spelled) (each : (i : ℕ) →
       subst Lists (sym read.read.lists_are)
       (subst Count many (all_below s.header.segments s.header.count s.roots s.nodes is_text.sound.nodes))
 
+  -- so are those of a slice that shows them
+  pub slice_below : {lists : List (List ℕ)} → lists ≡ r.found.lists.items → All (AreBelow (length c.series)) lists
+  slice_below shown =
+      let Lists : List (List ℕ) → Type 0 = λ ls. All (AreBelow (length c.series)) ls in
+      subst Lists (sym shown) series_below
+
   -- an index was put together of the parts, with the settings of the header
   module _ (settings : Settings) (layout_is : settings.layout ≡ layout_for (header_of r.fields))
       (size_is : settings.leaf_size ≡ r.fields.leaf_size) (ix : IndexParts) (is : IsIndex ix)

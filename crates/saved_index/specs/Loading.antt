@@ -49,8 +49,8 @@ pub record IsSavedFor (c : Collection) (bytes : List ℕ) (r : Spelled) : Type 0
   pub points : r.fields.length ≡ c.points
   pub count : r.fields.count ≡ length c.series
 
--- What was read of bytes was put together, and no series of the collection is found that does not fit: only means and codes are wanted.
-pub record IsTested (c : Collection) (bytes : List ℕ) (loaded : LoadedIndex) : Type 0 where
+-- What was read of bytes was put together with the full words of the collection's series.
+pub record IsPutTogether (c : Collection) (bytes : List ℕ) (loaded : LoadedIndex) : Type 0 where
   pub spelled : Spelled
   pub saved : IsSavedFor c bytes spelled
   pub layout : loaded.settings.layout ≡ layout_for (header_of spelled.fields)
@@ -58,6 +58,10 @@ pub record IsTested (c : Collection) (bytes : List ℕ) (loaded : LoadedIndex) :
   pub is_index : IsIndex loaded.index
   pub parts : IsOfParts loaded.settings.layout.cuts.segments spelled.found.roots.items spelled.found.nodes.items
       (members_in_lists (words_of c loaded.settings.layout) spelled.found.lists.items) loaded.index
+
+-- And no series of the collection is found that does not fit: only means and codes are wanted.
+pub record IsTested (c : Collection) (bytes : List ℕ) (loaded : LoadedIndex) : Type 0 where
+  pub together : IsPutTogether c bytes loaded
   pub none_unfit : None ≡ first_unfit_of loaded.index.leaves (length c.series)
 
 -- The refusal is what bytes have against a collection, or want of memory.

@@ -1,13 +1,17 @@
 //! The test of the members against their series: each series is a member of exactly one leaf, once, and the leaf's word contains its
-//! full word. Each series has one mark, which rises to 1 where that is so and to 2 where it is not, and stays there.
-ghost use Rattle.std.specs.Prelude.{◌≡◌, ℕ, ◌+◌, ◌==◌, ◌<◌, ◌≤◌, not, find, min, IfOk, length, slice_index};
+//! full word. Each series has one mark, which rises to 1 where that is so and to 2 where it is not, and stays there. Workers side by side
+//! may test the words before, each those of a stretch of the leaves; the marks are then raised with no test of a word.
+ghost use Rattle.std.specs.Prelude.{◌≡◌, ℕ, ◌+◌, ◌==◌, ◌<◌, ◌≤◌, ◌↔◌, not, true, find, min, IfOk, IsTrue, length, slice_index};
 ghost use Rattle.std.specs.List.{All, range_with_len};
+ghost use Rattle.std.specs.Thread.{IsSync};
 ghost use Rattle.list_totals.specs.Totals.{total};
-ghost use Rattle.saved_index.specs.Membership.{first_unfit_of, weight, weight_for};
+ghost use Rattle.isax_word.specs.Word.{word_contains};
+ghost use Rattle.saved_index.specs.Membership.{AreContained, AreContainedBetween, ContainsAll, first_unfit_of, weight, weight_for};
 
 use isax_word::{Member, Word, contains};
 use outside::NoMemory;
 use std::alloc::Global;
+use std::thread::{Threads, join};
 use subtree_build::Index;
 
 /// The mark of a series that fits.
@@ -16,12 +20,88 @@ const FITS: u8 = 1;
 /// The mark of a series that has too many members, or one in a leaf that is not its own. No mark is greater.
 const MISFITS: u8 = 2;
 
-/// What a member of a leaf of this word adds to the mark of its series.
-fn weight(word: &Word, member: &Member) -> u8
-    requires { length word.now ≡ length member.now.full }
+/// Whether the word contains the full word of each member.
+fn contains_members(word: &Word, members: &[Member]) -> bool
+    requires { All (λ m. length word.now ≡ length m.full) members.now }
+    ensures { IsTrue result ↔ ContainsAll word.now members.now }
+{
+    for member in members {
+        if !contains(word, &member.full) {
+            return false;
+        }
+    }
+    true
+}
+
+/// Whether the word of each leaf from one number up to, but not including, another contains the full words of its members, as one worker
+/// in this thread tests them.
+pub(crate) fn contained_in_turn(index: &Index, from: u32, to: u32) -> bool
+    requires inside { to ≤ length index.now.leaves }
+    requires segments { All (λ x. All (λ m. length m.full ≡ index.now.segments) x.members) index.now.leaves }
+    ensures { IsTrue result ↔ AreContainedBetween index.now.leaves from to }
+{
+    // for the fact that it is an index
+    let _leaves = index.leaf_count();
+    for l in from..to {
+        if !contains_members(index.leaf_word(l), index.leaf_members(l)) {
+            return false;
+        }
+    }
+    true
+}
+
+/// The same by so many workers.
+#[cycle(contained)]
+pub(crate) fn contained_side_by_side<H: Threads + Sync>(
+    rt: &H,
+    index: &Index,
+    from: u32,
+    to: u32,
+    workers: u32,
+) -> bool
+    requires order { from ≤ to }
+    requires inside { to ≤ length index.now.leaves }
+    requires segments { All (λ x. All (λ m. length m.full ≡ index.now.segments) x.members) index.now.leaves }
+    ensures { IsTrue result ↔ AreContainedBetween index.now.leaves from to }
+{
+    if workers < 2 {
+        return contained_in_turn(index, from, to);
+    }
+    let half = workers / 2;
+    let rest = workers - half;
+    let mid = part_way(from, to, half, workers);
+    let front = || -> bool
+        requires { IsSync H.row × (from ≤ mid) × (mid ≤ length index.now.leaves)
+            × All (λ x. All (λ m. length m.full ≡ index.now.segments) x.members) index.now.leaves }
+        ensures { IsTrue result ↔ AreContainedBetween index.entry.now.leaves from mid }
+    { contained_side_by_side(rt, index, from, mid, half) };
+    let back = || -> bool
+        requires { IsSync H.row × (mid ≤ to) × (to ≤ length index.now.leaves)
+            × All (λ x. All (λ m. length m.full ≡ index.now.segments) x.members) index.now.leaves }
+        ensures { IsTrue result ↔ AreContainedBetween index.entry.now.leaves mid to }
+    { contained_side_by_side(rt, index, mid, to, rest) };
+    let (low, high) = join(rt, front, back);
+    low && high
+}
+
+/// The number that lies so many parts of `parts` of the way from one number to another.
+pub(crate) fn part_way(from: u32, to: u32, part: u32, parts: u32) -> u32
+    requires order { from ≤ to }
+    requires part { part ≤ parts }
+    ensures low { from ≤ result }
+    ensures high { result ≤ to }
+{
+    let way = u64::from(to - from) * u64::from(part) / u64::from(parts.max(1));
+    from + way as u32
+}
+
+/// What a member of a leaf of this word adds to the mark of its series. Where it is known to be contained, its full word is not looked at.
+fn weight(word: &Word, member: &Member, contained: bool) -> u8
+    requires segments { length word.now ≡ length member.now.full }
+    requires contained { IsTrue contained → word_contains word.now member.now.full ≡ true }
     ensures { result ≡ weight word.now member.now }
 {
-    if contains(word, &member.full) {
+    if contained || contains(word, &member.full) {
         FITS
     } else {
         MISFITS
@@ -29,17 +109,20 @@ fn weight(word: &Word, member: &Member) -> u8
 }
 
 /// Raises the marks of the series of these members, which lie in a leaf of this word.
-fn mark_members(word: &Word, members: &[Member], marks: &mut [u8])
+fn mark_members(word: &Word, members: &[Member], marks: &mut [u8], contained: bool)
     requires below { All (λ m. m.number < length marks.old) members.now }
     requires segments { All (λ m. length word.now ≡ length m.full) members.now }
     requires small { All (λ mark. mark ≤ 2) marks.old }
+    requires contained { IsTrue contained → ContainsAll word.now members.now }
     ensures len { length marks.new ≡ length marks.old }
     ensures each { (i : ℕ) → i < length marks.old → slice_index marks.new i
         ≡ min 2 (slice_index marks.old i + total (weight_for i word.now) members.now) }
 {
     for member in members {
         let mark = &mut marks[member.number as usize];
-        *mark = mark.saturating_add(weight(word, member)).min(MISFITS);
+        *mark = mark
+            .saturating_add(weight(word, member, contained))
+            .min(MISFITS);
     }
 }
 
@@ -57,10 +140,16 @@ fn first_misfit(marks: &[u8], count: u32) -> Option<u32>
 }
 
 /// The least number below the count of a series that is not a member of exactly one leaf, once, or whose full word that leaf's word does
-/// not contain.
-pub(crate) fn first_unfit(alloc: Global, index: &Index, count: u32) -> Result<Option<u32>, NoMemory>
+/// not contain. Where all are known to be contained, no full word is looked at.
+pub(crate) fn first_unfit(
+    alloc: Global,
+    index: &Index,
+    count: u32,
+    contained: bool,
+) -> Result<Option<u32>, NoMemory>
     requires below { All (λ x. All (λ m. m.number < count) x.members) index.now.leaves }
     requires segments { All (λ x. All (λ m. length m.full ≡ index.now.segments) x.members) index.now.leaves }
+    requires contained { IsTrue contained → AreContained index.now.leaves }
     ensures { IfOk result (λ found. found ≡ first_unfit_of index.now.leaves count) }
 {
     let mut marks = vec![in alloc; 0u8; count as usize]?;
@@ -69,6 +158,7 @@ pub(crate) fn first_unfit(alloc: Global, index: &Index, count: u32) -> Result<Op
             index.leaf_word(l),
             index.leaf_members(l),
             marks.as_mut_slice(),
+            contained,
         );
     }
     Ok(first_misfit(marks.as_slice(), count))

@@ -1,19 +1,17 @@
 //! Loading a saved index over a collection: nothing of its bytes is believed. What was read is tested against the rows, series by series,
 //! before it is handed out, and the first refusal in the order of `IndexFault` is given.
-ghost use Rattle.std.specs.Prelude.{◌≡◌, ◌≤◌, IfOk, IfErr, length};
+ghost use Rattle.std.specs.Prelude.{◌≡◌, ◌≤◌, IfOk, IfErr, IsTrue, length};
 ghost use Rattle.saved_index.specs.Faults.{layout_for};
 ghost use Rattle.saved_index.specs.Fields.{header_of};
 ghost use Rattle.saved_index.specs.IndexText.{CanSave};
-ghost use Rattle.saved_index.specs.Loading.{Explains, IsIndexFor, IsLoadedFor, IsSavedFor, IsTested, IsTextFor, Leaves, Loads, LoadsWhole, Refuses};
-ghost use Rattle.saved_index.specs.Membership.{words_of};
+ghost use Rattle.saved_index.specs.Loading.{Explains, IsIndexFor, IsLoadedFor, IsPutTogether, IsSavedFor, IsTested, IsTextFor, Leaves, Loads, LoadsWhole, Refuses};
+ghost use Rattle.saved_index.specs.Membership.{AreContained, HasMembersOf};
 
 use crate::error::IndexFault;
-use crate::fitting::first_unfit;
-use crate::members::assembled;
+use crate::fitting::{contained_side_by_side, first_unfit};
+use crate::members::{MemberRow, assembled, member_row, member_row_alone};
 use crate::reading::{Spelled, read_saved};
-use crate::words::{words_in_turn, words_side_by_side};
-use isax_word::Full;
-use outside::{AllError, Files, read_all};
+use outside::{AllError, Files, NoMemory, read_all};
 use search_limits::MOST_TEXT_BYTES;
 use series_core::Rows;
 use std::alloc::Global;
@@ -49,8 +47,8 @@ pub fn load<H: Threads + Sync, F: Files, R: Rows + Sync>(
     load_with(rt, alloc, files, rows, workers, true)
 }
 
-/// Loads as `load` does. Without `tables` nothing is made beside the tree: that takes less time, and a search measures each member of a leaf
-/// whose word does not lie far.
+/// Loads as `load` does. Without `tables` nothing is made beside the tree: that takes less time, and a search goes by words alone: it measures
+/// each member whose full word does not lie far.
 pub fn load_with<H: Threads + Sync, F: Files, R: Rows + Sync>(
     rt: &H,
     alloc: Global,
@@ -93,8 +91,10 @@ pub fn load_alone<R: Rows>(alloc: Global, bytes: &[u8], rows: &R) -> Result<Load
         Err(e) => return Err(e),
     };
     let settings = settings_of(bytes, rows, &read);
-    let words = words_in_turn(alloc, rows, &settings.layout, 0, rows.count())?;
-    let LoadedIndex { settings, index } = match tested(alloc, bytes, rows, read, words) {
+    let lists = read.found.lists.as_slice();
+    let row = member_row_alone(alloc, rows, &settings.layout, lists)?;
+    let loaded = put_together(alloc, bytes, rows, read, row)?;
+    let LoadedIndex { settings, index } = match tested(alloc, bytes, rows, loaded, false) {
         Ok(loaded) => loaded,
         Err(e) => return Err(e),
     };
@@ -122,8 +122,11 @@ pub(crate) fn load_bytes<H: Threads + Sync, R: Rows + Sync>(
         Err(e) => return Err(e),
     };
     let settings = settings_of(bytes, rows, &read);
-    let words = words_side_by_side(rt, alloc, rows, &settings.layout, 0, rows.count(), workers)?;
-    let loaded = match tested(alloc, bytes, rows, read, words) {
+    let lists = read.found.lists.as_slice();
+    let row = member_row(rt, alloc, rows, &settings.layout, lists, workers)?;
+    let loaded = put_together(alloc, bytes, rows, read, row)?;
+    let contained = are_contained(rt, bytes, rows, &loaded, workers);
+    let loaded = match tested(alloc, bytes, rows, loaded, contained) {
         Ok(loaded) => loaded,
         Err(e) => return Err(e),
     };
@@ -147,28 +150,61 @@ fn settings_of<R: Rows>(bytes: &[u8], rows: &R, read: &Spelled) -> Settings
     read.fields.settings()
 }
 
-/// What was read of the bytes, put together with the full words of all series and tested against these. It has no means yet.
-fn tested<R: Rows>(
+/// What was read of the bytes, put together with members of its numbers that have the full words of their series. It has no means yet.
+fn put_together<R: Rows>(
     alloc: Global,
     bytes: &[u8],
     rows: &R,
     read: Spelled,
-    words: Vec<Full>,
-) -> Result<LoadedIndex, IndexFault>
+    row: MemberRow,
+) -> Result<LoadedIndex, NoMemory>
     requires short { length bytes.now ≤ MOST_TEXT_BYTES }
     requires read { IsSavedFor (R.collection rows.now) bytes.now read }
-    requires words { words.items ≡ words_of (R.collection rows.now) (layout_for (header_of read.fields)) }
+    requires row { HasMembersOf (R.collection rows.now) (layout_for (header_of read.fields)) read.found.lists.items row }
+    ensures { IfOk result (IsPutTogether (R.collection rows.now) bytes.now) }
+{
+    let settings = settings_of(bytes, rows, &read);
+    let index = assembled(alloc, rows, &settings.layout, read.found, row)?;
+    // for the fact that it is an index
+    let _leaves = index.leaf_count();
+    Ok(LoadedIndex { settings, index })
+}
+
+/// Whether the word of each leaf contains the full words of its members, which so many workers look at.
+fn are_contained<H: Threads + Sync, R: Rows>(
+    rt: &H,
+    bytes: &[u8],
+    rows: &R,
+    loaded: &LoadedIndex,
+    workers: u32,
+) -> bool
+    requires { IsPutTogether (R.collection rows.now) bytes.now loaded.now }
+    ensures { IsTrue result → AreContained loaded.now.index.leaves }
+{
+    let _ = bytes;
+    let _ = rows;
+    contained_side_by_side(rt, &loaded.index, 0, loaded.index.leaf_count(), workers)
+}
+
+/// What was put together, where each series fits. Where the leaves' words are known to contain all members, no full word is looked at.
+fn tested<R: Rows>(
+    alloc: Global,
+    bytes: &[u8],
+    rows: &R,
+    loaded: LoadedIndex,
+    contained: bool,
+) -> Result<LoadedIndex, IndexFault>
+    requires short { length bytes.now ≤ MOST_TEXT_BYTES }
+    requires together { IsPutTogether (R.collection rows.now) bytes.now loaded }
+    requires contained { IsTrue contained → AreContained loaded.index.leaves }
     ensures tested { IfOk result (IsTested (R.collection rows.now) bytes.now) }
     ensures refused { IfErr result (Refuses (R.collection rows.now) bytes.now) }
 {
-    let settings = settings_of(bytes, rows, &read);
-    let index = assembled(alloc, settings.layout.cuts.segments(), words, read.found)?;
-    // for the fact that it is an index
-    let _leaves = index.leaf_count();
-    if let Some(number) = first_unfit(alloc, &index, rows.count())? {
+    let _ = bytes;
+    if let Some(number) = first_unfit(alloc, &loaded.index, rows.count(), contained)? {
         return Err(IndexFault::Unfit(number));
     }
-    Ok(LoadedIndex { settings, index })
+    Ok(loaded)
 }
 
 /// What the bytes are the text of, where that is an index over series of these rows' length and count.

@@ -1,17 +1,20 @@
-//! The full words of all series, by number. They are made once a series, in the order of the rows, by workers side by side, each for a
-//! stretch of the series.
-ghost use Rattle.std.specs.Prelude.{◌≡◌, ◌≤◌, IfOk};
+//! The full words of all series, by number, and of members, by theirs. Words are made once a series, in the order of the rows, by workers
+//! side by side, each for a stretch of the series; and workers give them to members, each to a stretch of these.
+ghost use Rattle.std.specs.Prelude.{◌≡◌, ◌^◌, ◌<◌, ◌≤◌, All, IfOk, OnOk, length, map};
 ghost use Rattle.std.specs.Thread.{IsSync};
-ghost use Rattle.saved_index.specs.Membership.{IsStretch, words_between};
+ghost use Rattle.subtree_build.specs.FullWords.{CanHaveWords};
+ghost use Rattle.subtree_build.specs.Members.{with_own_word};
+ghost use Rattle.saved_index.specs.Membership.{IsStretch, with_word_of, words_between};
 
-use isax_word::{Full, Layout};
+use crate::fitting::part_way;
+use isax_word::{Full, Layout, Member};
 use outside::NoMemory;
 use series_core::Rows;
 use std::alloc::Global;
-use std::thread::{Threads, join};
+use std::thread::{Threads, join, join_mut};
 
 /// The full words of the series from one number up to, but not including, another, by one worker in this thread.
-pub(crate) fn words_in_turn<R: Rows>(
+fn words_in_turn<R: Rows>(
     alloc: Global,
     rows: &R,
     layout: &Layout,
@@ -32,7 +35,7 @@ pub(crate) fn words_in_turn<R: Rows>(
 
 /// The same by so many workers.
 #[cycle(words)]
-pub(crate) fn words_side_by_side<H: Threads + Sync, R: Rows + Sync>(
+fn words_side_by_side<H: Threads + Sync, R: Rows + Sync>(
     rt: &H,
     alloc: Global,
     rows: &R,
@@ -65,13 +68,72 @@ pub(crate) fn words_side_by_side<H: Threads + Sync, R: Rows + Sync>(
     Ok(words)
 }
 
-/// The number that lies so many parts of `parts` of the way from one number to another.
-fn part_way(from: u32, to: u32, part: u32, parts: u32) -> u32
-    requires order { from ≤ to }
-    requires part { part ≤ parts }
-    ensures low { from ≤ result }
-    ensures high { result ≤ to }
+/// Gives each member the full word of its series, which so many workers make in the order of the rows.
+pub(crate) fn give_own_words<H: Threads + Sync, R: Rows + Sync>(
+    rt: &H,
+    alloc: Global,
+    rows: &R,
+    layout: &Layout,
+    members: &mut [Member],
+    workers: u32,
+) -> Result<(), NoMemory>
+    requires { CanHaveWords (R.collection rows.now) layout.now members.old }
+    ensures { OnOk result (members.new ≡ map (with_own_word (R.collection rows.now) layout.now) members.old) }
 {
-    let way = u64::from(to - from) * u64::from(part) / u64::from(parts.max(1));
-    from + way as u32
+    let words = words_side_by_side(rt, alloc, rows, layout, 0, rows.count(), workers)?;
+    give_words(rt, words.as_slice(), members, workers);
+    Ok(())
+}
+
+/// The same by one worker, in the caller's thread.
+pub(crate) fn give_own_words_alone<R: Rows>(
+    alloc: Global,
+    rows: &R,
+    layout: &Layout,
+    members: &mut [Member],
+) -> Result<(), NoMemory>
+    requires { CanHaveWords (R.collection rows.now) layout.now members.old }
+    ensures { OnOk result (members.new ≡ map (with_own_word (R.collection rows.now) layout.now) members.old) }
+{
+    let words = words_in_turn(alloc, rows, layout, 0, rows.count())?;
+    give_words_in_turn(words.as_slice(), members);
+    Ok(())
+}
+
+/// Gives each member the word that has its number, by so many workers.
+#[cycle(given)]
+fn give_words<H: Threads + Sync>(rt: &H, words: &[Full], members: &mut [Member], workers: u32)
+    requires below { All (λ m. m.number < length words.now) members.old }
+    requires few { length members.old < 2 ^ 32 }
+    ensures { members.new ≡ map (with_word_of words.now) members.old }
+{
+    if workers < 2 {
+        give_words_in_turn(words, members);
+        return;
+    }
+    let half = workers / 2;
+    let rest = workers - half;
+    let mid = members.len() * half as usize / workers as usize;
+    let (low, high) = members.split_at_mut(mid);
+    let mut front = ||
+        requires { IsSync H.row × All (λ m. m.number < length words.now) low.now × (length low.now < 2 ^ 32) }
+        ensures { low.exit.now ≡ map (with_word_of words.entry.now) low.entry.now }
+    { give_words(rt, words, low, half) };
+    let mut back = ||
+        requires { IsSync H.row × All (λ m. m.number < length words.now) high.now × (length high.now < 2 ^ 32) }
+        ensures { high.exit.now ≡ map (with_word_of words.entry.now) high.entry.now }
+    { give_words(rt, words, high, rest) };
+    join_mut(rt, &mut front, &mut back);
+}
+
+/// The same by one worker, in the caller's thread.
+fn give_words_in_turn(words: &[Full], members: &mut [Member])
+    requires { All (λ m. m.number < length words.now) members.old }
+    ensures { members.new ≡ map (with_word_of words.now) members.old }
+{
+    for i in 0..members.len() {
+        let number = members[i].number;
+        let full = words[number as usize];
+        members[i] = Member { number, full };
+    }
 }

@@ -166,6 +166,33 @@ fn texts_are_loaded_and_saved_again(rt: HostRuntime) -> Result<(), Fail> {
     Ok(())
 }
 
+/// 30 series of 64 values that jump about.
+fn long(alloc: Global) -> Result<Flat, Fail>
+    ensures { IfOk result (λ rows. rows.points ≡ 64) }
+{
+    let mut values = Vec::new(alloc);
+    for i in 0..1920u32 {
+        values.push((i.wrapping_mul(2654435761) % 30001) as i16 - 15000)?;
+    }
+    if values.len() != 1920 {
+        return Err(Fail::new("not 1920 values"));
+    }
+    Ok(Flat::from_values(64, values))
+}
+
+// The words of long rows are made in the order of the rows, those of short ones in the order of the members.
+#[test]
+fn texts_are_loaded_over_long_rows(rt: HostRuntime) -> Result<(), Fail> {
+    let alloc = rt.alloc();
+    let rows = long(alloc)?;
+    for leaf_size in [1, 4] {
+        let bytes = text_by(&rt, alloc, &rows, Cuts::new(64, 4), 30, leaf_size)?;
+        let again = back(&rt, alloc, &rows, 30, bytes.as_slice())?;
+        assert_same!(rt; again.as_slice(), bytes.as_slice(), "leaves of {leaf_size}");
+    }
+    Ok(())
+}
+
 /// The text of the tree of (0,0), (0,20000) and (300,0) by two segments, in leaves of one: below the one split that takes (0,20000) off,
 /// eleven more part the other two.
 const THREE_POINTS: [u8; 79] = [

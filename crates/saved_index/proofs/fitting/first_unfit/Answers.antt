@@ -1,27 +1,20 @@
 -- The members of the next leaf raise the marks of their series.
-use Rattle.std.proofs.Common.{◌≡◌, ℕ, ◌+◌, ◌<◌, List, length, take, drop, ◌++◌, min, get_or, sym, ap, ◌∙◌, subst, refl, arith, All}
+use Rattle.std.proofs.Common.{◌≡◌, ℕ, ◌+◌, ◌<◌, List, length, take, drop, ◌++◌, min, get_or, sym, ap, ◌∙◌, refl, arith}
 use Rattle.std.proofs.lemmas.List.{take_all}
 use Rattle.list_totals.specs.Totals.{total}
 use Rattle.isax_word.specs.declared.member.Member.{Member}
 use Rattle.isax_word.specs.declared.word.Part.{Part}
-use Rattle.subtree_build.specs.Index.{leaf_at, no_leaf}
-use Rattle.subtree_build.proofs.LeafWords.{leaf_has_segments}
+use Rattle.subtree_build.specs.Index.{leaf_at}
 use Rattle.subtree_build.proofs.Meaning.{written_over}
 use Rattle.saved_index.specs.Membership.{leaf_weight, weight_for}
+use Rattle.saved_index.proofs.Contained.{as_many_parts}
 use Rattle.saved_index.proofs.Marks.{first_marked, leaf_more}
 use Rattle.saved_index.proofs.fitting.first_unfit.Goals as goal
 
 pub mark_members-requires-clause-segments : goal.mark_members-requires-clause-segments
 mark_members-requires-clause-segments c =
-    let ix = c.args.index.now in
-    let l = c.loop-l.l in
-    let low : l < length ix.leaves = omega arith in
-    let Long : List Member → Type 0 = λ ms. All (λ m. length m.full ≡ ix.segments) ms in
-    let long = subst Long (sym c.leaf_members.ensures) (c.requires.segments l no_leaf low) in
-    let word : length c.leaf_word.result.now ≡ ix.segments
-    = ap (λ (w : List Part). length w) c.leaf_word.ensures
-    ∙ leaf_has_segments ix c.leaf_count-l-end.ensures.is_index l low in
-    λ k d inside. word ∙ sym (long k d inside)
+    as_many_parts c.args.index.now c.loop-l.l c.leaf_word.result.now c.leaf_members.result.now c.leaf_count-l-end.ensures.is_index
+    c.requires.segments (omega arith) c.leaf_word.ensures c.leaf_members.ensures
 
 pub loop-l-preserved : goal.loop-l-preserved
 loop-l-preserved c =
