@@ -40,4 +40,3 @@ pub mod Assembled
 pub mod MemberCodes
 pub mod LeafSteps
 pub mod BareTrees
-pub mod OwnWords

@@ -7,7 +7,6 @@ pub mod NextBits
 pub mod Division
 pub mod Outline
 pub mod Index
-pub mod FullWords
 pub mod Means
 pub mod Fits
 pub mod Start
@@ -18,6 +17,7 @@ pub mod Splicing
 pub mod Building
 pub mod Assembly
 pub mod BareTree
+pub mod Frame
 pub use Rattle.breakpoints.specs.Breakpoint
 pub use Rattle.segment_sums.specs.Division as CutDivision
 pub use Rattle.segment_sums.specs.Sum

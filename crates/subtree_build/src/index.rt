@@ -1,22 +1,19 @@
 //! The index: a tree, and what stands beside it, if anything does: the means of its members with the boxes of the leaves' means, and the
 //! codes of the members' rows. The tree alone says what is found; the tables beside it tell a search what it need not read.
-ghost use Rattle.std.specs.Prelude.{◌≡◌, [], ◌*◌, ◌<◌, ◌≤◌, ◌^◌, ◌↔◌, All, IfOk, IsTrue, OnOk, IsErrOf, is_some, length, map, option_copied, option_map, take, drop, None, Some, slice_get, slice_index, slice_index_or};
+ghost use Rattle.std.specs.Prelude.{◌≡◌, ◌≢◌, [], ◌*◌, ◌<◌, ◌≤◌, ◌^◌, ◌↔◌, All, IfNone, IfOk, IfSome, IsTrue, is_some, length, map, option_copied, option_map, take, drop, None, Some, slice_get, slice_index, slice_index_or};
 ghost use Rattle.std.specs.List.{flat_map};
 ghost use Rattle.mean_bound.specs.Boxes.{box_of, box_of_boxes};
-ghost use Rattle.subtree_build.specs.Assembly.{AddUp, HasMeansOf, IsOfParts, MakeIndex, cut_lists};
+ghost use Rattle.subtree_build.specs.Assembly.{HasMeansOf, IsOfParts, cut_lists};
 ghost use Rattle.subtree_build.specs.BareTree.{HasSeries, IsBare, IsBareTreeOf, IsTreeBuilt, bare_parts};
 ghost use Rattle.subtree_build.specs.Fits.{Fits, FitsByTree, IsTreeOf};
 ghost use Rattle.subtree_build.specs.Index.{HasTables, IsIndex, IsTreeAlone, leaf_at, root_word_at};
 ghost use Rattle.subtree_build.specs.Means.{codes_at, means_at};
 ghost use Rattle.subtree_build.specs.Places.{AreTablesOf, IsPlace, IsRange};
 ghost use Rattle.subtree_build.specs.Start.{node_at};
-ghost use Rattle.subtree_build.specs.declared.assembly.Assembly.TheVariants.{Parts};
 
-use crate::assembly::{Assembly, make_index};
 use crate::bare_tree::BareTree;
-use crate::leaf_row::{LeafWords, add_up, counted_leaves, words_below};
+use crate::frame::Frame;
 use crate::node::Node;
-use crate::part::placed;
 use crate::room::Room;
 use crate::settings::Settings;
 use crate::tables::{CodeTable, MeanTable, Tables, tables_alone, tables_of};
@@ -133,70 +130,22 @@ impl Index {
         }
     }
 
-    /// The index of these parts: leaves are words by their nodes, and each has the next so many of the members, which lie in a row. Parts
-    /// where they make no index or the counts do not add up to the members, and only there. Nothing stands beside its tree: `with_means`
-    /// puts the tables there.
-    pub fn assemble(
-        alloc: Global,
-        segments: u32,
-        roots: Vec<u32>,
-        nodes: Vec<Node>,
-        counts: Vec<u32>,
-        members: Vec<Member>,
-    ) -> Result<Index, Assembly>
-        requires some_segments { 1 ≤ segments }
-        requires few_segments { segments ≤ 16 }
-        requires few_leaves { length counts.items < 2 ^ 32 }
-        ensures parts { IfOk result (IsOfParts segments roots.items nodes.items (cut_lists counts.items members.items)) }
-        ensures made { OnOk result (MakeIndex segments roots.items nodes.items (length counts.items)) }
-        ensures whole { OnOk result (AddUp counts.items (length members.items)) }
-        ensures refused { IsErrOf result Parts → MakeIndex segments roots.items nodes.items (length counts.items)
-            → ¬ AddUp counts.items (length members.items) }
+    /// The index of a frame and its members, in the order of its leaves: each leaf has the next so many of them. None where there are not as many
+    /// as the frame has places for, and only there. Nothing stands beside its tree: `with_means` puts the tables there.
+    pub fn of_frame(frame: Frame, members: Vec<Member>) -> Option<Index>
+        ensures parts { IfSome result (IsOfParts frame.segments frame.roots frame.nodes (cut_lists frame.counts members.items)) }
+        ensures none { IfNone result (length members.items ≢ frame.members) }
     {
-        let count = counts.len() as u32;
-        if !make_index(segments, roots.as_slice(), nodes.as_slice(), count) {
-            return Err(Assembly::Parts);
+        if members.len() != frame.members as usize {
+            return None;
         }
-        if !add_up(counts.as_slice(), members.len()) {
-            return Err(Assembly::Parts);
-        }
-        Ok(Index::of_parts(alloc, segments, roots, nodes, counts, members)?)
-    }
-
-    /// The index of parts that make one. An index has room for fewer than 2^32 members: more are out of its memory.
-    fn of_parts(
-        alloc: Global,
-        segments: u32,
-        roots: Vec<u32>,
-        nodes: Vec<Node>,
-        counts: Vec<u32>,
-        members: Vec<Member>,
-    ) -> Result<Index, NoMemory>
-        requires some_segments { 1 ≤ segments }
-        requires few_segments { segments ≤ 16 }
-        requires few_leaves { length counts.items < 2 ^ 32 }
-        requires made { MakeIndex segments roots.items nodes.items (length counts.items) }
-        requires whole { AddUp counts.items (length members.items) }
-        ensures { IfOk result (IsOfParts segments roots.items nodes.items (cut_lists counts.items members.items)) }
-    {
-        if members.len() > u32::MAX as usize {
-            return Err(NoMemory);
-        }
-        let LeafWords { words, firsts } = words_below(
-            alloc,
-            segments,
-            roots.as_slice(),
-            nodes.as_slice(),
-        )?;
-        let own = counted_leaves(alloc, words.as_slice(), counts.as_slice())?;
-        let leaves = placed(alloc, own.as_slice())?;
-        Ok(Index {
+        Some(Index {
             tree: BareTree {
-                segments,
-                roots,
-                nodes,
-                firsts,
-                leaves,
+                segments: frame.segments,
+                roots: frame.roots,
+                nodes: frame.nodes,
+                firsts: frame.firsts,
+                leaves: frame.leaves,
                 members,
             },
             mean_table: None,

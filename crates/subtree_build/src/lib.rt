@@ -6,7 +6,7 @@ mod bare_tree;
 mod boxes;
 mod building;
 mod fetched;
-mod full_words;
+mod frame;
 mod index;
 mod laws;
 mod leaf;
@@ -27,7 +27,7 @@ mod tables;
 
 pub use assembly::Assembly;
 pub use boxes::{GROUP, WIDE_GROUP};
-pub use full_words::{put_full_words, put_full_words_alone};
+pub use frame::Frame;
 pub use index::Index;
 pub use laws::{bare_tree_fits, leaf_bound_is_below_distances, leaf_bound_is_no_less};
 pub use leaf::{MemberList, TreeLeaf};

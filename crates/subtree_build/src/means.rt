@@ -35,7 +35,8 @@ impl<'a, R: Rows> Source<'a, R> {
     }
 }
 
-/// Puts the means and the codes of members at their places, by so many workers, each for a stretch of members.
+/// Puts the means and the codes of members at their places, by so many workers, each for a stretch of members. This thread starts all others,
+/// one after another: none waits until another was started.
 #[cycle(stretches)]
 pub(crate) fn fill<H: Threads + Sync, R: Rows + Sync>(
     rt: &H,
@@ -54,18 +55,20 @@ pub(crate) fn fill<H: Threads + Sync, R: Rows + Sync>(
         fill_in_turn(source, members, &mut block, means, codes);
         return;
     }
-    let half = workers / 2;
-    let rest = workers - half;
-    let mid = members.len() * half as usize / workers as usize;
+    let rest = workers - 1;
+    let mid = members.len() / workers as usize;
     let (low, high) = members.split_at(mid);
     let (low_means, high_means) = means.split_at_mut(mid);
     let (low_codes, high_codes) = codes.split_at_mut(mid * block_count(source.coded) as usize);
     let mut front = ||
-        requires { IsSync H.row × IsSync R.row × HavePlaces (R.collection source.now.rows.now) source.now.layout.now
+        requires { IsSync R.row × HavePlaces (R.collection source.now.rows.now) source.now.layout.now
             source.now.coded low.now low_means.now low_codes.now }
         ensures { AreFilled (R.collection source.entry.now.rows.now) source.entry.now.layout.now
             low.entry.now low_means.exit.now low_codes.exit.now }
-    { fill(rt, source, low, half, low_means, low_codes) };
+    {
+        let mut block = [0; FETCHED];
+        fill_in_turn(source, low, &mut block, low_means, low_codes);
+    };
     let mut back = ||
         requires { IsSync H.row × IsSync R.row × HavePlaces (R.collection source.now.rows.now) source.now.layout.now
             source.now.coded high.now high_means.now high_codes.now }

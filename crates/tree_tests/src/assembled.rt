@@ -1,4 +1,4 @@
-//! Indexes put together from parts: the worked one, and parts that make none.
+//! Indexes put together of frames and members: the worked one, parts that make no frame, and members that a frame has no place for.
 ghost use Rattle.std.specs.Prelude.{◌≤◌};
 
 use crate::claims::assert_same;
@@ -8,7 +8,7 @@ use isax_word::{Full, Layout, Member};
 use segment_sums::Cuts;
 use std::alloc::Global;
 use std::test::Fail;
-use subtree_build::{Assembly, Index, Node};
+use subtree_build::{Assembly, Frame, Index, Node};
 
 /// The worked collection: four series of four values.
 const ROWS: [[i16; 4]; 4] = [
@@ -44,8 +44,11 @@ fn the_worked_parts(rt: HostRuntime) -> Result<(), Fail> {
     let members = listed(alloc, &[2, 0, 1, 3])?;
     let roots = vec![in alloc; 0, 3]?;
     let nodes = vec![in alloc; Node::Leaf(0), Node::Leaf(1)]?;
-    let Ok(index) = Index::assemble(alloc, 2, roots, nodes, counts, members) else {
-        return Err(Fail::new("the parts make an index"));
+    let Ok(frame) = Frame::of(alloc, 2, roots, nodes, counts, 4) else {
+        return Err(Fail::new("the parts make a frame"));
+    };
+    let Some(index) = Index::of_frame(frame, members) else {
+        return Err(Fail::new("the frame and its members make an index"));
     };
     assert_same!(rt; index.leaf_count(), 2, "leaves");
     assert_same!(rt; index.root_count(), 2, "root children");
@@ -88,11 +91,18 @@ fn are_refused(alloc: Global, roots: &[u32], nodes: Vec<Node>, count: u32) -> Re
         return Err(Fail::new("that many leaves are not tried"));
     }
     let roots = roots.to_vec(alloc)?;
-    match Index::assemble(alloc, 2, roots, nodes, counts, Vec::new(alloc)) {
-        Ok(index) if index.leaf_count() == count => Ok(false),
-        Ok(_) => Err(Fail::new("another number of leaves")),
+    match Frame::of(alloc, 2, roots, nodes, counts, 0) {
+        Ok(frame) => {
+            let Some(index) = Index::of_frame(frame, Vec::new(alloc)) else {
+                return Err(Fail::new("a frame of no members refuses none"));
+            };
+            if index.leaf_count() != count {
+                return Err(Fail::new("another number of leaves"));
+            }
+            Ok(false)
+        }
         Err(Assembly::Parts) => Ok(true),
-        Err(Assembly::NoMemory) => Err(Fail::new("no memory for the index")),
+        Err(Assembly::NoMemory) => Err(Fail::new("no memory for the frame")),
     }
 }
 
@@ -117,24 +127,41 @@ fn parts_that_make_an_index(rt: HostRuntime) -> Result<(), Fail> {
     Ok(())
 }
 
-/// Whether a leaf that is said to have so many members is refused where there are three.
-fn three_are_refused(alloc: Global, count: u32) -> Result<bool, Fail> {
+/// The frame of one leaf that is said to have `count` of `members` members; None where it is refused.
+fn one_leaf(alloc: Global, count: u32, members: u32) -> Result<Option<Frame>, Fail> {
     let roots = vec![in alloc; 3]?;
     let nodes = vec![in alloc; Node::Leaf(0)]?;
     let counts = vec![in alloc; count]?;
-    match Index::assemble(alloc, 2, roots, nodes, counts, listed(alloc, &[0, 1, 3])?) {
-        Ok(_) => Ok(false),
-        Err(Assembly::Parts) => Ok(true),
-        Err(Assembly::NoMemory) => Err(Fail::new("no memory for the index")),
+    match Frame::of(alloc, 2, roots, nodes, counts, members) {
+        Ok(frame) => Ok(Some(frame)),
+        Err(Assembly::Parts) => Ok(None),
+        Err(Assembly::NoMemory) => Err(Fail::new("no memory for the frame")),
     }
 }
 
 #[test]
 fn counts_add_up_to_the_members(rt: HostRuntime) -> Result<(), Fail> {
     let alloc = rt.alloc();
-    assert_same!(rt; three_are_refused(alloc, 3)?, false, "three of three");
-    assert_same!(rt; three_are_refused(alloc, 2)?, true, "two of three");
-    assert_same!(rt; three_are_refused(alloc, 4)?, true, "four of three");
+    assert_same!(rt; one_leaf(alloc, 3, 3)?.is_some(), true, "three of three");
+    assert_same!(rt; one_leaf(alloc, 2, 3)?.is_some(), false, "two of three");
+    assert_same!(rt; one_leaf(alloc, 4, 3)?.is_some(), false, "four of three");
+    Ok(())
+}
+
+/// Whether a frame of one leaf with three members makes an index of the series of these numbers.
+fn three_are(alloc: Global, numbers: &[u32]) -> Result<bool, Fail> {
+    let Some(frame) = one_leaf(alloc, 3, 3)? else {
+        return Err(Fail::new("the parts make a frame"));
+    };
+    Ok(Index::of_frame(frame, listed(alloc, numbers)?).is_some())
+}
+
+#[test]
+fn a_frame_takes_as_many_members(rt: HostRuntime) -> Result<(), Fail> {
+    let alloc = rt.alloc();
+    assert_same!(rt; three_are(alloc, &[0, 1, 3])?, true, "as many");
+    assert_same!(rt; three_are(alloc, &[0, 1])?, false, "one too few");
+    assert_same!(rt; three_are(alloc, &[0, 1, 2, 3])?, false, "one too many");
     Ok(())
 }
 

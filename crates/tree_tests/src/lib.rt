@@ -9,6 +9,5 @@ mod claims;
 #[cfg(test)]
 mod drawn;
 #[cfg(test)]
-mod full_words;
 #[cfg(test)]
 mod worked;
