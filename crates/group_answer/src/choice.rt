@@ -83,7 +83,7 @@ fn are_few<R: Rows>(
     near.saturating_mul(SHARE_OF) <= members.saturating_mul(share)
 }
 
-// Whether a test leaves the member at a place of a leaf near.
+// Whether a test leaves the member at a place of a leaf near. Of a member without means its own full word tells.
 fn is_near<R: Rows>(
     search: &Search<'_, R>,
     test: Test,
@@ -94,10 +94,14 @@ fn is_near<R: Rows>(
     requires leaf { leaf < length search.now.index.leaves }
     requires place { place < length (leaf_series search.now.index leaf) }
 {
+    let index = search.index();
     match test {
-        Test::Means => match search.index().leaf_means(leaf).get(place) {
+        Test::Means => match index.leaf_means(leaf).get(place) {
             Some(means) => search.task().means().bound(means) <= limit.limit(),
-            None => search.leaf_bound(leaf) <= limit.limit(),
+            None => {
+                let member = &index.leaf_members(leaf)[place];
+                search.view().bound_full(&member.full) <= limit.limit()
+            }
         },
         Test::Codes => search.codes_may_be_within(leaf, place, limit),
     }

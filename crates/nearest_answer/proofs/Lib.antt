@@ -10,3 +10,4 @@ mod TeamLists
 mod ListedLeaves
 mod Drawing
 pub mod Hiring
+pub mod FullWords

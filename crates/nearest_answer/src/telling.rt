@@ -1,5 +1,5 @@
 //! What tells members apart for a limit, as a sample of leaves shows it: their means, the codes of their rows alone, or nothing.
-//! A wrong guess costs time, and never changes what is found.
+//! Of an index without means the full words of the members stand in for them. A wrong guess costs time, and never changes what is found.
 ghost use Rattle.std.specs.Prelude.{◌<◌, length};
 ghost use Rattle.search_task.specs.Questions.{leaf_series};
 
@@ -74,7 +74,7 @@ fn sample_of<R: Rows>(search: &Search<'_, R>, limit: u64, each: usize) -> Sample
     sample
 }
 
-// The sample with one more member, that at a place of a leaf. Of a member without means its leaf's word tells.
+// The sample with one more member, that at a place of a leaf. Of a member without means its own full word tells.
 fn with_member<R: Rows>(
     search: &Search<'_, R>,
     sample: Sample,
@@ -85,9 +85,13 @@ fn with_member<R: Rows>(
     requires leaf { leaf < length search.now.index.leaves }
     requires place { place < length (leaf_series search.now.index leaf) }
 {
-    let near = match search.index().leaf_means(leaf).get(place) {
+    let index = search.index();
+    let near = match index.leaf_means(leaf).get(place) {
         Some(means) => search.task().means().bound(means) <= limit.limit(),
-        None => search.leaf_bound(leaf) <= limit.limit(),
+        None => {
+            let member = &index.leaf_members(leaf)[place];
+            search.view().bound_full(&member.full) <= limit.limit()
+        }
     };
     let left = near && search.codes_may_be_within(leaf, place, limit);
     Sample {
