@@ -1,4 +1,4 @@
--- Members that get the full words of their series one after another (`own_step`), and those that have none yet (`own_there`).
+-- Members that get their words one after another: one member more (`own_step`, `own_word`), and those that have none yet (`own_there`).
 use Rattle.std.proofs.Common.{◌≡◌, ◌∙◌, ℕ, zero, suc, ◌+◌, ◌<◌, List, [], ◌∷◌, ◌++◌, length, map, take, drop, get_or, slice_set, refl, ap, arith}
 use Rattle.series_core.specs.Collection.{Collection}
 use Rattle.isax_word.specs.declared.layout.Layout.{Layout}

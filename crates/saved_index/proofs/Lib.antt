@@ -12,7 +12,9 @@ pub mod Wording
 pub mod Weights
 pub mod Fitted
 pub mod Marks
-mod Stretches
+mod InTurn
+mod ByNumber
+mod Beside
 mod MemberRows
 mod Contained
 pub mod Loaded
@@ -25,3 +27,5 @@ pub mod NoFault
 pub mod TextTold
 pub mod LoadsBack
 pub mod Tested
+pub mod Apart
+pub mod Once

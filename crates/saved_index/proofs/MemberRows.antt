@@ -1,10 +1,9 @@
 -- Members in a row by their numbers: one more (`number_put`), those of one list more (`list_put`); and what lists of members are cut from: the row of all of
--- them (`cut_back`), which their lengths add up to (`lengths_add_up`).
-use Rattle.std.proofs.Common.{◌≡◌, ◌∙◌, ℕ, ◌+◌, ◌<◌, List, [], ◌∷◌, ◌++◌, length, map, take, drop, get_or, refl, sym, ap, subst, arith, append_assoc, append-nil, length-append, All}
+-- them (`row_cut`), which their lengths add up to (`row_adds_up`).
+use Rattle.std.proofs.Common.{◌≡◌, ◌∙◌, ℕ, ◌+◌, ◌<◌, List, [], ◌∷◌, ◌++◌, length, map, take, drop, get_or, refl, sym, ap, subst, arith, append_assoc, append-nil, length-append}
 use Rattle.std.specs.Prelude.{flat_map}
 use Rattle.std.proofs.lemmas.Grind.{flat_map-append}
-use Rattle.std.proofs.lemmas.List.{drop_at, get_or-map, get_or_default, length-map, map-append, take_at, take_more}
-use Rattle.std.proofs.lemmas.List.Elements.{All-head, All-tail}
+use Rattle.std.proofs.lemmas.List.{drop_at, get_or-map, length-map, map-append, take_at, take_more}
 use Rattle.series_core.specs.Collection.{Collection}
 use Rattle.isax_word.specs.declared.layout.Layout.{Layout}
 use Rattle.isax_word.specs.declared.member.Member.{Member}
@@ -12,7 +11,7 @@ use Rattle.isax_word.specs.FullWord.{full_word}
 use Rattle.subtree_build.specs.Assembly.{AddUp, cut_lists}
 use Rattle.subtree_build.specs.Members.{with_own_word}
 use Rattle.saved_index.specs.declared.members.MemberRow.{MemberRow}
-use Rattle.saved_index.specs.Membership.{HasMembersOf, all_members, members_in_lists, with_word, with_word_of, words_of}
+use Rattle.saved_index.specs.Membership.{IsRowFor, all_members, members_in_lists, with_word, words_of}
 
 module _ (c : Collection) (layout : Layout) where
   -- a member of a number gets the word that has this number
@@ -21,16 +20,6 @@ module _ (c : Collection) (layout : Layout) where
   own_of_number n word low =
       ap (λ (full : List ℕ). let m : Member = record { number = n; full = full } in m)
       (sym (get_or-map (full_word layout) c.series n [] [] low))
-
-  -- members that are given the words by their numbers get their own
-  pub own_by_number : (ms : List Member) → All (λ (m : Member). m.number < length c.series) ms
-      → map (with_word_of (words_of c layout)) ms ≡ map (with_own_word c layout) ms
-  own_by_number [] are = refl
-  own_by_number (m ∷ ms) are =
-      let rest = map (with_word_of (words_of c layout)) ms in
-      ap (λ (x : Member). x ∷ rest) (sym (own_of_number m.number m.full (All-head (λ (x : Member). x.number < length c.series) m ms are)))
-      ∙ ap (λ (xs : List Member). with_own_word c layout m ∷ xs)
-      (own_by_number ms (All-tail (λ (x : Member). x.number < length c.series) m ms are))
 
   -- one member more
   pub number_put : (old now new : List Member) (numbers : List ℕ) (i n : ℕ) (word : List ℕ) → i < length numbers
@@ -64,12 +53,6 @@ module _ (c : Collection) (layout : Layout) where
       ∙ sym (flat_map-append of (take i lists) (numbers ∷ []))
       ∙ ap (flat_map of) (ap (λ (ns : List ℕ). take i lists ++ ns ∷ []) item ∙ sym (take_more lists i numbers inside))
 
--- members of a slice that shows lists, by a layout of another name
-pub row_for : (c : Collection) (layout asked : Layout) (shown lists : List (List ℕ)) (r : MemberRow) → layout ≡ asked → shown ≡ lists
-    → HasMembersOf c layout shown r → HasMembersOf c asked lists r
-row_for c layout asked shown lists r same are has =
-    subst (λ (l : Layout). HasMembersOf c l lists r) same (subst (λ (ls : List (List ℕ)). HasMembersOf c layout ls r) are has)
-
 -- lists of members are as long as those of their numbers
 pub same_lengths : (words lists : List (List ℕ))
     → map (λ (ns : List ℕ). length ns) lists ≡ map (λ (ms : List Member). length ms) (members_in_lists words lists)
@@ -101,35 +84,27 @@ lengths_add_up [] = refl
 lengths_add_up (ms ∷ lists) =
     omega (arith, length-append ms (flat_map (λ (xs : List Member). xs) lists), lengths_add_up lists)
 
-module _ (c : Collection) (layout : Layout) (lists : List (List ℕ)) (r : MemberRow) (has : HasMembersOf c layout lists r) where
-  row_counts : r.counts.items ≡ map (λ (ms : List Member). length ms) (members_in_lists (words_of c layout) lists)
-  row_counts = has.counts ∙ same_lengths (words_of c layout) lists
+-- the row of the members of lists is cut into these by how many each has
+pub row_cut : (words lists : List (List ℕ)) (members : List Member) → members ≡ all_members words lists
+    → cut_lists (map (λ (ns : List ℕ). length ns) lists) members ≡ members_in_lists words lists
+row_cut words lists members are =
+    ap (λ (ns : List ℕ). cut_lists ns members) (same_lengths words lists)
+    ∙ ap (cut_lists (map (λ (ms : List Member). length ms) (members_in_lists words lists))) (are ∙ in_a_row words lists)
+    ∙ cut_back (members_in_lists words lists)
 
-  row_members : r.members.items ≡ flat_map (λ (ms : List Member). ms) (members_in_lists (words_of c layout) lists)
-  row_members = has.members ∙ in_a_row (words_of c layout) lists
-
-  -- the row of the members of lists is cut into these
-  pub row_cut : cut_lists r.counts.items r.members.items ≡ members_in_lists (words_of c layout) lists
-  row_cut =
-      ap (λ (ns : List ℕ). cut_lists ns r.members.items) row_counts
-      ∙ ap (cut_lists (map (λ (ms : List Member). length ms) (members_in_lists (words_of c layout) lists))) row_members
-      ∙ cut_back (members_in_lists (words_of c layout) lists)
-
-  -- its counts add up to all members
+module _ (c : Collection) (layout : Layout) (lists : List (List ℕ)) (r : MemberRow) (is : IsRowFor c layout lists r) where
+  -- the counts of members in a row add up to all of them
   pub row_adds_up : AddUp r.counts.items (length r.members.items)
   row_adds_up =
-      let all = members_in_lists (words_of c layout) lists in
-      subst (λ (ms : List Member). AddUp r.counts.items (length ms)) (sym row_members)
-      (subst (λ (ns : List ℕ). AddUp ns (length (flat_map (λ (ms : List Member). ms) all))) (sym row_counts) (lengths_add_up all))
+      let words = words_of c layout in
+      let all = members_in_lists words lists in
+      let own = with_own_word c layout in
+      let many : length (flat_map (λ (ms : List Member). ms) all) ≡ length r.members.items
+      = ap (λ (ms : List Member). length ms) (sym (is.own ∙ in_a_row words lists)) ∙ length-map r.members.items own in
+      let counts : map (λ (ms : List Member). length ms) all ≡ r.counts.items = sym (is.counts ∙ same_lengths words lists) in
+      subst (AddUp r.counts.items) many
+      (subst (λ (ns : List ℕ). AddUp ns (length (flat_map (λ (ms : List Member). ms) all))) counts (lengths_add_up all))
 
   -- and are as many as the lists
   pub row_long : length r.counts.items ≡ length lists
-  row_long = ap (λ (ns : List ℕ). length ns) has.counts ∙ length-map lists (λ (ns : List ℕ). length ns)
-
--- a member of a number with the word that has it
-pub given_word : (words : List (List ℕ)) (m : Member) (n : ℕ) (full : List ℕ) → n ≡ m.number → m.number < length words
-    → full ≡ get_or words n full → record { number = n; full = full } ≡ with_word_of words m
-given_word words m n full same inside is =
-    let low : n < length words = omega (arith, same, inside) in
-    ap (λ (w : List ℕ). let x : Member = record { number = n; full = w } in x) (is ∙ get_or_default words n full [] low)
-    ∙ ap (with_word words) same
+  row_long = ap (λ (ns : List ℕ). length ns) is.counts ∙ length-map lists (λ (ns : List ℕ). length ns)

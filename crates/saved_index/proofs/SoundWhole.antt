@@ -97,6 +97,12 @@ whole_sound h (Some p) s is = ending p.1 refl is
           ap (λ (x : Saved). x.header) (sym saved),
         )
 
+-- what bytes are read as has the header with which they begin
+pub header_told : (bytes : List ℕ) (s : Saved) → saved_in bytes ≡ Some s → s.header ≡ header_at bytes
+header_told bytes s is =
+    let h = header_at bytes in
+    (whole_sound h (roots_behind h bytes) s (if_some (has_header bytes) (whole h (roots_behind h bytes)) s is).1).1
+
 -- what bytes are read as has them as its text
 pub saved_sound : (bytes : List ℕ) (s : Saved) → AreBytes bytes → saved_in bytes ≡ Some s → IsTextOf bytes s
 saved_sound bytes s each is =

@@ -8,3 +8,5 @@ pub mod Laws
 pub mod Parsed
 pub mod Loading
 pub mod Membership
+pub mod Words
+pub mod Framing

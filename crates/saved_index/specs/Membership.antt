@@ -1,5 +1,5 @@
 -- Members of leaves: how they are made of numbers, and what they count for the series of a number.
-use Rattle.std.specs.Prelude.{◌≡◌, ◌<◌, ◌≤◌, ℕ, true, ◌-◌, ◌*◌, ◌==◌, not, List, [], length, map, take, drop, flat_map, slice_index_or, Bool, Option, find, if◌then◌else◌}
+use Rattle.std.specs.Prelude.{◌≡◌, ◌^◌, ◌<◌, ◌≤◌, ℕ, true, ◌-◌, ◌*◌, ◌==◌, not, List, [], length, map, take, drop, flat_map, slice_index_or, Bool, Option, find, if◌then◌else◌}
 use Rattle.std.specs.List.{All, range_with_len}
 use Rattle.list_totals.specs.Totals.{total, one_if_same}
 use Rattle.series_core.specs.Collection.{Collection}
@@ -9,7 +9,6 @@ use Rattle.isax_word.specs.declared.word.Part.{Part}
 use Rattle.isax_word.specs.FullWord.{full_word}
 use Rattle.isax_word.specs.Word.{word_contains}
 use Rattle.subtree_build.specs.declared.leaf.TreeLeaf.{TreeLeaf}
-use Rattle.subtree_build.specs.FullWords.{CanHaveWords}
 use Rattle.subtree_build.specs.Fits.{WordContainsMembers}
 use Rattle.subtree_build.specs.Index.{leaf_at}
 use Rattle.subtree_build.specs.Members.{with_own_word}
@@ -33,10 +32,6 @@ pub record IsStretch (c : Collection) (layout : Layout) (from to : ℕ) : Type 0
 abbrev pub with_word : List (List ℕ) → ℕ → Member
 with_word words n = record { number = n; full = slice_index_or words n [] }
 
--- a member with the full word that has its number
-abbrev pub with_word_of : List (List ℕ) → Member → Member
-with_word_of words m = with_word words m.number
-
 -- the members of numbers, list by list
 abbrev pub members_in_lists : List (List ℕ) → List (List ℕ) → List (List Member)
 members_in_lists words lists = map (λ numbers. map (with_word words) numbers) lists
@@ -57,16 +52,18 @@ AreContained leaves = All WordContainsMembers leaves
 abbrev pub AreContainedBetween : List TreeLeaf → ℕ → ℕ → Type 0
 AreContainedBetween leaves from to = (l : ℕ) → from ≤ l → l < to → WordContainsMembers (leaf_at leaves l)
 
+-- members that full words can be made for: each is a series of a collection whose length is that of the layout, and an index has room for
+-- them
+pub record CanHaveWords (c : Collection) (layout : Layout) (members : List Member) : Type 0 where
+  pub row_length : layout.cuts.row_length ≡ c.points
+  pub series : All (λ m. m.number < length c.series) members
+  pub few : length members < 2 ^ 32
+
 -- members in a row that are those of lists as soon as each has the full word of its series
 pub record IsRowFor (c : Collection) (layout : Layout) (lists : List (List ℕ)) (r : MemberRow) : Type 0 where
   pub counts : r.counts.items ≡ map (λ numbers. length numbers) lists
   pub own : map (with_own_word c layout) r.members.items ≡ all_members (words_of c layout) lists
   pub can : CanHaveWords c layout r.members.items
-
--- the members of lists in a row, each with the full word of its series
-pub record HasMembersOf (c : Collection) (layout : Layout) (lists : List (List ℕ)) (r : MemberRow) : Type 0 where
-  pub counts : r.counts.items ≡ map (λ numbers. length numbers) lists
-  pub members : r.members.items ≡ all_members (words_of c layout) lists
 
 -- what a member of a leaf of this word weighs: 1 where the word contains its full word, and else 2
 abbrev pub weight : List Part → Member → ℕ

@@ -1,12 +1,12 @@
 //! The test of the members against their series: each series is a member of exactly one leaf, once, and the leaf's word contains its
 //! full word. Each series has one mark, which rises to 1 where that is so and to 2 where it is not, and stays there. Workers side by side
-//! may test the words before, each those of a stretch of the leaves; the marks are then raised with no test of a word.
-ghost use Rattle.std.specs.Prelude.{◌≡◌, ℕ, ◌+◌, ◌==◌, ◌<◌, ◌≤◌, ◌↔◌, not, true, find, min, IfOk, IsTrue, length, slice_index};
+//! may test the words before, each those of a stretch of the leaves: where all are contained and there are as many members as series, no
+//! mark is made.
+ghost use Rattle.std.specs.Prelude.{◌≡◌, ℕ, ◌+◌, ◌==◌, ◌<◌, ◌≤◌, ◌↔◌, not, find, min, IfOk, IsTrue, length, slice_index};
 ghost use Rattle.std.specs.List.{All, range_with_len};
 ghost use Rattle.std.specs.Thread.{IsSync};
 ghost use Rattle.list_totals.specs.Totals.{total};
-ghost use Rattle.isax_word.specs.Word.{word_contains};
-ghost use Rattle.saved_index.specs.Membership.{AreContained, AreContainedBetween, ContainsAll, first_unfit_of, weight, weight_for};
+ghost use Rattle.saved_index.specs.Membership.{AreContainedBetween, ContainsAll, first_unfit_of, weight, weight_for};
 
 use isax_word::{Member, Word, contains};
 use outside::NoMemory;
@@ -95,13 +95,12 @@ pub(crate) fn part_way(from: u32, to: u32, part: u32, parts: u32) -> u32
     from + way as u32
 }
 
-/// What a member of a leaf of this word adds to the mark of its series. Where it is known to be contained, its full word is not looked at.
-fn weight(word: &Word, member: &Member, contained: bool) -> u8
+/// What a member of a leaf of this word adds to the mark of its series.
+fn weight(word: &Word, member: &Member) -> u8
     requires segments { length word.now ≡ length member.now.full }
-    requires contained { IsTrue contained → word_contains word.now member.now.full ≡ true }
     ensures { result ≡ weight word.now member.now }
 {
-    if contained || contains(word, &member.full) {
+    if contains(word, &member.full) {
         FITS
     } else {
         MISFITS
@@ -109,20 +108,17 @@ fn weight(word: &Word, member: &Member, contained: bool) -> u8
 }
 
 /// Raises the marks of the series of these members, which lie in a leaf of this word.
-fn mark_members(word: &Word, members: &[Member], marks: &mut [u8], contained: bool)
+fn mark_members(word: &Word, members: &[Member], marks: &mut [u8])
     requires below { All (λ m. m.number < length marks.old) members.now }
     requires segments { All (λ m. length word.now ≡ length m.full) members.now }
     requires small { All (λ mark. mark ≤ 2) marks.old }
-    requires contained { IsTrue contained → ContainsAll word.now members.now }
     ensures len { length marks.new ≡ length marks.old }
     ensures each { (i : ℕ) → i < length marks.old → slice_index marks.new i
         ≡ min 2 (slice_index marks.old i + total (weight_for i word.now) members.now) }
 {
     for member in members {
         let mark = &mut marks[member.number as usize];
-        *mark = mark
-            .saturating_add(weight(word, member, contained))
-            .min(MISFITS);
+        *mark = mark.saturating_add(weight(word, member)).min(MISFITS);
     }
 }
 
@@ -140,16 +136,10 @@ fn first_misfit(marks: &[u8], count: u32) -> Option<u32>
 }
 
 /// The least number below the count of a series that is not a member of exactly one leaf, once, or whose full word that leaf's word does
-/// not contain. Where all are known to be contained, no full word is looked at.
-pub(crate) fn first_unfit(
-    alloc: Global,
-    index: &Index,
-    count: u32,
-    contained: bool,
-) -> Result<Option<u32>, NoMemory>
+/// not contain.
+pub(crate) fn first_unfit(alloc: Global, index: &Index, count: u32) -> Result<Option<u32>, NoMemory>
     requires below { All (λ x. All (λ m. m.number < count) x.members) index.now.leaves }
     requires segments { All (λ x. All (λ m. length m.full ≡ index.now.segments) x.members) index.now.leaves }
-    requires contained { IsTrue contained → AreContained index.now.leaves }
     ensures { IfOk result (λ found. found ≡ first_unfit_of index.now.leaves count) }
 {
     let mut marks = vec![in alloc; 0u8; count as usize]?;
@@ -158,7 +148,6 @@ pub(crate) fn first_unfit(
             index.leaf_word(l),
             index.leaf_members(l),
             marks.as_mut_slice(),
-            contained,
         );
     }
     Ok(first_misfit(marks.as_slice(), count))

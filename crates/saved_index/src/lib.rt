@@ -3,6 +3,7 @@
 
 mod error;
 mod fitting;
+mod framing;
 mod header;
 mod laws;
 mod loading;

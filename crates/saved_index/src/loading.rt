@@ -1,21 +1,23 @@
 //! Loading a saved index over a collection: nothing of its bytes is believed. What was read is tested against the rows, series by series,
 //! before it is handed out, and the first refusal in the order of `IndexFault` is given.
 ghost use Rattle.std.specs.Prelude.{◌≡◌, ◌≤◌, IfOk, IfErr, IsTrue, length};
-ghost use Rattle.saved_index.specs.Faults.{layout_for};
-ghost use Rattle.saved_index.specs.Fields.{header_of};
+ghost use Rattle.std.specs.Thread.{IsSync};
+ghost use Rattle.saved_index.specs.Framing.{IsFramed, IsWorded};
 ghost use Rattle.saved_index.specs.IndexText.{CanSave};
-ghost use Rattle.saved_index.specs.Loading.{Explains, IsIndexFor, IsLoadedFor, IsPutTogether, IsSavedFor, IsTested, IsTextFor, Leaves, Loads, LoadsWhole, Refuses};
-ghost use Rattle.saved_index.specs.Membership.{AreContained, HasMembersOf};
+ghost use Rattle.saved_index.specs.Loading.{Explains, IsIndexFor, IsLoadedFor, IsPutTogether, IsTested, IsTextFor, Leaves, Loads, LoadsWhole, Refuses};
+ghost use Rattle.saved_index.specs.Membership.{AreContained};
+ghost use Rattle.saved_index.specs.Words.{HasWords};
 
 use crate::error::IndexFault;
 use crate::fitting::{contained_side_by_side, first_unfit};
-use crate::members::{MemberRow, assembled, member_row, member_row_alone};
-use crate::reading::{Spelled, read_saved};
+use crate::framing::{Framed, layout_at, put_together, read_framed};
+use crate::words::{SeriesWords, give_words, give_words_in_turn, words_alone, words_for};
+use isax_word::Layout;
 use outside::{AllError, Files, NoMemory, read_all};
 use search_limits::MOST_TEXT_BYTES;
 use series_core::Rows;
 use std::alloc::Global;
-use std::thread::Threads;
+use std::thread::{Threads, join};
 use subtree_build::{Index, Settings};
 
 /// What was loaded: an index, and the settings that it was saved with.
@@ -86,14 +88,11 @@ pub fn load_alone<R: Rows>(alloc: Global, bytes: &[u8], rows: &R) -> Result<Load
     if bytes.len() as u64 > MOST_TEXT_BYTES {
         return Err(IndexFault::TooLong);
     }
-    let read = match read_for(alloc, bytes, rows) {
-        Ok(read) => read,
+    let framed = match worded_alone(alloc, bytes, rows) {
+        Ok(framed) => framed,
         Err(e) => return Err(e),
     };
-    let settings = settings_of(bytes, rows, &read);
-    let lists = read.found.lists.as_slice();
-    let row = member_row_alone(alloc, rows, &settings.layout, lists)?;
-    let loaded = put_together(alloc, bytes, rows, read, row)?;
+    let loaded = put_together(bytes, rows, framed);
     let LoadedIndex { settings, index } = match tested(alloc, bytes, rows, loaded, false) {
         Ok(loaded) => loaded,
         Err(e) => return Err(e),
@@ -117,14 +116,11 @@ pub(crate) fn load_bytes<H: Threads + Sync, R: Rows + Sync>(
     ensures text { IfOk result (λ loaded. IsTextFor (R.collection rows.now) loaded bytes.now) }
     ensures refused { IfErr result (Refuses (R.collection rows.now) bytes.now) }
 {
-    let read = match read_for(alloc, bytes, rows) {
-        Ok(read) => read,
+    let framed = match worded(rt, alloc, bytes, rows, workers) {
+        Ok(framed) => framed,
         Err(e) => return Err(e),
     };
-    let settings = settings_of(bytes, rows, &read);
-    let lists = read.found.lists.as_slice();
-    let row = member_row(rt, alloc, rows, &settings.layout, lists, workers)?;
-    let loaded = put_together(alloc, bytes, rows, read, row)?;
+    let loaded = put_together(bytes, rows, framed);
     let contained = are_contained(rt, bytes, rows, &loaded, workers);
     let loaded = match tested(alloc, bytes, rows, loaded, contained) {
         Ok(loaded) => loaded,
@@ -138,36 +134,85 @@ pub(crate) fn load_bytes<H: Threads + Sync, R: Rows + Sync>(
     Ok(loaded)
 }
 
-/// The settings that what was read of the bytes was saved with, which are for series of the rows' length.
-fn settings_of<R: Rows>(bytes: &[u8], rows: &R, read: &Spelled) -> Settings
-    requires { IsSavedFor (R.collection rows.now) bytes.now read.now }
-    ensures layout { result.layout ≡ layout_for (header_of read.now.fields) }
-    ensures leaf_size { result.leaf_size ≡ read.now.fields.leaf_size }
-    ensures length { result.layout.cuts.row_length ≡ (R.collection rows.now).points }
-{
-    let _ = bytes;
-    let _ = rows;
-    read.fields.settings()
-}
-
-/// What was read of the bytes, put together with members of its numbers that have the full words of their series. It has no means yet.
-fn put_together<R: Rows>(
+/// What the bytes are framed as, with the full word of each member's series: the text is read in a thread of its own, while the other workers
+/// make the words of all series, by number; then all of them give these to the members.
+fn worded<H: Threads + Sync, R: Rows + Sync>(
+    rt: &H,
     alloc: Global,
     bytes: &[u8],
     rows: &R,
-    read: Spelled,
-    row: MemberRow,
-) -> Result<LoadedIndex, NoMemory>
-    requires short { length bytes.now ≤ MOST_TEXT_BYTES }
-    requires read { IsSavedFor (R.collection rows.now) bytes.now read }
-    requires row { HasMembersOf (R.collection rows.now) (layout_for (header_of read.fields)) read.found.lists.items row }
-    ensures { IfOk result (IsPutTogether (R.collection rows.now) bytes.now) }
+    workers: u32,
+) -> Result<Framed, IndexFault>
+    requires { length bytes.now ≤ MOST_TEXT_BYTES }
+    ensures worded { IfOk result (IsWorded (R.collection rows.now) bytes.now) }
+    ensures refused { IfErr result (Refuses (R.collection rows.now) bytes.now) }
 {
-    let settings = settings_of(bytes, rows, &read);
-    let index = assembled(alloc, rows, &settings.layout, read.found, row)?;
-    // for the fact that it is an index
-    let _leaves = index.leaf_count();
-    Ok(LoadedIndex { settings, index })
+    let layout = match layout_at(bytes, rows) {
+        Some(layout) if workers > 1 => layout,
+        _ => return worded_alone(alloc, bytes, rows),
+    };
+    let (framed, words) = read_beside(rt, alloc, bytes, rows, &layout, workers - 1);
+    let mut framed = match framed {
+        Ok(framed) => framed,
+        Err(e) => return Err(e),
+    };
+    let words = words?;
+    give_words(
+        rt,
+        rows,
+        &layout,
+        &words,
+        framed.members.as_mut_slice(),
+        workers,
+    );
+    Ok(framed)
+}
+
+/// What the bytes are framed as, read in a thread of its own, and the words of all series, made beside it by so many other workers.
+fn read_beside<H: Threads + Sync, R: Rows + Sync>(
+    rt: &H,
+    alloc: Global,
+    bytes: &[u8],
+    rows: &R,
+    layout: &Layout,
+    others: u32,
+) -> (Result<Framed, IndexFault>, Result<SeriesWords, NoMemory>)
+    requires short { length bytes.now ≤ MOST_TEXT_BYTES }
+    requires length { layout.now.cuts.row_length ≡ (R.collection rows.now).points }
+    ensures framed { IfOk result.0 (IsFramed (R.collection rows.now) bytes.now) }
+    ensures refused { IfErr result.0 (Refuses (R.collection rows.now) bytes.now) }
+    ensures words { IfOk result.1 (HasWords (R.collection rows.now) layout.now) }
+{
+    let front = || -> Result<Framed, IndexFault>
+        requires { IsSync R.row × (length bytes.now ≤ MOST_TEXT_BYTES) }
+        ensures framed { IfOk result (IsFramed (R.collection rows.entry.now) bytes.entry.now) }
+        ensures refused { IfErr result (Refuses (R.collection rows.entry.now) bytes.entry.now) }
+    { read_framed(alloc, bytes, rows) };
+    let back = || -> Result<SeriesWords, NoMemory>
+        requires { IsSync H.row × IsSync R.row × (layout.now.cuts.row_length ≡ (R.collection rows.now).points) }
+        ensures { IfOk result (HasWords (R.collection rows.entry.now) layout.entry.now) }
+    { words_for(rt, alloc, rows, layout, others) };
+    join(rt, front, back)
+}
+
+/// The same by one worker, in the caller's thread.
+fn worded_alone<R: Rows>(alloc: Global, bytes: &[u8], rows: &R) -> Result<Framed, IndexFault>
+    requires { length bytes.now ≤ MOST_TEXT_BYTES }
+    ensures worded { IfOk result (IsWorded (R.collection rows.now) bytes.now) }
+    ensures refused { IfErr result (Refuses (R.collection rows.now) bytes.now) }
+{
+    let mut framed = match read_framed(alloc, bytes, rows) {
+        Ok(framed) => framed,
+        Err(e) => return Err(e),
+    };
+    let words = words_alone(alloc, rows, &framed.settings.layout)?;
+    give_words_in_turn(
+        rows,
+        &framed.settings.layout,
+        &words,
+        framed.members.as_mut_slice(),
+    );
+    Ok(framed)
 }
 
 /// Whether the word of each leaf contains the full words of its members, which so many workers look at.
@@ -186,7 +231,8 @@ fn are_contained<H: Threads + Sync, R: Rows>(
     contained_side_by_side(rt, &loaded.index, 0, loaded.index.leaf_count(), workers)
 }
 
-/// What was put together, where each series fits. Where the leaves' words are known to contain all members, no full word is looked at.
+/// What was put together, where each series fits. No series is a member twice where the leaves' words are known to contain all members; so
+/// where there are as many of them as series, each is there once, and no mark is made.
 fn tested<R: Rows>(
     alloc: Global,
     bytes: &[u8],
@@ -201,28 +247,11 @@ fn tested<R: Rows>(
     ensures refused { IfErr result (Refuses (R.collection rows.now) bytes.now) }
 {
     let _ = bytes;
-    if let Some(number) = first_unfit(alloc, &loaded.index, rows.count(), contained)? {
+    if contained && loaded.index.members().len() == rows.count() as usize {
+        return Ok(loaded);
+    }
+    if let Some(number) = first_unfit(alloc, &loaded.index, rows.count())? {
         return Err(IndexFault::Unfit(number));
     }
     Ok(loaded)
-}
-
-/// What the bytes are the text of, where that is an index over series of these rows' length and count.
-fn read_for<R: Rows>(alloc: Global, bytes: &[u8], rows: &R) -> Result<Spelled, IndexFault>
-    requires { length bytes.now ≤ MOST_TEXT_BYTES }
-    ensures read { IfOk result (IsSavedFor (R.collection rows.now) bytes.now) }
-    ensures refused { IfErr result (Refuses (R.collection rows.now) bytes.now) }
-{
-    let read = match read_saved(alloc, bytes) {
-        Ok(read) => read,
-        Err(e) => return Err(e),
-    };
-    let fields = &read.fields;
-    if fields.length != rows.length() {
-        return Err(IndexFault::Length(fields.length, rows.length()));
-    }
-    if fields.count != rows.count() {
-        return Err(IndexFault::Count(fields.count, rows.count()));
-    }
-    Ok(read)
 }

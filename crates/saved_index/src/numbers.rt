@@ -45,7 +45,8 @@ pub(crate) fn read_numbers(
     ensures refused { IsErrOf result NotIndex → numbers_in many 0 count (drop from bytes.now) ≡ None }
     ensures errors { IfErr result (λ e. (e ≡ NotIndex) ⊎ (e ≡ NoMemory)) }
 {
-    let mut numbers = Vec::new(alloc);
+    let room = (many as usize).min((bytes.len() - from) / 4);
+    let mut numbers = Vec::with_capacity(alloc, room)?;
     let mut at = from;
     let mut least = 0;
     for _i in 0..many {

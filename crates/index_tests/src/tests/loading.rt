@@ -180,7 +180,6 @@ fn long(alloc: Global) -> Result<Flat, Fail>
     Ok(Flat::from_values(64, values))
 }
 
-// The words of long rows are made in the order of the rows, those of short ones in the order of the members.
 #[test]
 fn texts_are_loaded_over_long_rows(rt: HostRuntime) -> Result<(), Fail> {
     let alloc = rt.alloc();

@@ -11,7 +11,8 @@ use std::test::Fail;
 use std::thread::Threads;
 use subtree_build::{Index, Node};
 
-/// Loads these bytes over rows, with tables or with none, from pieces of 16 bytes of which the reads that are listed fail.
+/// Loads these bytes over rows, with tables by two workers or with none by five, from pieces of 16 bytes of which the reads that are listed
+/// fail.
 pub(crate) fn loaded<H: Threads + Sync>(
     rt: &H,
     alloc: Global,
@@ -26,7 +27,7 @@ pub(crate) fn loaded<H: Threads + Sync>(
     if tables {
         Ok(load(rt, alloc, &mut files, rows, 2))
     } else {
-        Ok(load_with(rt, alloc, &mut files, rows, 2, false))
+        Ok(load_with(rt, alloc, &mut files, rows, 5, false))
     }
 }
 

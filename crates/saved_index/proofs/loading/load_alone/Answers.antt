@@ -1,7 +1,5 @@
 -- With the means of its members, what was tested is an index for the rows, whose text is the bytes.
 use Rattle.std.proofs.Common.{arith}
-use Rattle.saved_index.proofs.Loaded.{slice_below}
-use Rattle.saved_index.proofs.MemberRows.{row_for}
 use Rattle.saved_index.proofs.Tested.{points_of, saves_for, series_of, index_for, text_for}
 use Rattle.saved_index.proofs.loading.load_alone.Goals as goal
 
@@ -19,13 +17,3 @@ returns-clause-text g c = text_for _ _ c.type_inv.bytes _ c.in-Ok-tested.ensures
 
 pub returns-clause-saves : goal.returns-clause-saves
 returns-clause-saves g c = saves_for _ _ c.type_inv.bytes _ c.in-Ok-tested.ensures.tested _ c.in_ok-index.ensures
-
-pub member_row_alone-requires-clause-below : goal.member_row_alone-requires-clause-below
-member_row_alone-requires-clause-below g c =
-    slice_below (g.R.Rows.collection c.args.rows.now) c.args.bytes.now _ c.type_inv.bytes c.in-Ok.ensures.read
-    c.as_slice-lists.ensures.value
-
-pub put_together-requires-clause-row : goal.put_together-requires-clause-row
-put_together-requires-clause-row g c =
-    row_for (g.R.Rows.collection c.args.rows.now) _ _ _ _ _ c.settings_of-settings.ensures.layout c.as_slice-lists.ensures.value
-    c.in_ok-row.ensures

@@ -1,8 +1,6 @@
 -- As it is, or with the means of its members, what was tested is an index for the rows, whose text is the bytes.
 use Rattle.std.proofs.Common.{Bool, subst, sym}
 use Rattle.saved_index.specs.Loading.{IsLoadedFor}
-use Rattle.saved_index.proofs.Loaded.{slice_below}
-use Rattle.saved_index.proofs.MemberRows.{row_for}
 use Rattle.saved_index.proofs.Tested.{alone_for, alone_text_for, index_for, points_of, series_of, text_for}
 use Rattle.saved_index.proofs.loading.load_bytes.Goals as goal
 
@@ -29,13 +27,3 @@ returns-clause-fits g c =
 
 pub returns-clause-text : goal.returns-clause-text
 returns-clause-text g c = alone_text_for _ _ c.type_inv.bytes _ c.in-Ok-tested.ensures.tested c.requires.short
-
-pub member_row-requires-clause-below : goal.member_row-requires-clause-below
-member_row-requires-clause-below g c κs within =
-    slice_below (g.R.Rows.collection c.args.rows.now) c.args.bytes.now _ c.type_inv.bytes c.in-Ok.ensures.read
-    c.as_slice-lists.ensures.value
-
-pub put_together-requires-clause-row : goal.put_together-requires-clause-row
-put_together-requires-clause-row g c =
-    row_for (g.R.Rows.collection c.args.rows.now) _ _ _ _ _ c.settings_of-settings.ensures.layout c.as_slice-lists.ensures.value
-    c.in_ok-row.ensures

@@ -4,7 +4,7 @@ use Rattle.std.proofs.lemmas.List.{get_or-drop, length-drop}
 use Rattle.std.proofs.lemmas.Option.{get_or_from_slice_get}
 use Rattle.isax_word.specs.FullWord.{full_word}
 use Rattle.subtree_build.proofs.Meaning.{map_push}
-use Rattle.saved_index.proofs.words.words_in_turn.Goals as goal
+use Rattle.saved_index.proofs.words.one_list.Goals as goal
 
 pub loop-number-preserved : goal.loop-number-preserved
 loop-number-preserved g c =
@@ -21,6 +21,6 @@ loop-number-preserved g c =
     ∙ ap (λ k. get_or series k row) there
     ∙ sym (get_or-drop first series (i - first) row) in
     c.in_ok-push.ensures.items
-    ∙ map_push word (drop first series) (i - first) row c.loop-number.words.items c.of.result inside item
+    ∙ map_push word (drop first series) (i - first) row c.loop-number.items.items c.of.result inside item
     c.loop-number.invariant c.of.ensures
     ∙ ap (λ k. map word (take k (drop first series))) next

@@ -1,6 +1,6 @@
 -- What was read keeps the limits of a header.
 use Rattle.saved_index.proofs.Loaded.{limits}
-use Rattle.saved_index.proofs.loading.settings_of.Goals as goal
+use Rattle.saved_index.proofs.framing.settings_of.Goals as goal
 
 pub settings-requires : goal.settings-requires
 settings-requires g c =
