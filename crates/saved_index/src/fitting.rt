@@ -50,7 +50,7 @@ pub(crate) fn contained_in_turn(index: &Index, from: u32, to: u32) -> bool
     true
 }
 
-/// The same by so many workers.
+/// The same by so many workers: this thread starts all others, one after another.
 #[cycle(contained)]
 pub(crate) fn contained_side_by_side<H: Threads + Sync>(
     rt: &H,
@@ -67,14 +67,13 @@ pub(crate) fn contained_side_by_side<H: Threads + Sync>(
     if workers < 2 {
         return contained_in_turn(index, from, to);
     }
-    let half = workers / 2;
-    let rest = workers - half;
-    let mid = part_way(from, to, half, workers);
+    let rest = workers - 1;
+    let mid = part_way(from, to, 1, workers);
     let front = || -> bool
-        requires { IsSync H.row × (from ≤ mid) × (mid ≤ length index.now.leaves)
+        requires { (from ≤ mid) × (mid ≤ length index.now.leaves)
             × All (λ x. All (λ m. length m.full ≡ index.now.segments) x.members) index.now.leaves }
         ensures { IsTrue result ↔ AreContainedBetween index.entry.now.leaves from mid }
-    { contained_side_by_side(rt, index, from, mid, half) };
+    { contained_in_turn(index, from, mid) };
     let back = || -> bool
         requires { IsSync H.row × (mid ≤ to) × (to ≤ length index.now.leaves)
             × All (λ x. All (λ m. length m.full ≡ index.now.segments) x.members) index.now.leaves }

@@ -1,12 +1,9 @@
--- Each part is tested by fewer workers.
+-- The leaves behind the first stretch are gone through by fewer workers.
 use Rattle.std.proofs.Common.{◌+◌, ◌*◌}
 use Rattle.saved_index.proofs.fitting.+contained.Given as goal
 
 abbrev pub decreases-contained_side_by_side : goal.decreases-contained_side_by_side
-decreases-contained_side_by_side g l = 4 * l.workers
+decreases-contained_side_by_side g l = 2 * l.workers
 
 abbrev pub decreases-back : goal.decreases-back
-decreases-back g l = 4 * l.rest + 1
-
-abbrev pub decreases-front : goal.decreases-front
-decreases-front g l = 4 * l.half + 1
+decreases-back g l = 2 * l.rest + 1
