@@ -16,16 +16,19 @@ python=/usr/bin/python3
 "$python" -c 'import faiss' 2>/dev/null || python=
 large=GLIBC_TUNABLES=glibc.malloc.hugetlb=1
 gcc -O3 -march=native -o make_data "$here/../kinds/make_data.c" -lm
+gcc -O2 -Wall -shared -fPIC -o between.so "$here/between.c"
 for length in 8 256; do gcc -O3 -march=native "-DPOINTS=$length" -o "scan$length" "$here/scan.c"; done
 
-# Runs a program and keeps a line 'what|microseconds|kilobytes at the most': timed WHAT PROGRAM WORD..
+# Runs a program and keeps a line 'what|microseconds|kilobytes at the most|microseconds from its last read to its first text': timed WHAT
+# PROGRAM WORD..
 timed() {
     local begin end what="$1"
     shift
+    rm -f between
     begin=$(date +%s%N)
-    /usr/bin/time -v -o took "$@" >answer
+    /usr/bin/time -v -o took env LD_PRELOAD="$work/between.so" BETWEEN=between "$@" >answer
     end=$(date +%s%N)
-    echo "$what|$(((end - begin) / 1000))|$(awk '/Maximum resident/ { print $NF }' took)" >>times
+    echo "$what|$(((end - begin) / 1000))|$(awk '/Maximum resident/ { print $NF }' took)|$(head -1 between 2>/dev/null || echo 0)" >>times
 }
 
 # One round of all programs with one number of queries: round LENGTH.
@@ -47,11 +50,17 @@ round() {
     done
 }
 
-# The lines of a kind with so many queries, each with its least time as a multiple of that of C: table NAME QUERIES.
+# The lines of a kind with so many queries, each with its least time as a multiple of that of C, and with the least one from the last read to
+# the first text as a multiple of that of building by as many workers: table NAME QUERIES.
 table() {
     awk -v name="$1" -v queries="$2" -F'|' '
-        { if (!($1 in least) || $2 + 0 < least[$1]) least[$1] = $2 + 0; if ($3 + 0 > most[$1]) most[$1] = $3 + 0; if (!seen[$1]++) order[++count] = $1 }
-        END { for (i = 1; i <= count; i++) printf "| %s | %s | %s | %.2f | %.0f |\n", name, queries, order[i], least[order[i]] / least["C"], most[order[i]] / 1024 }' times
+        { if (!($1 in least) || $2 + 0 < least[$1]) least[$1] = $2 + 0; if ($3 + 0 > most[$1]) most[$1] = $3 + 0; if (!seen[$1]++) order[++count] = $1
+          if (!($1 in behind) || $4 + 0 < behind[$1]) behind[$1] = $4 + 0 }
+        function share(what, built) {
+            built = "isearch, workers " substr(what, match(what, /workers [0-9]+/) + 8, 1)
+            return what ~ /workers/ && behind[built] ? sprintf("%.2f", behind[what] / behind[built]) : "-"
+        }
+        END { for (i = 1; i <= count; i++) printf "| %s | %s | %s | %.2f | %s | %.0f |\n", name, queries, order[i], least[order[i]] / least["C"], share(order[i]), most[order[i]] / 1024 }' times
 }
 
 # Rounds over a kind of data: kind NAME ROWS LENGTH.
@@ -71,8 +80,8 @@ kind() {
 [ $# -gt 0 ] || set -- walks resonances short
 echo "$(date +%F), $(nproc) processors, $(sed -n 's/^model name[^:]*: //p' /proc/cpuinfo | head -1)"
 echo
-echo "| data | queries | what | times as long as C | MB at the most |"
-echo "|---|---|---|---|---|"
+echo "| data | queries | what | times as long as C | behind the reading, times as long as building | MB at the most |"
+echo "|---|---|---|---|---|---|"
 for wanted in "$@"; do
     case "$wanted" in
         walks) kind walks 500000 256 ;;
