@@ -20,10 +20,10 @@ impl Table {
         ensures not_low { neg_ℤ (pos 32512) ≤ℤ result }
         ensures not_high { result ≤ℤ pos 32512 }
     {
-        let from_middle = i as i32 - 128;
+        let from_middle = i as i16 - 128;
         match self {
-            Table::Flat => 256 * from_middle,
-            Table::Bent => from_middle * (64 + from_middle.abs()),
+            Table::Flat => i32::from(256 * from_middle),
+            Table::Bent => i32::from(from_middle * (64 + from_middle.abs())),
         }
     }
 }

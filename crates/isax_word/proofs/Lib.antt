@@ -3,6 +3,7 @@ pub mod Counts
 pub mod PaddedLists
 pub mod Scaled
 pub mod Symbols
+pub mod Means
 pub mod FullWords
 pub mod Roots
 pub mod Words

@@ -1,7 +1,7 @@
 -- Items kept in 16 places, the rest padded: writing at the first padded place adds an item
 -- (`padded_next`).
 use Rattle.std.proofs.Common.{◌≡◌, ℕ, suc, ◌+◌, ◌-◌, ◌<◌, ◌≤◌, arith, refl, List, [], ◌∷◌, ◌++◌, replicate, length, map, get_or, set, take, sym, ◌∙◌, ap, append_assoc}
-use Rattle.std.proofs.lemmas.List.{get_or_append_left, get_or-map, length-map, set_at, set-append_left, length-append, length-replicate, length_push, map-append, take_more, take_more_set, length-set}
+use Rattle.std.proofs.lemmas.List.{get_or_append_left, get_or-append_right, get_or-replicate, get_or-map, length-map, set_at, set-append_left, length-append, length-replicate, length_push, map-append, take_more, take_more_set, length-set}
 use Rattle.std.proofs.Math.Seq.{take-set-lt}
 use Rattle.isax_word.specs.Padded.{padded, IsKept}
 
@@ -89,3 +89,9 @@ pub get_or-images : {X : Type 0} (f : X → ℕ) (xs : List X) (j : ℕ) (d : X)
     → get_or (padded 0 (map f xs)) j 0 ≡ f (get_or xs j d)
 get_or-images f xs j d used =
     get_or_append_left (map f xs) _ 0 j (omega (arith, length-map xs f)) ∙ get_or-map f xs j d 0 used
+
+-- behind the items stands the padding
+pub get_or-padding : (items : List ℕ) (j : ℕ) → length items ≤ j → j < 16 → get_or (padded 0 items) j 0 ≡ 0
+get_or-padding items j behind inside =
+    get_or-append_right items (replicate (16 - length items) 0) (length items) j 0 refl behind
+    ∙ get_or-replicate (16 - length items) (j - length items) 0 0 (omega (arith, behind, inside))

@@ -1,10 +1,8 @@
--- Breakpoints times a length: they ascend as the breakpoints do (`scaled_rises`), and take 32 bits (`scaled_kept`).
-use Rattle.std.proofs.Common.{◌≡◌, ◌∙◌, ℕ, ◌+◌, ◌≤◌, arith, ap, sym, subst, to_z, of_z, ℤ, pos, neg_ℤ, ◌*ℤ◌, ◌≤ℤ◌}
-use Rattle.std.specs.Prelude.{FitsSigned, unsigned_abs}
+-- Breakpoints times a length: they ascend as the breakpoints do (`scaled_rises`), and, raised, as multiples of the length (`scaled_raised`).
+use Rattle.std.proofs.Common.{◌≡◌, ℕ, ◌+◌, ◌*◌, ◌≤◌, arith, ap, ℤ, pos, ◌+ℤ◌, ◌*ℤ◌, ◌≤ℤ◌}
 use Rattle.std.proofs.Math.Nat.{mul-le-mul_left}
-use Rattle.std.proofs.lemmas.Int.{ints, fits_signed_from_abs, fits_signed_mul, to_z-of_z, to_z_pos}
-use mir.Syntax.{w32}
-use borrow.Author.Differences.{up, down}
+use Rattle.std.proofs.lemmas.Int.{ints}
+use borrow.Author.Differences.{up, down, product_is}
 
 -- multiples keep an order
 pub scaled_rises : (l : ℕ) (a b : ℤ) → a ≤ℤ b → (pos l *ℤ a) ≤ℤ (pos l *ℤ b)
@@ -12,15 +10,9 @@ scaled_rises l a b below =
     let parts : up a + down b ≤ up b + down a = omega (arith, ints) in
     omega (arith, ints, mul-le-mul_left l parts)
 
--- a breakpoint times the length of a segment takes 32 bits
-pub scaled_kept : (n : ℕ) (b a : ℤ) → n ≤ 65536 → a ≡ b → neg_ℤ (pos 32512) ≤ℤ a → a ≤ℤ pos 32512
-    → FitsSigned w32 (to_z w32 n *ℤ to_z w32 (of_z w32 a))
-    × (to_z w32 (of_z w32 (to_z w32 n *ℤ to_z w32 (of_z w32 a))) ≡ pos n *ℤ b)
-scaled_kept n b a few is low high =
-    let small : unsigned_abs b ≤ 32512 = omega (arith, ints, is, low, high) in
-    let own_n : to_z w32 n ≡ pos n = to_z_pos w32 n (omega (arith, few)) in
-    let own_b : to_z w32 (of_z w32 a) ≡ b
-    = ap (λ z. to_z w32 (of_z w32 z)) is ∙ to_z-of_z w32 b (fits_signed_from_abs w32 b (omega (arith, small))) in
-    let both : to_z w32 n *ℤ to_z w32 (of_z w32 a) ≡ pos n *ℤ b = λ i. own_n i *ℤ own_b i in
-    let whole : FitsSigned w32 (pos n *ℤ b) = fits_signed_mul w32 (pos n) b 65536 32512 few small (omega arith) in
-    (subst (FitsSigned w32) (sym both) whole, ap (λ z. to_z w32 (of_z w32 z)) both ∙ to_z-of_z w32 (pos n *ℤ b) whole)
+-- a multiple of a number, raised by as many times 32768, is as many times the number raised
+pub scaled_raised : (l n : ℕ) (b : ℤ) → pos n ≡ b +ℤ pos 32768 → pos l *ℤ b +ℤ pos (32768 * l) ≡ pos (l * n)
+scaled_raised l n b is =
+    let whole : up b + 32768 ≡ down b + n = omega (arith, ints, is) in
+    let scaled : l * (up b + 32768) ≡ l * (down b + n) = ap (λ k. l * k) whole in
+    omega (arith, ints, product_is (pos l) b, scaled)

@@ -7,22 +7,22 @@ use Rattle.isax_word.specs.Symbol.{is_reached}
 use Rattle.isax_word.proofs.Symbols.{Narrowed, narrowed_next}
 
 -- the search for the symbol of segment i has this many places left
-abbrev pub NarrowedAt : List ℕ → List ℤ → List ℕ → ℕ → ℕ → Type 0
-NarrowedAt lengths sums found left i = Narrowed (get_or lengths i 0) (get_or sums i (pos 0)) (get_or found i 0) left
+abbrev pub NarrowedAt : List ℤ → List ℕ → ℕ → ℕ → Type 0
+NarrowedAt means found left i = Narrowed 1 (get_or means i (pos 0)) (get_or found i 0) left
 
 -- a step of segment j leaves segment i as it was
-pub narrowed_at_other : (lengths : List ℕ) (sums : List ℤ) (found : List ℕ) (left i j y : ℕ) → i ≢ j
-    → NarrowedAt lengths sums found left i → NarrowedAt lengths sums (set found j y) left i
-narrowed_at_other lengths sums found left i j y other is =
-    subst (λ k. Narrowed (get_or lengths i 0) (get_or sums i (pos 0)) k left) (sym (get_or-set_other found j i y 0 other)) is
+pub narrowed_at_other : (means : List ℤ) (found : List ℕ) (left i j y : ℕ) → i ≢ j
+    → NarrowedAt means found left i → NarrowedAt means (set found j y) left i
+narrowed_at_other means found left i j y other is =
+    subst (λ k. Narrowed 1 (get_or means i (pos 0)) k left) (sym (get_or-set_other found j i y 0 other)) is
 
 -- a step of segment j
-pub narrowed_at_next : (lengths : List ℕ) (sums : List ℤ) (found : List ℕ) (step j y : ℕ) → j < length found → 1 ≤ step
-    → NarrowedAt lengths sums found (2 * step) j
+pub narrowed_at_next : (means : List ℤ) (found : List ℕ) (step j y : ℕ) → j < length found → 1 ≤ step
+    → NarrowedAt means found (2 * step) j
     → y ≡ get_or found j 0
-    + step * cond (is_reached Bent (get_or lengths j 0) (get_or sums j (pos 0)) (get_or found j 0 + step)) 1 0
-    → NarrowedAt lengths sums (set found j y) step j
-narrowed_at_next lengths sums found step j y inside some is value =
-    subst (λ k. Narrowed (get_or lengths j 0) (get_or sums j (pos 0)) k step)
+    + step * cond (is_reached Bent 1 (get_or means j (pos 0)) (get_or found j 0 + step)) 1 0
+    → NarrowedAt means (set found j y) step j
+narrowed_at_next means found step j y inside some is value =
+    subst (λ k. Narrowed 1 (get_or means j (pos 0)) k step)
     (sym (get_or-set_same found j y 0 inside ∙ value))
-    (narrowed_next (get_or lengths j 0) (get_or sums j (pos 0)) (get_or found j 0) step some is)
+    (narrowed_next 1 (get_or means j (pos 0)) (get_or found j 0) step some is)

@@ -1,14 +1,14 @@
 -- Words and their children: a full word that a word contains is contained in exactly one child of
 -- each split, by its next bit (`child_contains`).
-use Rattle.std.proofs.Common.{◌≡◌, ℕ, zero, suc, ◌+◌, ◌-◌, ◌*◌, ◌/◌, ◌%◌, ◌^◌, ◌<◌, ◌≤◌, Bool, true, false, cond, eqb, arith, refl, sym, ap, ◌∙◌, List, [], ◌∷◌, length, drop, get_or}
+use Rattle.std.proofs.Common.{◌≡◌, ℕ, zero, suc, ◌+◌, ◌-◌, ◌*◌, ◌/◌, ◌%◌, ◌^◌, ◌<◌, ◌≤◌, Bool, true, false, cond, eqb, leb, ⊎_elim, arith, refl, sym, ap, ◌∙◌, List, [], ◌∷◌, length, drop, get_or}
 use Rattle.std.specs.Prelude.{◌&&◌}
-use Rattle.std.proofs.lemmas.Bool.{and_parts, and_from, eqb-true, eqb-false, eq-eqb, ne_eqb}
+use Rattle.std.proofs.lemmas.Bool.{and_parts, and_from, cases_Bool, eqb-true, eqb-false, eq-eqb, false_from_ne_true, false≢true, le-leb, leb-true, ne_eqb}
 use Rattle.std.proofs.lemmas.List.{drop_more, length-set}
 use Rattle.std.proofs.lemmas.List.Elements.{All-get_or, All-set}
-use Rattle.std.proofs.lemmas.Nat.{pow_pos, pow-add, shr-shr, shr_split, mod_below}
+use Rattle.std.proofs.lemmas.Nat.{div_below, le-div, pow_pos, pow-add, shr-shr, shr_split, mod_below}
 use Rattle.std.proofs.Math.Nat.{lt-div-mul-add, div-mul-le_self, mul_comm, mul-le-mul_right, pow-le-pow_right}
 use Rattle.isax_word.specs.declared.word.Part.{Part}
-use Rattle.isax_word.specs.Word.{IsPart, IsWord, no_part, part_at, parts_of, first_bits, part_contains, word_contains, first_symbol, end_symbol, child_part, child_word, next_bit}
+use Rattle.isax_word.specs.Word.{IsPart, IsWord, no_part, part_at, parts_of, first_bits, part_contains, word_contains, first_symbol, end_symbol, last_symbol, child_part, child_word, next_bit}
 
 -- a symbol that a part contains lies from p * 2^(8-c) up to (p+1) * 2^(8-c), the latter left out
 pub symbols_of_part : (p : Part) (s : ℕ) → part_contains p s ≡ true
@@ -20,6 +20,44 @@ symbols_of_part p s contained =
     let low : s / place * place ≤ s = div-mul-le_self s place in
     let high : s < s / place * place + place = lt-div-mul-add (pow_pos (8 - p.bits)) in
     (omega (arith, low, scaled), omega (arith, high, scaled))
+
+-- and what lies there, the part contains
+pub part_of_symbols : (p : Part) (s : ℕ) → p.prefix * 2 ^ (8 - p.bits) ≤ s → s < (p.prefix + 1) * 2 ^ (8 - p.bits)
+    → part_contains p s ≡ true
+part_of_symbols p s low high =
+    let place = 2 ^ (8 - p.bits) in
+    let some : 0 < place = pow_pos (8 - p.bits) in
+    let at_least : p.prefix ≤ s / place = le-div p.prefix s place some low in
+    let below : s / place < p.prefix + 1 = div_below s place (p.prefix + 1) some high in
+    eq-eqb (s / place) p.prefix (omega (arith, at_least, below))
+
+-- so a part contains a symbol where that lies from its least symbol to its greatest
+pub part_between : (p : Part) (s : ℕ) → (leb (first_symbol p) s && leb s (last_symbol p)) ≡ part_contains p s
+part_between p s = ⊎_elim contained apart (cases_Bool (part_contains p s))
+  where
+    -- the greatest symbol is one before the end
+    some_end : 1 ≤ end_symbol p
+    some_end =
+        let place = 2 ^ (8 - p.bits) in
+        let some : 0 < place = pow_pos (8 - p.bits) in
+        let split : (p.prefix + 1) * place ≡ p.prefix * place + place = omega arith in
+        omega (arith, split, some)
+
+    -- where the part contains the symbol both tests hold
+    contained : part_contains p s ≡ true → (leb (first_symbol p) s && leb s (last_symbol p)) ≡ part_contains p s
+    contained is =
+        let range = symbols_of_part p s is in
+        and_from _ _ (le-leb (first_symbol p) s range.0) (le-leb s (last_symbol p) (omega (arith, range.1, some_end))) ∙ sym is
+
+    -- and else one of them fails
+    apart : part_contains p s ≡ false → (leb (first_symbol p) s && leb s (last_symbol p)) ≡ part_contains p s
+    apart is =
+        false_from_ne_true _ (λ both.
+        let parts = and_parts _ _ both in
+        let low = leb-true (first_symbol p) s parts.0 in
+        let high = leb-true s (last_symbol p) parts.1 in
+        false≢true (sym is ∙ part_of_symbols p s low (omega (arith, high, some_end))))
+        ∙ sym is
 
 -- the first bits and the next bit of a symbol are its first bits of one more
 pub first_bits_next : (c s : ℕ) → c < 8 → first_bits (c + 1) s ≡ 2 * first_bits c s + next_bit c s

@@ -5,7 +5,7 @@ ghost use Rattle.isax_word.specs.FullWord.{IsFullWord, full_word, root_number};
 ghost use Rattle.isax_word.specs.Padded.{padded};
 
 use crate::layout::Layout;
-use crate::sixteen::{bent_symbols, lengths_of};
+use crate::sixteen::{bent_symbols, means_of};
 use crate::symbol::symbol_of_sum;
 use breakpoints::Table;
 use std::marker::Model;
@@ -72,8 +72,8 @@ impl Full {
     {
         let mut sums = [0; 16];
         layout.cuts.sums(row, &mut sums);
-        let found = bent_symbols(&lengths_of(&layout.cuts), &sums);
         let count = layout.cuts.segments();
+        let found = bent_symbols(&means_of(&layout.cuts, &sums));
         let mut symbols = [0; 16];
         for j in 0..count {
             symbols[j as usize] = found[j as usize] as u8;

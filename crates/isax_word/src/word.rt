@@ -205,17 +205,20 @@ impl Word {
     }
 }
 
-/// Whether in each segment the word's prefix is the first bits of the full word's symbol.
+/// Whether in each segment the word's prefix is the first bits of the full word's symbol: whether that lies from the least symbol of the prefix
+/// to its greatest. All sixteen places are looked at, so that a compiler can put them side by side in lanes.
 pub fn contains(word: &Word, full: &Full) -> bool
     requires { length word.now ≡ length full.now }
     ensures { result ≡ word_contains word.now full.now }
 {
-    for j in 0..word.segments() {
-        if full.symbol(j) >> (8 - word.bits(j)) != word.prefix(j) {
-            return false;
-        }
+    let firsts = word.first_symbols();
+    let lasts = word.last_symbols();
+    let symbols = full.symbols();
+    let mut inside = true;
+    for j in 0..16 {
+        inside &= (firsts[j] <= symbols[j]) & (symbols[j] <= lasts[j]);
     }
-    true
+    inside
 }
 
 /// The word with one bit more in one segment: a 1 in the high child, a 0 in the low one.

@@ -6,12 +6,12 @@ use Rattle.isax_word.proofs.sixteen.bent_symbols.Given as goal
 abbrev pub invariant-loop-round : goal.invariant-loop-round
 invariant-loop-round l = record {
   long : length l.symbols ≡ 16;
-  each : (i : ℕ) → i < 16 → NarrowedAt l.lengths l.sums l.symbols (2 ^ (8 - l.round)) i;
+  each : (i : ℕ) → i < 16 → NarrowedAt l.means l.symbols (2 ^ (8 - l.round)) i;
 }
 
 abbrev pub invariant-loop-j : goal.invariant-loop-j
 invariant-loop-j l = record {
   long : length l.symbols ≡ 16;
-  done : (i : ℕ) → i < l.j → NarrowedAt l.lengths l.sums l.symbols (2 ^ (7 - l.round)) i;
-  left : (i : ℕ) → l.j ≤ i → i < 16 → NarrowedAt l.lengths l.sums l.symbols (2 ^ (8 - l.round)) i;
+  done : (i : ℕ) → i < l.j → NarrowedAt l.means l.symbols (2 ^ (7 - l.round)) i;
+  left : (i : ℕ) → l.j ≤ i → i < 16 → NarrowedAt l.means l.symbols (2 ^ (8 - l.round)) i;
 }

@@ -1,0 +1,11 @@
+-- The means so far.
+use Rattle.std.proofs.Common.{◌≡◌, ℕ, ◌<◌, pos, length, get_or}
+use Rattle.segment_sums.specs.Division.{segment_length}
+use Rattle.isax_word.specs.Symbol.{mean_of}
+use Rattle.isax_word.proofs.sixteen.any_means.Given as goal
+
+abbrev pub invariant-loop-j : goal.invariant-loop-j
+invariant-loop-j l = record {
+  long : length l.means ≡ 16;
+  each : (i : ℕ) → i < l.j → get_or l.means i (pos 0) ≡ mean_of (segment_length l.cuts i) (get_or l.sums i (pos 0));
+}
