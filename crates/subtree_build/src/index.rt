@@ -134,6 +134,7 @@ impl Index {
     /// as the frame has places for, and only there. Nothing stands beside its tree: `with_means` puts the tables there.
     pub fn of_frame(frame: Frame, members: Vec<Member>) -> Option<Index>
         ensures parts { IfSome result (IsOfParts frame.segments frame.roots frame.nodes (cut_lists frame.counts members.items)) }
+        ensures whole { IfSome result (λ _. length members.items ≡ frame.members) }
         ensures none { IfNone result (length members.items ≢ frame.members) }
     {
         if members.len() != frame.members as usize {
