@@ -16,6 +16,7 @@ mod InTurn
 mod ByNumber
 mod Beside
 mod MemberRows
+mod NumberRows
 mod Contained
 pub mod Loaded
 pub mod Refusals

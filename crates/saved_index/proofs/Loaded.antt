@@ -66,11 +66,11 @@ module _ (c : Collection) (bytes : List ℕ) (r : Spelled) (each : (i : ℕ) →
   limits = subst IsHeader read.read.header is_text.sound.header
 
   -- the parts make an index
-  pub makes : MakeIndex r.fields.segments r.found.roots.items r.found.nodes.items (length r.found.lists.items)
+  pub makes : MakeIndex r.fields.segments r.found.roots.items r.found.nodes.items (length r.found.lists)
   makes = read_makes_index bytes r are read.read
 
   -- the numbers are those of series
-  pub series_below : All (AreBelow (length c.series)) r.found.lists.items
+  pub series_below : All (AreBelow (length c.series)) r.found.lists
   series_below =
       let s = read.read.saved in
       let Lists : List (List ℕ) → Type 0 = λ ls. All (AreBelow (length c.series)) ls in
@@ -78,17 +78,11 @@ module _ (c : Collection) (bytes : List ℕ) (r : Spelled) (each : (i : ℕ) →
       subst Lists (sym read.read.lists_are)
       (subst Count many (all_below s.header.segments s.header.count s.roots s.nodes is_text.sound.nodes))
 
-  -- so are those of a slice that shows them
-  pub slice_below : {lists : List (List ℕ)} → lists ≡ r.found.lists.items → All (AreBelow (length c.series)) lists
-  slice_below shown =
-      let Lists : List (List ℕ) → Type 0 = λ ls. All (AreBelow (length c.series)) ls in
-      subst Lists (sym shown) series_below
-
   -- an index was put together of the parts, with the settings of the header
   module _ (settings : Settings) (layout_is : settings.layout ≡ layout_for (header_of r.fields))
       (size_is : settings.leaf_size ≡ r.fields.leaf_size) (ix : IndexParts) (is : IsIndex ix)
       (parts : IsOfParts settings.layout.cuts.segments r.found.roots.items r.found.nodes.items
-      (members_in_lists (words_of c settings.layout) r.found.lists.items) ix) where
+      (members_in_lists (words_of c settings.layout) r.found.lists) ix) where
     layout_saved : settings.layout ≡ layout_for read.read.saved.header
     layout_saved = layout_is ∙ ap layout_for (sym read.read.header)
 
@@ -98,7 +92,7 @@ module _ (c : Collection) (bytes : List ℕ) (r : Spelled) (each : (i : ℕ) →
     numbers_are : map (λ (x : TreeLeaf). numbers_of x.members) ix.leaves
         ≡ flat_map (λ (t : Tree (List ℕ)). leaves_of t) read.read.saved.nodes
     numbers_are =
-        lists_back c settings.layout r.found.lists.items ix.leaves parts.members ∙ read.read.lists_are
+        lists_back c settings.layout r.found.lists ix.leaves parts.members ∙ read.read.lists_are
 
     leaves_are : map worded_leaf ix.leaves ≡ saved_leaves read.read.saved
     leaves_are =
@@ -107,7 +101,7 @@ module _ (c : Collection) (bytes : List ℕ) (r : Spelled) (each : (i : ℕ) →
 
     -- its members are series
     pub series : All (λ (x : TreeLeaf). All (λ m. m.number < length c.series) x.members) ix.leaves
-    series = are_series c settings.layout r.found.lists.items ix.leaves parts.members series_below
+    series = are_series c settings.layout r.found.lists ix.leaves parts.members series_below
 
     -- each of its leaves can be saved
     saved_leaves_are : All (HasSaved (length c.series)) ix.leaves
@@ -126,14 +120,14 @@ module _ (c : Collection) (bytes : List ℕ) (r : Spelled) (each : (i : ℕ) →
         }
 
     own : All (MembersAreSeries c settings.layout) ix.leaves
-    own = have_words c settings.layout r.found.lists.items ix.leaves parts.members series_below
+    own = have_words c settings.layout r.found.lists ix.leaves parts.members series_below
 
     -- whose words are as long as its own
     pub words_long : All (λ (x : TreeLeaf). All (λ m. length m.full ≡ ix.segments) x.members) ix.leaves
     words_long =
         let Long : ℕ → Type 0 = λ n. All (λ (x : TreeLeaf). All (λ m. length m.full ≡ n) x.members) ix.leaves in
         subst Long (sym parts.segments)
-        (have_segments c settings.layout r.found.lists.items ix.leaves parts.members series_below)
+        (have_segments c settings.layout r.found.lists ix.leaves parts.members series_below)
 
     -- the bytes have against the collection that a series does not fit
     pub unfit : (n count : ℕ) → length bytes ≤ 1073741824 → count ≡ length c.series → Some n ≡ first_unfit_of ix.leaves count

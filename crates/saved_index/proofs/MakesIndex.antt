@@ -86,7 +86,7 @@ nodes_in_order {A} first (n ∷ nodes) (t ∷ trees) is =
 
 -- what was read of a text makes an index
 pub read_makes_index : (bytes : List ℕ) (r : Spelled) → AreBytes bytes → IsSavedRead bytes r
-    → MakeIndex r.fields.segments r.found.roots.items r.found.nodes.items (length r.found.lists.items)
+    → MakeIndex r.fields.segments r.found.roots.items r.found.nodes.items (length r.found.lists)
 read_makes_index bytes r each read =
     let s = read.saved in
     let is = (saved_sound bytes s each read.is).sound in

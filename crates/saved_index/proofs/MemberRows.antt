@@ -1,57 +1,14 @@
--- Members in a row by their numbers: one more (`number_put`), those of one list more (`list_put`); and what lists of members are cut from: the row of all of
--- them (`row_cut`), which their lengths add up to (`row_adds_up`).
-use Rattle.std.proofs.Common.{◌≡◌, ◌∙◌, ℕ, ◌+◌, ◌<◌, List, [], ◌∷◌, ◌++◌, length, map, take, drop, get_or, refl, sym, ap, subst, arith, append_assoc, append-nil, length-append}
+-- What lists of members are cut from: the row of all of them (`row_cut`), which their lengths add up to (`row_adds_up`).
+use Rattle.std.proofs.Common.{◌≡◌, ◌∙◌, ℕ, List, [], ◌∷◌, ◌++◌, length, map, drop, refl, sym, ap, subst, arith, length-append}
 use Rattle.std.specs.Prelude.{flat_map}
-use Rattle.std.proofs.lemmas.Grind.{flat_map-append}
-use Rattle.std.proofs.lemmas.List.{drop_at, get_or-map, length-map, map-append, take_at, take_more}
+use Rattle.std.proofs.lemmas.List.{drop_at, length-map, take_at}
 use Rattle.series_core.specs.Collection.{Collection}
 use Rattle.isax_word.specs.declared.layout.Layout.{Layout}
 use Rattle.isax_word.specs.declared.member.Member.{Member}
-use Rattle.isax_word.specs.FullWord.{full_word}
 use Rattle.subtree_build.specs.Assembly.{AddUp, cut_lists}
 use Rattle.subtree_build.specs.Members.{with_own_word}
 use Rattle.saved_index.specs.declared.members.MemberRow.{MemberRow}
 use Rattle.saved_index.specs.Membership.{IsRowFor, all_members, members_in_lists, with_word, words_of}
-
-module _ (c : Collection) (layout : Layout) where
-  -- a member of a number gets the word that has this number
-  own_of_number : (n : ℕ) (word : List ℕ) → n < length c.series
-      → with_own_word c layout (record { number = n; full = word }) ≡ with_word (words_of c layout) n
-  own_of_number n word low =
-      ap (λ (full : List ℕ). let m : Member = record { number = n; full = full } in m)
-      (sym (get_or-map (full_word layout) c.series n [] [] low))
-
-  -- one member more
-  pub number_put : (old now new : List Member) (numbers : List ℕ) (i n : ℕ) (word : List ℕ) → i < length numbers
-      → n ≡ get_or numbers i n → n < length c.series
-      → map (with_own_word c layout) now ≡ map (with_own_word c layout) old ++ map (with_word (words_of c layout)) (take i numbers)
-      → new ≡ now ++ record { number = n; full = word } ∷ []
-      → map (with_own_word c layout) new ≡ map (with_own_word c layout) old ++ map (with_word (words_of c layout)) (take (i + 1) numbers)
-  number_put old now new numbers i n word inside item low was put =
-      let own = with_own_word c layout in
-      let of = with_word (words_of c layout) in
-      let one : List Member = record { number = n; full = word } ∷ [] in
-      ap (map own) put
-      ∙ map-append own now one
-      ∙ ap (λ (ms : List Member). ms ++ map own one) was
-      ∙ append_assoc (map own old) (map of (take i numbers)) (map own one)
-      ∙ ap (λ (m : Member). map own old ++ (map of (take i numbers) ++ m ∷ [])) (own_of_number n word low)
-      ∙ ap (λ (ms : List Member). map own old ++ ms)
-      (sym (map-append of (take i numbers) (n ∷ []))
-      ∙ ap (map of) (ap (λ k. take i numbers ++ k ∷ []) item ∙ sym (take_more numbers i n inside)))
-
-  -- the members of one list more
-  pub list_put : (now new : List Member) (lists : List (List ℕ)) (i : ℕ) (numbers : List ℕ) → i < length lists
-      → numbers ≡ get_or lists i numbers → map (with_own_word c layout) now ≡ all_members (words_of c layout) (take i lists)
-      → map (with_own_word c layout) new ≡ map (with_own_word c layout) now ++ map (with_word (words_of c layout)) numbers
-      → map (with_own_word c layout) new ≡ all_members (words_of c layout) (take (i + 1) lists)
-  list_put now new lists i numbers inside item was put =
-      let of : List ℕ → List Member = λ ns. map (with_word (words_of c layout)) ns in
-      put
-      ∙ ap (λ (ms : List Member). ms ++ of numbers) was
-      ∙ ap (λ (ms : List Member). flat_map of (take i lists) ++ ms) (sym (append-nil (of numbers)))
-      ∙ sym (flat_map-append of (take i lists) (numbers ∷ []))
-      ∙ ap (flat_map of) (ap (λ (ns : List ℕ). take i lists ++ ns ∷ []) item ∙ sym (take_more lists i numbers inside))
 
 -- lists of members are as long as those of their numbers
 pub same_lengths : (words lists : List (List ℕ))

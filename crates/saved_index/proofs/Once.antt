@@ -155,7 +155,7 @@ none_unfit c bytes each loaded t contained many =
     let read = t.saved.read in
     let s = read.saved in
     let n = length c.series in
-    let lists = t.spelled.found.lists.items in
+    let lists = t.spelled.found.lists in
     let bytes_are : AreBytes bytes = λ k. omega (arith, each k) in
     let sound = (saved_sound bytes s bytes_are read.is).sound in
     let own : All (MembersAreSeries c layout) ix.leaves

@@ -18,17 +18,17 @@ pub record IsFrameFor (c : Collection) (bytes : List ℕ) (r : Spelled) (setting
   pub layout : settings.layout ≡ layout_for (header_of r.fields)
   pub leaf_size : settings.leaf_size ≡ r.fields.leaf_size
   pub frame_is : frame
-      ≡ frame_parts settings.layout.cuts.segments r.found.roots.items r.found.nodes.items (map (λ ns. length ns) r.found.lists.items) members
+      ≡ frame_parts settings.layout.cuts.segments r.found.roots.items r.found.nodes.items (map (λ ns. length ns) r.found.lists) members
 
 -- bytes are framed as this: the members are those of the lists that were read as soon as each has the full word of its series
 pub record IsFramed (c : Collection) (bytes : List ℕ) (f : Framed) : Type 0 where
   pub spelled : Spelled
   pub parts : IsFrameFor c bytes spelled f.settings f.frame (length f.members.items)
   pub can : CanHaveWords c f.settings.layout f.members.items
-  pub own : map (with_own_word c f.settings.layout) f.members.items ≡ all_members (words_of c f.settings.layout) spelled.found.lists.items
+  pub own : map (with_own_word c f.settings.layout) f.members.items ≡ all_members (words_of c f.settings.layout) spelled.found.lists
 
 -- and each has it
 pub record IsWorded (c : Collection) (bytes : List ℕ) (f : Framed) : Type 0 where
   pub spelled : Spelled
   pub parts : IsFrameFor c bytes spelled f.settings f.frame (length f.members.items)
-  pub members : f.members.items ≡ all_members (words_of c f.settings.layout) spelled.found.lists.items
+  pub members : f.members.items ≡ all_members (words_of c f.settings.layout) spelled.found.lists

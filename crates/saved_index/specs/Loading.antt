@@ -57,7 +57,7 @@ pub record IsPutTogether (c : Collection) (bytes : List ℕ) (loaded : LoadedInd
   pub leaf_size : loaded.settings.leaf_size ≡ spelled.fields.leaf_size
   pub is_index : IsIndex loaded.index
   pub parts : IsOfParts loaded.settings.layout.cuts.segments spelled.found.roots.items spelled.found.nodes.items
-      (members_in_lists (words_of c loaded.settings.layout) spelled.found.lists.items) loaded.index
+      (members_in_lists (words_of c loaded.settings.layout) spelled.found.lists) loaded.index
 
 -- And no series of the collection is found that does not fit: only means and codes are wanted.
 pub record IsTested (c : Collection) (bytes : List ℕ) (loaded : LoadedIndex) : Type 0 where

@@ -1,5 +1,5 @@
 -- Members of leaves: how they are made of numbers, and what they count for the series of a number.
-use Rattle.std.specs.Prelude.{◌≡◌, ◌^◌, ◌<◌, ◌≤◌, ℕ, true, ◌-◌, ◌*◌, ◌==◌, not, List, [], length, map, take, drop, flat_map, slice_index_or, Bool, Option, find, if◌then◌else◌}
+use Rattle.std.specs.Prelude.{◌≡◌, ◌^◌, ◌<◌, ◌≤◌, ℕ, true, ◌-◌, ◌*◌, ◌==◌, not, List, [], ◌∷◌, length, map, take, drop, flat_map, slice_index_or, Bool, Option, find, if◌then◌else◌}
 use Rattle.std.specs.List.{All, range_with_len}
 use Rattle.list_totals.specs.Totals.{total, one_if_same}
 use Rattle.series_core.specs.Collection.{Collection}
@@ -9,6 +9,7 @@ use Rattle.isax_word.specs.declared.word.Part.{Part}
 use Rattle.isax_word.specs.FullWord.{full_word}
 use Rattle.isax_word.specs.Word.{word_contains}
 use Rattle.subtree_build.specs.declared.leaf.TreeLeaf.{TreeLeaf}
+use Rattle.subtree_build.specs.Assembly.{AddUp}
 use Rattle.subtree_build.specs.Fits.{WordContainsMembers}
 use Rattle.subtree_build.specs.Index.{leaf_at}
 use Rattle.subtree_build.specs.Members.{with_own_word}
@@ -39,6 +40,21 @@ members_in_lists words lists = map (λ numbers. map (with_word words) numbers) l
 -- the same in a row, list after list
 abbrev pub all_members : List (List ℕ) → List (List ℕ) → List Member
 all_members words lists = flat_map (λ numbers. map (with_word words) numbers) lists
+
+-- the number of a member
+abbrev pub number_of : Member → ℕ
+number_of m = m.number
+
+-- the lists of numbers in a row, of which each has so many
+abbrev pub cut_numbers : List ℕ → List ℕ → List (List ℕ)
+cut_numbers [] numbers = []
+cut_numbers (count ∷ counts) numbers = take count numbers ∷ cut_numbers counts (drop count numbers)
+
+-- so many members in a row, and no more than there are, are those of lists that have so many each
+pub record HoldsLists (counts : List ℕ) (whole : ℕ) (members : List Member) : Type 0 where
+  pub all : AddUp counts whole
+  pub inside : whole ≤ length members
+  pub few : whole < 2 ^ 32
 
 -- a word contains the full word of each member
 abbrev pub ContainsAll : List Part → List Member → Type 0

@@ -12,7 +12,6 @@ ghost use Rattle.subtree_build.specs.Frame.{frame_parts};
 use crate::error::IndexFault;
 use crate::header::read_header;
 use crate::loading::LoadedIndex;
-use crate::members::numbered;
 use crate::reading::{Spelled, read_saved};
 use crate::roots::RootsAt;
 use isax_word::{Layout, Member};
@@ -20,7 +19,7 @@ use outside::NoMemory;
 use search_limits::MOST_TEXT_BYTES;
 use series_core::Rows;
 use std::alloc::Global;
-use subtree_build::{Assembly, Frame, Index, Settings};
+use subtree_build::{Assembly, Frame, Index, Node, Settings};
 
 /// What a text says: the settings of its index, its frame, and its members in a row, which have numbers, and full words later.
 #[derive(Drop)]
@@ -79,17 +78,18 @@ fn settings_of<R: Rows>(bytes: &[u8], rows: &R, read: &Spelled) -> Settings
 fn frame_of(
     alloc: Global,
     layout: &Layout,
-    found: RootsAt,
+    roots: Vec<u32>,
+    nodes: Vec<Node>,
     counts: Vec<u32>,
     members: u32,
 ) -> Result<Frame, NoMemory>
-    requires make { MakeIndex layout.now.cuts.segments found.roots.items found.nodes.items (length counts.items) }
+    requires make { MakeIndex layout.now.cuts.segments roots.items nodes.items (length counts.items) }
     requires few { length counts.items < 2 ^ 32 }
     requires whole { AddUp counts.items members }
-    ensures { IfOk result (λ f. f ≡ frame_parts layout.now.cuts.segments found.roots.items found.nodes.items counts.items members) }
+    ensures { IfOk result (λ f. f ≡ frame_parts layout.now.cuts.segments roots.items nodes.items counts.items members) }
 {
     let segments = layout.cuts.segments();
-    match Frame::of(alloc, segments, found.roots, found.nodes, counts, members) {
+    match Frame::of(alloc, segments, roots, nodes, counts, members) {
         Ok(frame) => Ok(frame),
         Err(Assembly::Parts) => unreachable!(),
         Err(Assembly::NoMemory) => Err(NoMemory),
@@ -111,9 +111,15 @@ pub(crate) fn read_framed<R: Rows>(
         Err(e) => return Err(e),
     };
     let settings = settings_of(bytes, rows, &read);
-    let row = numbered(alloc, rows, &settings.layout, read.found.lists.as_slice())?;
+    let RootsAt {
+        roots,
+        nodes,
+        lists,
+        ..
+    } = read.found;
+    let row = lists.into_members(rows, &settings.layout);
     let many = row.members.len() as u32;
-    let frame = frame_of(alloc, &settings.layout, read.found, row.counts, many)?;
+    let frame = frame_of(alloc, &settings.layout, roots, nodes, row.counts, many)?;
     Ok(Framed {
         settings,
         frame,

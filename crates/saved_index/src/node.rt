@@ -1,5 +1,5 @@
 //! The nodes of a saved index. A node lies no deeper than its word has bits to give, so no bytes make the reader go deeper.
-ghost use Rattle.std.specs.Prelude.{◌≡◌, ◌+◌, ◌<◌, ◌≤◌, ◌⊎◌, length, drop, vec_len, None, IfOk, IfErr, IsErrOf};
+ghost use Rattle.std.specs.Prelude.{◌≡◌, ◌+◌, ◌<◌, ◌≤◌, ◌⊎◌, length, drop, None, IfOk, IfErr, IsErrOf};
 ghost use Rattle.subtree_build.specs.Division.{bits_left};
 ghost use Rattle.subtree_build.specs.Outline.{outline, child_outline};
 ghost use Rattle.saved_index.specs.Parsed.{IsNodeRead, IsPlaceIn};
@@ -7,7 +7,8 @@ ghost use Rattle.saved_index.specs.Reading.{child_in, leaf_in, node_in};
 ghost use Rattle.saved_index.specs.declared.error.IndexFault.TheVariants.{NotIndex, NoMemory};
 
 use crate::error::IndexFault;
-use crate::numbers::{NumberList, number_at, read_numbers};
+use crate::members::NumberRow;
+use crate::numbers::number_at;
 use isax_word::{Word, child};
 use std::alloc::Global;
 use subtree_build::Node;
@@ -28,16 +29,15 @@ pub(crate) struct ChildAt {
 
 /// The leaf at a place, behind its first byte.
 fn read_leaf(
-    alloc: Global,
     bytes: &[u8],
     count: u32,
     at: usize,
-    lists: &mut Vec<NumberList>,
+    lists: &mut NumberRow,
 ) -> Result<NodeAt, IndexFault>
     requires place { (1 ≤ at) × IsPlaceIn bytes.now at }
-    requires room { vec_len lists.old < at }
-    ensures read { IfOk result (λ r. IsNodeRead bytes.now at r.at (leaf_in count (drop at bytes.now)) lists.old.items
-        (outline r.node) lists.new.items) }
+    requires room { length lists.old < at }
+    ensures read { IfOk result (λ r. IsNodeRead bytes.now at r.at (leaf_in count (drop at bytes.now)) lists.old
+        (outline r.node) lists.new) }
     ensures refused { IsErrOf result NotIndex → leaf_in count (drop at bytes.now) ≡ None }
     ensures errors { IfErr result (λ e. (e ≡ NotIndex) ⊎ (e ≡ NoMemory)) }
 {
@@ -45,15 +45,14 @@ fn read_leaf(
         Some(many) if many >= 1 => many,
         _ => return Err(IndexFault::NotIndex),
     };
-    let read = read_numbers(alloc, bytes, at + 4, many, count)?;
     let number = lists.len() as u32;
-    lists.push(NumberList {
-        items: read.numbers,
-    })?;
-    Ok(NodeAt {
-        node: Node::Leaf(number),
-        at: read.at,
-    })
+    match lists.read_list(bytes, at + 4, many, count) {
+        Ok(to) => Ok(NodeAt {
+            node: Node::Leaf(number),
+            at: to,
+        }),
+        Err(e) => Err(e),
+    }
 }
 
 /// The node of a word at a place.
@@ -64,12 +63,12 @@ pub(crate) fn read_node(
     count: u32,
     word: &Word,
     at: usize,
-    lists: &mut Vec<NumberList>,
+    lists: &mut NumberRow,
 ) -> Result<NodeAt, IndexFault>
     requires place { IsPlaceIn bytes.now at }
-    requires room { vec_len lists.old ≤ at }
+    requires room { length lists.old ≤ at }
     ensures read { IfOk result (λ r. IsNodeRead bytes.now at r.at (node_in (bits_left word.now) count word.now (drop at bytes.now))
-        lists.old.items (outline r.node) lists.new.items) }
+        lists.old (outline r.node) lists.new) }
     ensures refused { IsErrOf result NotIndex → node_in (bits_left word.now) count word.now (drop at bytes.now) ≡ None }
     ensures errors { IfErr result (λ e. (e ≡ NotIndex) ⊎ (e ≡ NoMemory)) }
 {
@@ -78,7 +77,7 @@ pub(crate) fn read_node(
     }
     let kind = bytes[at];
     if kind == 0 {
-        return read_leaf(alloc, bytes, count, at + 1, lists);
+        return read_leaf(bytes, count, at + 1, lists);
     }
     if bytes.len() - at < 2 || kind > 3 {
         return Err(IndexFault::NotIndex);
@@ -116,13 +115,13 @@ fn read_child(
     word: &Word,
     there: bool,
     at: usize,
-    lists: &mut Vec<NumberList>,
+    lists: &mut NumberRow,
 ) -> Result<ChildAt, IndexFault>
     requires place { IsPlaceIn bytes.now at }
-    requires room { vec_len lists.old ≤ at }
+    requires room { length lists.old ≤ at }
     ensures read { IfOk result (λ r. IsNodeRead bytes.now at r.at
         (child_in there (node_in (bits_left word.now) count word.now) (drop at bytes.now))
-        lists.old.items (child_outline r.child) lists.new.items) }
+        lists.old (child_outline r.child) lists.new) }
     ensures refused { IsErrOf result NotIndex
         → child_in there (node_in (bits_left word.now) count word.now) (drop at bytes.now) ≡ None }
     ensures errors { IfErr result (λ e. (e ≡ NotIndex) ⊎ (e ≡ NoMemory)) }

@@ -5,8 +5,9 @@ ghost use Rattle.saved_index.specs.Reading.{roots_in};
 ghost use Rattle.saved_index.specs.declared.error.IndexFault.TheVariants.{NotIndex, NoMemory};
 
 use crate::error::IndexFault;
+use crate::members::NumberRow;
 use crate::node::read_node;
-use crate::numbers::{NumberList, number_at};
+use crate::numbers::number_at;
 use isax_word::Word;
 use std::alloc::Global;
 use subtree_build::Node;
@@ -16,7 +17,7 @@ use subtree_build::Node;
 pub(crate) struct RootsAt {
     pub(crate) roots: Vec<u32>,
     pub(crate) nodes: Vec<Node>,
-    pub(crate) lists: Vec<NumberList>,
+    pub(crate) lists: NumberRow,
     pub(crate) at: usize,
 }
 
@@ -34,14 +35,15 @@ pub(crate) fn read_roots(
     requires place { from ≤ length bytes.now }
     requires short { length bytes.now < 2 ^ 32 }
     ensures read { IfOk result (λ r. AreRootsRead bytes.now r.at (roots_in many 0 segments count (drop from bytes.now))
-        r.roots.items r.nodes.items r.lists.items) }
+        r.roots.items r.nodes.items r.lists) }
     ensures refused { IsErrOf result NotIndex → roots_in many 0 segments count (drop from bytes.now) ≡ None }
     ensures errors { IfErr result (λ e. (e ≡ NotIndex) ⊎ (e ≡ NoMemory)) }
 {
+    let room = (count as usize).min((bytes.len() - from) / 4);
     let mut read = RootsAt {
         roots: Vec::new(alloc),
         nodes: Vec::new(alloc),
-        lists: Vec::new(alloc),
+        lists: NumberRow::with_room(alloc, room)?,
         at: from,
     };
     let mut least = 0;

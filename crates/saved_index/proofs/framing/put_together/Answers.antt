@@ -10,7 +10,7 @@ use Rattle.saved_index.proofs.framing.put_together.Goals as goal
 pub returns : goal.returns
 returns g c =
     let w = c.requires in
-    let lists = w.spelled.found.lists.items in
+    let lists = w.spelled.found.lists in
     let framed = c.args.framed in
     let cut = row_cut (words_of (g.R.Rows.collection c.args.rows.now) framed.settings.layout) lists framed.members.items w.members in
     record {

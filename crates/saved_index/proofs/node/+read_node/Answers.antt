@@ -24,8 +24,8 @@ read_node-returns-then-kind-eq0-clause-read t c =
     let bytes = c.args.bytes.now in
     let at = c.args.at in
     let is = leaf_read (bits_left c.args.word.now) c.args.count c.args.word.now bytes at (omega arith) (omega arith) in
-    IfOk-weaker _ _ _ (λ (r : NodeAt) was. node_from bytes (at + 1) at r.at _ _ c.args.lists.now.items (outline r.node)
-    c.read_leaf.new.lists.items (omega arith) is was) c.read_leaf.ensures.read
+    IfOk-weaker _ _ _ (λ (r : NodeAt) was. node_from bytes (at + 1) at r.at _ _ c.args.lists.now (outline r.node)
+    c.read_leaf.new.lists (omega arith) is was) c.read_leaf.ensures.read
 
 pub read_node-returns-then-kind-eq0-clause-refused : goal.read_node-returns-then-kind-eq0-clause-refused
 read_node-returns-then-kind-eq0-clause-refused t c = λ refused.
@@ -89,7 +89,7 @@ read_node-read_child-requires-2 t c =
       omega (arith, fewer, ap bits_left c.child-high_word.ensures, c.decreases),
       (
         (read.within, c.requires.place.1),
-        omega (arith, read.fewer, c.requires.room, c.args.lists.now.ok.0, c.read_child.new.lists.ok.0),
+        omega (arith, read.fewer, c.requires.room),
       ),
     )
 
@@ -114,10 +114,10 @@ read_node-returns-clause-read t c =
     let low = c.in-Ok.low in
     let high = c.in-Ok-read_child.high in
     let P : Tree ℕ → Type 0 = λ o. IsNodeRead bytes at high.at (node_in (bits_left word) count word (drop at bytes))
-    c.args.lists.now.items o c.read_child-2.new.lists.items in
+    c.args.lists.now o c.read_child-2.new.lists in
     subst P (sym (outline_of_split j low.child high.child))
     (split_is_read bytes count word c.child-low_word.result c.child-high_word.result at j low.at high.at
-    c.args.lists.now.items c.read_child.new.lists.items c.read_child-2.new.lists.items (child_outline low.child)
+    c.args.lists.now c.read_child.new.lists c.read_child-2.new.lists (child_outline low.child)
     (child_outline high.child)
     (split_read c.args.count word bytes at j (omega arith) (omega arith) (omega arith) c.from-segment.ensures used divisible)
     c.child-low_word.ensures c.child-high_word.ensures c.in-Ok.ensures.read c.in-Ok-read_child.ensures.read)

@@ -7,7 +7,7 @@ use Rattle.saved_index.proofs.roots.read_roots.Given as goal
 abbrev pub invariant-loop-i : goal.invariant-loop-i
 invariant-loop-i l = record {
   told : AreRootsTold (roots_in l.many 0 l.segments l.count (drop l.from l.bytes)) l.read.roots.items l.read.nodes.items
-      l.read.lists.items (l.many - l._i) l.least l.segments l.count (drop l.read.at l.bytes);
+      l.read.lists (l.many - l._i) l.least l.segments l.count (drop l.read.at l.bytes);
   within : l.read.at ≤ length l.bytes;
-  fewer : length l.read.lists.items ≤ l.read.at;
+  fewer : length l.read.lists ≤ l.read.at;
 }
