@@ -68,7 +68,7 @@ pub(crate) fn contained_side_by_side<H: Threads + Sync>(
         return contained_in_turn(index, from, to);
     }
     let rest = workers - 1;
-    let mid = part_way(from, to, 1, workers);
+    let mid = part_way(from, to, workers);
     let front = || -> bool
         requires { (from ≤ mid) × (mid ≤ length index.now.leaves)
             × All (λ x. All (λ m. length m.full ≡ index.now.segments) x.members) index.now.leaves }
@@ -83,15 +83,13 @@ pub(crate) fn contained_side_by_side<H: Threads + Sync>(
     low && high
 }
 
-/// The number that lies so many parts of `parts` of the way from one number to another.
-pub(crate) fn part_way(from: u32, to: u32, part: u32, parts: u32) -> u32
-    requires order { from ≤ to }
-    requires part { part ≤ parts }
+/// The number that lies one part of `parts` of the way from one number to another.
+fn part_way(from: u32, to: u32, parts: u32) -> u32
+    requires { from ≤ to }
     ensures low { from ≤ result }
     ensures high { result ≤ to }
 {
-    let way = u64::from(to - from) * u64::from(part) / u64::from(parts.max(1));
-    from + way as u32
+    from + (to - from) / parts.max(1)
 }
 
 /// What a member of a leaf of this word adds to the mark of its series.
